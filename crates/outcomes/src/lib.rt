@@ -1,0 +1,1 @@
+// What it means that a contract determines its outcome. No code: the definition stands in specs/Outcome.antt.
