@@ -1,0 +1,57 @@
+-- `digits::put_digits` meets its contract: each turn sets the last digit that is left, and what is left then makes the same line.
+-- Assumes nothing.
+use native.Mathlib.Omega.{arith}
+use mathlib.Core.Path.{refl}
+use borrow.Author.Needs.{needs}
+use Rattle.digits.proofs.Loops.{Spelling, spelling-turn, spelling-done}
+use Rattle.digits.proofs.put_digits.Statement.{statement}
+use Rattle.digits.proofs.put_digits.Tie as tie
+
+abbrev Inv-loop : tie.InvT-loop
+Inv-loop part₀ k n i₀ rest₀ part i rest = Spelling part₀ k n part i rest
+
+abbrev μ-loop : tie.MeasureT-loop
+μ-loop part₀ k n i₀ rest₀ part i rest = i
+
+loop-holds : tie.Need-loop-holds Inv-loop μ-loop
+loop-holds c = record { long = refl; inside = search needs; left = refl }
+
+sub-i : tie.Need-sub-i Inv-loop μ-loop
+sub-i c = search needs
+
+cast-part : tie.Need-cast-part Inv-loop μ-loop
+cast-part c = search needs
+
+add-part : tie.Need-add-part Inv-loop μ-loop
+add-part c = search needs
+
+slice-write-part : tie.Need-slice-write-part Inv-loop μ-loop
+slice-write-part c = omega arith
+
+loop-less : tie.Need-loop-less Inv-loop μ-loop
+loop-less c = search needs
+
+loop-again : tie.Need-loop-again Inv-loop μ-loop
+loop-again c = spelling-turn _ _ _ _ _ _ (c .before .loop .inv) (c .loop-test .taken)
+
+same-length : tie.Need-same-length Inv-loop μ-loop
+same-length c = c .before .loop .inv .long
+
+returns : tie.Need-returns Inv-loop μ-loop
+returns c = spelling-done _ _ _ _ _ _ (c .before .loop .inv) (c .loop-test .left)
+
+pub put-digits-spec : {M : Type 1} → statement M
+put-digits-spec =
+    tie.close
+    (tie.spec
+    Inv-loop
+    μ-loop
+    loop-holds
+    sub-i
+    cast-part
+    add-part
+    slice-write-part
+    loop-less
+    loop-again
+    same-length
+    returns)

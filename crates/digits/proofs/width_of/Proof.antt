@@ -1,0 +1,35 @@
+-- `digits::width_of` meets its contract: the digits taken off and those of what is left are those of n, and the greater of two numbers is returned.
+-- Assumes nothing.
+use native.Mathlib.Omega.{arith}
+use borrow.Author.Needs.{needs}
+use Rattle.digits.proofs.Loops.{Counting, counting-start, counting-turn, counting-done}
+use Rattle.digits.proofs.width_of.Statement.{statement}
+use Rattle.digits.proofs.width_of.Tie as tie
+
+abbrev Inv-loop : tie.InvT-loop
+Inv-loop least n k₀ rest₀ k rest = Counting n k rest
+
+abbrev μ-loop : tie.MeasureT-loop
+μ-loop least n k₀ rest₀ k rest = rest
+
+loop-holds : tie.Need-loop-holds Inv-loop μ-loop
+loop-holds c = counting-start (c .args .n) (search needs)
+
+add-k : tie.Need-add-k Inv-loop μ-loop
+add-k c = omega arith
+
+loop-less : tie.Need-loop-less Inv-loop μ-loop
+loop-less c = omega arith
+
+loop-again : tie.Need-loop-again Inv-loop μ-loop
+loop-again c = counting-turn _ _ _ (c .before .loop .inv) (omega arith)
+
+returns : tie.Need-returns Inv-loop μ-loop
+returns c = let w = counting-done _ _ _ (c .before .before .loop .inv) (omega arith) in omega arith
+
+returns-2 : tie.Need-returns-2 Inv-loop μ-loop
+returns-2 c = let w = counting-done _ _ _ (c .before .before .loop .inv) (omega arith) in omega arith
+
+pub width-of-spec : {M : Type 1} → statement M
+width-of-spec =
+    tie.close (tie.spec Inv-loop μ-loop loop-holds add-k loop-less loop-again returns returns-2)

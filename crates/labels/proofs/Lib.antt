@@ -1,0 +1,5 @@
+pub mod Fields
+pub mod Earlier
+pub mod Found
+pub mod Statements
+pub mod Determined

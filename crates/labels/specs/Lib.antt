@@ -1,0 +1,5 @@
+pub mod Label
+pub mod Sections
+pub mod LabelLaws
+pub mod BoundLaws
+pub mod Statements

@@ -1,0 +1,77 @@
+-- What holds of labels and counts beyond one call: the statements, in order. Proofs: proofs/Statements.antt.
+-- Assumes nothing.
+use mathlib.Core.Path.{_≡_}
+use mathlib.Core.List.{List}
+use Prim.Native.Nat.{ℕ, _*_, _-_, _≤_, _<_}
+use Rattle.tally.specs.Before.{before}
+use Rattle.labels.specs.Label.{hoursIn, minutesIn, secondsIn, framesIn, Strict, LabelOf}
+use Rattle.labels.specs.Sections.{labelNumber, fieldsAt, isAllowed, sectionsOf}
+
+-- each number is that of a strict label: its fields
+abbrev pub HasFields : Type 0
+HasFields =
+    (timebase number : ℕ) → 0 < timebase
+    → Strict timebase (fieldsAt timebase number) × (labelNumber timebase (fieldsAt timebase number) ≡ number)
+
+-- and of no other: a strict label's number gives its fields back
+abbrev pub OneNumber : Type 0
+OneNumber =
+    (timebase : ℕ) (fields : List ℕ) → Strict timebase fields → fieldsAt timebase (labelNumber timebase fields) ≡ fields
+
+-- the count of an allowed label is the number of allowed labels that come before it
+abbrev pub CountsEarlier : Type 0
+CountsEarlier =
+    (timebase D n : ℕ) (fields : List ℕ) → D < timebase → LabelOf timebase D n fields
+    → n ≡ before (isAllowed timebase D) (labelNumber timebase fields)
+
+-- each count has an allowed label, its sections; hours run on past 23
+abbrev pub HasLabel : Type 0
+HasLabel = (timebase D n : ℕ) → D < timebase → LabelOf timebase D n (sectionsOf timebase D n)
+
+-- and has no other
+abbrev pub OneLabel : Type 0
+OneLabel =
+    (timebase D n : ℕ) (a b : List ℕ) → D < timebase → LabelOf timebase D n a → LabelOf timebase D n b → a ≡ b
+
+-- hours are at most n, and the other fields have at most two digits
+pub record Small (n : ℕ) (fields : List ℕ) : Type 0 where
+  pub hours : hoursIn fields ≤ n
+  pub minutes : minutesIn fields < 100
+  pub seconds : secondsIn fields < 100
+  pub frames : framesIn fields < 100
+
+-- a label's hours are at most its count, and its other fields have at most two digits
+abbrev pub SmallFields : Type 0
+SmallFields =
+    (timebase D n : ℕ) (fields : List ℕ) → timebase ≤ 60 → D < timebase → LabelOf timebase D n fields → Small n fields
+
+-- ---- a day
+-- an allowed label of the day, hours under 24, whose count is n
+pub record DayLabel (timebase D n : ℕ) (fields : List ℕ) : Type 0 where
+  pub hours : hoursIn fields < 24
+  pub label : LabelOf timebase D n fields
+
+-- the allowed labels of a day have the counts 0 to whole - 1, once each, and each has its count of allowed labels before it
+pub record Filled (timebase D whole : ℕ) : Type 0 where
+  pub under : (n : ℕ) (fields : List ℕ) → DayLabel timebase D n fields → n < whole
+  pub had : (n : ℕ) → n < whole → DayLabel timebase D n (sectionsOf timebase D n)
+  pub once : (n : ℕ) (a b : List ℕ) → DayLabel timebase D n a → DayLabel timebase D n b → a ≡ b
+  pub earlier :
+      (n : ℕ) (fields : List ℕ) → DayLabel timebase D n fields
+      → n ≡ before (isAllowed timebase D) (labelNumber timebase fields)
+
+-- 24 hours of the timebase, less D for each of the 1,440 minutes but the 144 that are multiples of 10
+abbrev pub dayCount : (timebase D : ℕ) → ℕ
+dayCount timebase D = 86_400 * timebase - D * (1_440 - 144)
+
+-- a day's allowed labels fill 0 to that many less one
+abbrev pub FillDay : Type 0
+FillDay = (timebase D : ℕ) → D < timebase → Filled timebase D (dayCount timebase D)
+
+-- at 29.97 drop: 0 to 2,589,407
+abbrev pub FillDay30 : Type 0
+FillDay30 = Filled 30 2 2_589_408
+
+-- at 59.94 drop: 0 to 5,178,815
+abbrev pub FillDay60 : Type 0
+FillDay60 = Filled 60 4 5_178_816

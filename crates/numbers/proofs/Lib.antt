@@ -1,0 +1,5 @@
+pub mod Machine
+pub mod Tests
+pub mod Closest
+pub mod Statements
+pub mod Determined

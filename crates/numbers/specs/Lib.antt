@@ -1,0 +1,15 @@
+pub mod Sign
+pub mod SignLaws
+pub mod OrderLaws
+pub mod DistanceLaws
+pub mod ProductLaws
+pub mod Nearest
+pub mod NearestLaws
+pub mod NearestSignedLaws
+pub mod Truncate
+pub mod TruncateLaws
+pub mod Floor
+pub mod FloorLaws
+pub mod Lowest
+pub mod LowestLaws
+pub mod Statements

@@ -1,0 +1,33 @@
+-- Laws of a sign and a magnitude: both are read back, and a product goes by them.
+-- Assumes nothing.
+use mathlib.Core.Path.{_≡_, refl, sym, _∙_, ap}
+use mathlib.Core.Bool.{Bool, true, false}
+use Prim.Native.Nat.{ℕ, zero, suc, _*_, _<_}
+use native.Mathlib.Nat.{zero-mul}
+use native.Mathlib.Omega.{arith}
+use lib.IntN.{ℤ, pos, negsuc, negℤ, natAbs, _*ℤ_, negℤ-negℤ}
+use Rattle.numbers.specs.Sign.{isNeg, signed}
+
+pub abs-neg : (z : ℤ) → natAbs (negℤ z) ≡ natAbs z
+abs-neg (pos zero) = refl
+abs-neg (pos (suc m)) = refl
+abs-neg (negsuc m) = refl
+
+pub abs-signed : (minus : Bool) (m : ℕ) → natAbs (signed minus m) ≡ m
+abs-signed false m = refl
+abs-signed true m = abs-neg (pos m)
+
+-- a number is its sign and magnitude
+pub signed-back : (z : ℤ) → signed (isNeg z) (natAbs z) ≡ z
+signed-back (pos m) = refl
+signed-back (negsuc m) = refl
+
+pub isNeg-neg : (m : ℕ) → 0 < m → isNeg (negℤ (pos m)) ≡ true
+isNeg-neg zero h = absurd (omega arith)
+isNeg-neg (suc m) h = refl
+
+-- a negation's multiple is the multiple's negation
+pub neg-mul : (z : ℤ) (n : ℕ) → negℤ z *ℤ pos n ≡ negℤ (z *ℤ pos n)
+neg-mul (pos zero) n = ap pos (zero-mul n) ∙ sym (ap (λ (m : ℕ). negℤ (pos m)) (zero-mul n))
+neg-mul (pos (suc m)) n = refl
+neg-mul (negsuc m) n = sym (negℤ-negℤ (pos (suc m * n)))

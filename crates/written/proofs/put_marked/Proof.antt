@@ -1,0 +1,51 @@
+-- `written::put_marked` meets its contract: the digits, lent the rest of the part, stand right behind the mark.
+-- Assumes nothing.
+use native.Mathlib.Omega.{arith}
+use mathlib.Core.Path.{refl}
+use mathlib.Core.List.{[], _∷_}
+use borrow.Author.Needs.{needs}
+use Rattle.lent.proofs.Laws.{front-lent}
+use Rattle.digits.specs.Digits.{digitsOf}
+use Rattle.digits.proofs.Values.{digits-length}
+use Rattle.written.proofs.put_marked.Statement.{statement}
+use Rattle.written.proofs.put_marked.Tie as tie
+
+put-byte-requires : tie.Need-put-byte-requires
+put-byte-requires c κs = search needs
+
+sub-put-digits : tie.Need-sub-put-digits
+sub-put-digits c = search needs
+
+part-put-digits-start : tie.Need-part-put-digits-start
+part-put-digits-start c = search needs
+
+part-put-digits-end : tie.Need-part-put-digits-end
+part-put-digits-end c = search needs
+
+put-digits-requires : tie.Need-put-digits-requires
+put-digits-requires c κs = search needs
+
+same-length : tie.Need-same-length
+same-length c = search needs
+
+returns : tie.Need-returns
+returns c =
+    let start = c .before .before .before .before .before .before .before .before .before in
+    let a = start .args in
+    front-lent (a .part .now) _ _ (a .mark ∷ []) (digitsOf (a .k) (a .n)) 1
+    (c .before .before .before .before .before .before .put-byte .ensures)
+    refl
+    (omega (arith, start .pre, digits-length (a .k) (a .n)))
+    (c .before .before .put-digits .ensures)
+
+pub put-marked-spec : {M : Type 1} → statement M
+put-marked-spec =
+    tie.close
+    (tie.spec
+    put-byte-requires
+    sub-put-digits
+    part-put-digits-start
+    part-put-digits-end
+    put-digits-requires
+    same-length
+    returns)
