@@ -1,0 +1,5 @@
+pub mod Film
+pub mod Footage
+pub mod FormatLaws
+pub mod FootageLaws
+pub mod Statements

@@ -1,0 +1,115 @@
+// The four film formats by number, and footage: the count of feet and frames, and the feet and frames of a count.
+// A number that is no film format is refused 6.
+use answers::Refusal;
+ghost use mathlib.Core.Path.{_≡_};
+ghost use Prim.Native.Nat.{_≤_, _<_, _^_};
+ghost use Rattle.film.specs.Film.{formatNumber, perfsPerFrame, perfsPerFoot, allowsPerfField, formatAt};
+ghost use Rattle.film.specs.Footage.{footageCount, footageOf};
+
+// vtc's film formats: 4-perf, 3-perf and 2-perf on 35 mm, and 16 mm.
+pub enum FilmFormat {
+    FF35mm4perf,
+    FF35mm3perf,
+    FF35mm2perf,
+    FF16mm,
+}
+
+// The film format of a number, or why there is none.
+pub enum Filmed {
+    Format(FilmFormat),
+    Refused(Refusal),
+}
+
+// What is written of a count: whole feet, frames of the foot begun, and the marker that 3-perf writes.
+pub struct Footage {
+    pub feet: u64,
+    pub frames: u64,
+    pub perf: u64,
+}
+
+impl FilmFormat {
+    // The document's number of a format: 1 to 4.
+    pub fn number(self) -> u64
+        ensures answer { λ r. ⌜ r ≡ formatNumber self ⌝ }
+    {
+        match self {
+            FilmFormat::FF35mm4perf => 1,
+            FilmFormat::FF35mm3perf => 2,
+            FilmFormat::FF35mm2perf => 3,
+            FilmFormat::FF16mm => 4,
+        }
+    }
+
+    // The perfs a frame.
+    pub fn perfs_per_frame(self) -> u64
+        ensures answer { λ r. ⌜ r ≡ perfsPerFrame self ⌝ }
+    {
+        match self {
+            FilmFormat::FF35mm4perf => 4,
+            FilmFormat::FF35mm3perf => 3,
+            FilmFormat::FF35mm2perf => 2,
+            FilmFormat::FF16mm => 1,
+        }
+    }
+
+    // The perfs a (logical) foot.
+    pub fn perfs_per_foot(self) -> u64
+        ensures answer { λ r. ⌜ r ≡ perfsPerFoot self ⌝ }
+    {
+        match self {
+            FilmFormat::FF35mm4perf => 64,
+            FilmFormat::FF35mm3perf => 64,
+            FilmFormat::FF35mm2perf => 64,
+            FilmFormat::FF16mm => 20,
+        }
+    }
+
+    // Whether a footage of this format may have a perf field: where a foot is no whole number of frames.
+    pub fn allows_perf_field(self) -> bool
+        ensures answer { λ r. ⌜ r ≡ allowsPerfField self ⌝ }
+    {
+        self.perfs_per_foot() % self.perfs_per_frame() != 0
+    }
+}
+
+// The film format of a number. Refuses 6: no such film format.
+pub fn format_at(no: u64) -> Filmed
+    ensures answer { λ r. ⌜ r ≡ formatAt no ⌝ }
+{
+    match no {
+        1 => Filmed::Format(FilmFormat::FF35mm4perf),
+        2 => Filmed::Format(FilmFormat::FF35mm3perf),
+        3 => Filmed::Format(FilmFormat::FF35mm2perf),
+        4 => Filmed::Format(FilmFormat::FF16mm),
+        _ => Filmed::Refused(answers::NO_SUCH),
+    }
+}
+
+// The count of feet and frames that were read. Asks fields of at most 9 digits: only crates above call it.
+pub fn footage_count(format: FilmFormat, feet: u64, frames: u64) -> u64
+    requires fields { ⌜ (feet < 10 ^ 9) × (frames < 10 ^ 9) ⌝ }
+    ensures answer { λ r. ⌜ r ≡ footageCount format feet frames ⌝ }
+{
+    match format {
+        FilmFormat::FF35mm4perf => 16 * feet + frames,
+        FilmFormat::FF35mm3perf => 64 * (feet / 3) + 21 * (feet % 3) + frames,
+        FilmFormat::FF35mm2perf => 32 * feet + frames,
+        FilmFormat::FF16mm => 20 * feet + frames,
+    }
+}
+
+// The feet and frames that are written of an absolute count. Asks a count within its bounds: only crates above call it.
+pub fn feet_and_frames(format: FilmFormat, f: u64) -> Footage
+    requires count { ⌜ f ≤ 400000000 ⌝ }
+    ensures answer { λ r. ⌜ r ≡ footageOf format f ⌝ }
+{
+    let per_frame = format.perfs_per_frame();
+    let per_foot = format.perfs_per_foot();
+    let last_perf = f * per_frame + per_frame - 1;
+    let feet = last_perf / per_foot;
+    Footage {
+        feet,
+        frames: last_perf % per_foot / per_frame,
+        perf: feet % 3,
+    }
+}
