@@ -14,7 +14,7 @@ use borrow.Author.Tests.{lt-ltb, le-ltb, ltb-true, ltb-false}
 use Rattle.lent.specs.Line.{front}
 use Rattle.lent.proofs.Laws.{front-nil, front-snoc}
 use Rattle.digits.specs.declared.Run.{Run}
-use Rattle.digits.specs.Digits.{isDigit, valueFrom, valueOf, digitFirst, span, leading, runOf, digitsOf, width}
+use Rattle.digits.specs.Digits.{isDigit, valueFrom, fieldValue, digitFirst, span, leading, runOf, digitsOf, width}
 use Rattle.digits.proofs.Values.{digit-bounds, digits-length}
 use Rattle.digits.proofs.Width.{width-small, width-large, width-at-most, width-some}
 use Rattle.digits.proofs.Runs.{span-cons, span-no}
@@ -79,7 +79,7 @@ pub record Taking (s : List ℕ) (at i v n : ℕ) : Type 0 where
   pub place : i ≡ at + n
   pub below : v < 10 ^ min n 9
   pub count : span (drop at s) ≡ n + span (drop i s)
-  pub value : valueOf (take 9 (leading (drop at s))) ≡ valueFrom v (take (9 - n) (leading (drop i s)))
+  pub value : fieldValue (leading (drop at s)) ≡ valueFrom v (take (9 - n) (leading (drop i s)))
 
 pub taking-start : (s : List ℕ) (at : ℕ) → Taking s at at 0 0
 taking-start s at = record { place = omega arith; below = omega arith; count = omega arith; value = refl }

@@ -9,7 +9,7 @@ use native.Mathlib.Nat.{pow-le-pow-right, min-le-left}
 use lib.ListN.{length, take, drop, length-take, take-append-drop}
 use lib.Seq.{take-at, drop-at, take-all, take-nil}
 use Rattle.digits.specs.declared.Run.{Run}
-use Rattle.digits.specs.Digits.{isDigit, allDigits, IsField, valueOf, digitFirst, span, leading, runOf}
+use Rattle.digits.specs.Digits.{isDigit, allDigits, IsField, valueOf, fieldValue, digitFirst, span, leading, runOf}
 use Rattle.digits.proofs.Values.{all-cons, all-head, all-tail, all-take, value-below}
 
 -- ---- a byte at a time
@@ -21,6 +21,20 @@ pub span-no : (l : List ℕ) → digitFirst l ≡ false → span l ≡ 0
 unfolding span
 span-no [] e = refl
 span-no (b ∷ l) e = rw e
+
+-- ---- what a field is read as
+-- with nine digits or fewer, its value
+pub field-value : (d : List ℕ) → length d ≤ 9 → fieldValue d ≡ valueOf d
+field-value d h = ap valueOf (take-all 9 d h)
+
+-- and always below a thousand million
+pub field-below : (d : List ℕ) → allDigits d ≡ true → fieldValue d < 10 ^ 9
+field-below d a =
+    omega (
+      arith,
+      value-below (take 9 d) (all-take 9 d a),
+      pow-le-pow-right {n = 10} (omega arith) {i = length (take 9 d)} {j = 9} (omega (arith, length-take 9 d)),
+    )
 
 -- ---- digits, and then a byte that is none, or nothing
 pub span-run : (d r : List ℕ) → allDigits d ≡ true → digitFirst r ≡ false → span (d ++ r) ≡ length d
@@ -34,12 +48,12 @@ module _ (d r : List ℕ) (a : allDigits d ≡ true) (f : digitFirst r ≡ false
   pub after-run : drop (span (d ++ r)) (d ++ r) ≡ r
   after-run = drop-at d r (span (d ++ r)) (sym (span-run d r a f))
 
-  pub run-of : runOf (d ++ r) ≡ record { value = valueOf (take 9 d); count = length d }
+  pub run-of : runOf (d ++ r) ≡ record { value = fieldValue d; count = length d }
   unfolding runOf
   run-of = rw (leading-run, span-run d r a f)
 
   pub run-nine : length d ≤ 9 → runOf (d ++ r) ≡ record { value = valueOf d; count = length d }
-  run-nine h = run-of ∙ rw (take-all 9 d h)
+  run-nine h = run-of ∙ rw (field-value d h)
 
 -- ---- and back: every text is its leading digits and a rest that does not begin with one
 leading-all-by : (b : ℕ) (l : List ℕ) (t : Bool) → isDigit b ≡ t → allDigits (leading l) ≡ true → allDigits (take (cond t (suc (span l)) 0) (b ∷ l)) ≡ true
@@ -88,10 +102,4 @@ field-first (b ∷ d) r f = all-head b d (f .digits)
 -- a run's value has nine digits at most
 pub run-below : (l : List ℕ) → runOf l .value < 10 ^ 9
 unfolding runOf
-run-below l =
-    let d = take 9 (leading l) in
-    omega (
-      arith,
-      value-below d (all-take 9 (leading l) (leading-all l)),
-      pow-le-pow-right {n = 10} (omega arith) {i = length d} {j = 9} (omega (arith, length-take 9 (leading l))),
-    )
+run-below l = field-below (leading l) (leading-all l)

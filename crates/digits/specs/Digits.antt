@@ -32,6 +32,10 @@ valueFrom v (b ∷ l) = valueFrom (v * 10 + (b - 48)) l
 abbrev pub valueOf : List ℕ → ℕ
 valueOf l = valueFrom 0 l
 
+-- what a field is read as: the value of at most its first nine digits (over nine are refused by whoever reads it)
+abbrev pub fieldValue : List ℕ → ℕ
+fieldValue d = valueOf (take 9 d)
+
 -- ---- a run of digits in a text
 -- a digit stands in front
 abbrev pub digitFirst : List ℕ → Bool
@@ -47,9 +51,9 @@ span (b ∷ l) = cond (isDigit b) (suc (span l)) 0
 abbrev pub leading : List ℕ → List ℕ
 leading l = take (span l) l
 
--- the run in front: the value of at most its first nine digits, and how many digits it has (over nine is refused by whoever reads it)
+-- the run in front: what it is read as, and how many digits it has
 unfoldable pub runOf : List ℕ → Run
-runOf l = record { value = valueOf (take 9 (leading l)); count = span l }
+runOf l = record { value = fieldValue (leading l); count = span l }
 
 -- ---- a number in digits
 -- the last k decimal digits of n, as bytes

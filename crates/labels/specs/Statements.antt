@@ -7,13 +7,13 @@ use Rattle.tally.specs.Before.{before}
 use Rattle.labels.specs.Label.{hoursIn, minutesIn, secondsIn, framesIn, Strict, LabelOf}
 use Rattle.labels.specs.Sections.{labelNumber, fieldsAt, isAllowed, sectionsOf}
 
--- each number is that of a strict label: its fields
+-- each number is that of a strict label
 abbrev pub HasFields : Type 0
 HasFields =
     (timebase number : ℕ) → 0 < timebase
     → Strict timebase (fieldsAt timebase number) × (labelNumber timebase (fieldsAt timebase number) ≡ number)
 
--- and of no other: a strict label's number gives its fields back
+-- and of one only: a strict label's number gives its fields back
 abbrev pub OneNumber : Type 0
 OneNumber =
     (timebase : ℕ) (fields : List ℕ) → Strict timebase fields → fieldsAt timebase (labelNumber timebase fields) ≡ fields
@@ -28,7 +28,7 @@ CountsEarlier =
 abbrev pub HasLabel : Type 0
 HasLabel = (timebase D n : ℕ) → D < timebase → LabelOf timebase D n (sectionsOf timebase D n)
 
--- and has no other
+-- and no count has two
 abbrev pub OneLabel : Type 0
 OneLabel =
     (timebase D n : ℕ) (a b : List ℕ) → D < timebase → LabelOf timebase D n a → LabelOf timebase D n b → a ≡ b
@@ -64,14 +64,14 @@ pub record Filled (timebase D whole : ℕ) : Type 0 where
 abbrev pub dayCount : (timebase D : ℕ) → ℕ
 dayCount timebase D = 86_400 * timebase - D * (1_440 - 144)
 
--- a day's allowed labels fill 0 to that many less one
+-- the allowed labels of a day have the counts 0 to dayCount - 1, once each
 abbrev pub FillDay : Type 0
 FillDay = (timebase D : ℕ) → D < timebase → Filled timebase D (dayCount timebase D)
 
--- at 29.97 drop: 0 to 2,589,407
+-- at 29.97 drop the allowed labels of a day have the counts 0 to 2,589,407, once each
 abbrev pub FillDay30 : Type 0
 FillDay30 = Filled 30 2 2_589_408
 
--- at 59.94 drop: 0 to 5,178,815
+-- at 59.94 drop the allowed labels of a day have the counts 0 to 5,178,815, once each
 abbrev pub FillDay60 : Type 0
 FillDay60 = Filled 60 4 5_178_816

@@ -1,6 +1,6 @@
 -- Each public function's contract allows one outcome: two that meet its equation are equal, and a fraction has one form in lowest terms.
 -- Assumes nothing.
-use mathlib.Core.Path.{_≡_, sym, ap, ap₂, _∙_}
+use mathlib.Core.Path.{sym, ap, ap₂, _∙_}
 use Rattle.outcomes.specs.Outcome.{Determined}
 use Rattle.numbers.specs.LowestLaws.{num-one, den-one}
 use Rattle.numbers.proofs.below_zero as below-zero

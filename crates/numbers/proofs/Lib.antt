@@ -1,4 +1,5 @@
 pub mod Machine
+pub mod Flipped
 pub mod Tests
 pub mod Closest
 pub mod Statements

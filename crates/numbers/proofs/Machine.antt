@@ -5,18 +5,24 @@ use mathlib.Core.Bool.{true, false}
 use Prim.Native.Nat.{ℕ, zero, suc, _≤_, _<_, _^_}
 use native.Mathlib.Nat.{lt-of-le-of-lt, le-suc}
 use native.Mathlib.Omega.{arith}
-use borrow.Author.Tests.{ltb-true}
+use borrow.Author.Tests.{ltb-true, le-ltb}
 use lib.Dec.{T}
 use lib.IntN.{ℤ, pos, negsuc, negℤ, natAbs, _+ℤ_, _-ℤ_, +ℤ-one, +ℤ-idl}
 use lib.Signed.{mag, ltZ, quotZ, remZ, mag-rem}
 use mir.Syntax.{w64}
 use mir.Val.{SFits, toZ, ofZ}
 use mir.Facts.{toZ-ofZ}
+use Rattle.numbers.specs.Sign.{isNeg}
 use Rattle.numbers.specs.TruncateLaws.{quot-abs}
 
 -- the machine's reading of z is z
 pub read : (z : ℤ) → SFits w64 z → toZ w64 (ofZ w64 z) ≡ z
 read z f = toZ-ofZ f
+
+-- the test against 0 is the sign
+pub test-is : (z : ℤ) → ltZ z (pos 0) ≡ isNeg z
+test-is (pos n) = le-ltb n 0 (omega arith)
+test-is (negsuc n) = refl
 
 -- a number that the test finds below zero is a negsuc
 pub neg-is : (z : ℤ) → ltZ z (pos 0) ≡ true → z ≡ negsuc (mag z)
@@ -51,6 +57,15 @@ neg-fits (suc n) h = record { sfits = lt-of-le-of-lt (le-suc n) h }
 
 pub pos-fits : (n : ℕ) → n < 2 ^ 63 → SFits w64 (pos n)
 pos-fits n h = record { sfits = h }
+
+-- what the test against 0 tells, on either side
+pub zero-read : (z : ℤ) → SFits w64 z → ofZ w64 z ≡ 0 → z ≡ pos 0
+zero-read z f e = sym (read z f) ∙ ap (toZ w64) e
+
+pub nonzero-read : (z : ℤ) → (ofZ w64 z ≡ 0 → ⊥) → 0 < natAbs z
+nonzero-read (pos zero) h = absurd (h refl)
+nonzero-read (pos (suc n)) h = omega arith
+nonzero-read (negsuc n) h = omega arith
 
 -- any operation of two numbers that fit
 module _ (f : ℤ → ℤ → ℤ) (x y : ℤ) (fx : SFits w64 x) (fy : SFits w64 y) (fits : SFits w64 (f x y)) where

@@ -5,7 +5,6 @@ use Prim.Native.Nat.{ℕ, suc, _*_, _<_}
 use native.Mathlib.Nat.{le-antisymm}
 use native.Mathlib.Omega.{arith}
 use lib.IntN.{ℤ, pos, negsuc, negℤ, natAbs, negℤ-negℤ}
-use lib.Signed.{quotZ, remZ}
 use Rattle.numbers.specs.OrderLaws.{le-both}
 use Rattle.numbers.specs.DistanceLaws.{far, far-across}
 use Rattle.numbers.specs.Nearest.{Nearest, nearestN}

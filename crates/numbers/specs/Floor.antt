@@ -1,6 +1,6 @@
 -- Division that floors: what it is, and the function that computes it. Nearest division is in Nearest.antt, truncated in Truncate.antt.
 -- Assumes nothing.
-use Prim.Native.Nat.{ℕ, suc, _/_}
+use Prim.Native.Nat.{ℕ, _/_}
 use lib.IntN.{ℤ, pos, negsuc, negℤ, natAbs, _*ℤ_}
 use lib.Signed.{_≤ℤ_}
 

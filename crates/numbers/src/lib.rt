@@ -1,7 +1,7 @@
 // Signed numbers by sign and magnitude, exact sums and products, nearest, truncated and floored division, and lowest terms.
 ghost use mathlib.Core.Path.{_≡_};
 ghost use Prim.Native.Nat.{_+_, _*_, _^_, _<_};
-ghost use lib.IntN.{pos, natAbs, _+ℤ_, _-ℤ_, _*ℤ_};
+ghost use lib.IntN.{natAbs, _+ℤ_, _-ℤ_, _*ℤ_};
 ghost use lib.Signed.{quotZ, remZ};
 ghost use Rattle.numbers.specs.Sign.{isNeg, signed};
 ghost use Rattle.numbers.specs.Nearest.{nearestN};
@@ -94,10 +94,14 @@ pub fn floor(x: i64, d: i64) -> i64
 {
     let m = magnitude(x);
     let n = magnitude(d);
+    let q = m / n;
+    let r = m % n;
     if below_zero(x) == below_zero(d) {
-        with_sign(false, m / n)
+        with_sign(false, q)
+    } else if r == 0 {
+        with_sign(true, q)
     } else {
-        with_sign(true, (m + (n - 1)) / n)
+        with_sign(true, q + 1)
     }
 }
 

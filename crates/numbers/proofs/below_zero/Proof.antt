@@ -1,17 +1,8 @@
--- `numbers::below_zero` meets its contract. Assumes nothing.
-use mathlib.Core.Path.{_≡_, refl}
-use borrow.Author.Tests.{le-ltb}
-use native.Mathlib.Omega.{arith}
-use lib.IntN.{ℤ, pos, negsuc}
-use lib.Signed.{ltZ}
-use Rattle.numbers.specs.Sign.{isNeg}
-use Rattle.numbers.proofs.Machine.{read}
+-- `numbers::below_zero` meets its contract: the machine's test against 0 is the definition.
+-- Assumes nothing.
+use Rattle.numbers.proofs.Machine.{read, test-is}
 use Rattle.numbers.proofs.below_zero.Statement.{statement}
 use Rattle.numbers.proofs.below_zero.Tie as tie
-
-test-is : (z : ℤ) → ltZ z (pos 0) ≡ isNeg z
-test-is (pos n) = le-ltb n 0 (omega arith)
-test-is (negsuc n) = refl
 
 returns : tie.Need-returns
 returns c = rw (read (c .args .x) (c .fits .x)) (test-is (c .args .x))

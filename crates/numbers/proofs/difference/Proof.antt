@@ -1,7 +1,7 @@
 -- `numbers::difference` meets its contract: a difference is no larger than the magnitudes' sum, so it fits.
 -- Assumes nothing.
 use native.Mathlib.Omega.{arith}
-use lib.IntN.{ℤ, _-ℤ_}
+use lib.IntN.{_-ℤ_}
 use mir.Syntax.{w64}
 use mir.Val.{SFits}
 use Rattle.numbers.specs.DistanceLaws.{abs-minus}

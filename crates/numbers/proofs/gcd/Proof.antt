@@ -1,8 +1,9 @@
 -- `numbers::gcd` meets its contract: whatever is the greatest common divisor of the pair at hand is that of a and b.
 -- Assumes nothing.
-use mathlib.Core.Path.{sym, subst}
+use mathlib.Core.Path.{_≡_, sym, subst}
 use Prim.Native.Nat.{ℕ}
 use native.Mathlib.Nat.{mod-lt}
+use native.Mathlib.Omega.{arith}
 use borrow.Author.Needs.{needs}
 use Rattle.numbers.specs.Lowest.{Gcd}
 use Rattle.numbers.specs.LowestLaws.{gcd-zero, gcd-step}
@@ -30,7 +31,8 @@ loop-again c = λ g h. c .before .loop .inv g (gcd-step (c .before .loop .x) (c 
 returns : tie.Need-returns Inv-loop μ-loop
 returns c =
     let x = c .before .loop .x in
-    c .before .loop .inv x (subst (λ (y : ℕ). Gcd x y x) (sym (c .loop-test .left)) (gcd-zero x))
+    let done : c .before .loop .y ≡ 0 = omega (arith, c .loop-test .left) in
+    c .before .loop .inv x (subst (λ (y : ℕ). Gcd x y x) (sym done) (gcd-zero x))
 
 pub gcd-spec : {M : Type 1} → statement M
 gcd-spec = tie.close (tie.spec Inv-loop μ-loop loop-holds rem-r loop-less loop-again returns)

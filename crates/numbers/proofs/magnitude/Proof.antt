@@ -1,38 +1,15 @@
--- `numbers::magnitude` meets its contract. Assumes nothing.
-use mathlib.Core.Path.{_≡_, sym, _∙_, ap, subst}
-use mathlib.Core.Bool.{true, false}
+-- `numbers::magnitude` meets its contract: below zero the number is moved up by one before it is flipped, so the least one does not wrap.
+-- Assumes nothing.
+use mathlib.Core.Path.{sym, _∙_, ap}
 use Prim.Native.Nat.{_+_}
 use native.Mathlib.Omega.{arith}
 use native.Mathlib.Numerals.{add-one}
 use borrow.Author.Needs.{needs}
-use lib.IntN.{ℤ, pos, negsuc, negℤ, natAbs, _+ℤ_, _-ℤ_, negℤ-negℤ}
-use lib.Signed.{mag, ltZ, nonNeg}
-use lib.Dec.{T}
-use mir.Syntax.{w64}
-use mir.Val.{SFits, Fits, toZ, ofZ}
-use Rattle.numbers.proofs.Machine.{read, neg-is, pos-is, up, flip, neg-fits, pos-fits}
+use lib.IntN.{ℤ, natAbs}
+use lib.Signed.{mag}
+use Rattle.numbers.proofs.Flipped.{x-is, up-fits, flipped-fits, back-is, back-casts, own-casts}
 use Rattle.numbers.proofs.magnitude.Statement.{statement}
 use Rattle.numbers.proofs.magnitude.Tie as tie
-
--- in the arm below zero, at x read from its bits
-module _ (x : ℤ) (f : SFits w64 x) (neg : ltZ (toZ w64 (ofZ w64 x)) (pos 0) ≡ true) where
-  x-is : x ≡ negsuc (mag x)
-  x-is = neg-is x (subst (λ (z : ℤ). ltZ z (pos 0) ≡ true) (read x f) neg)
-
-  up-is : toZ w64 (ofZ w64 x) +ℤ pos 1 ≡ negℤ (pos (mag x))
-  up-is = ap (λ (z : ℤ). z +ℤ pos 1) (read x f ∙ x-is) ∙ up (mag x)
-
-  up-fits : SFits w64 (toZ w64 (ofZ w64 x) +ℤ pos 1)
-  up-fits = subst (SFits w64) (sym up-is) (neg-fits (mag x) (f .sfits))
-
-  flipped-is : pos 0 -ℤ toZ w64 (ofZ w64 (toZ w64 (ofZ w64 x) +ℤ pos 1)) ≡ pos (mag x)
-  flipped-is = ap (λ (z : ℤ). pos 0 -ℤ z) (read _ up-fits ∙ up-is) ∙ flip (negℤ (pos (mag x))) ∙ negℤ-negℤ (pos (mag x))
-
-  flipped-fits : SFits w64 (pos 0 -ℤ toZ w64 (ofZ w64 (toZ w64 (ofZ w64 x) +ℤ pos 1)))
-  flipped-fits = subst (SFits w64) (sym flipped-is) (pos-fits (mag x) (f .sfits))
-
-  back-is : toZ w64 (ofZ w64 (pos 0 -ℤ toZ w64 (ofZ w64 (toZ w64 (ofZ w64 x) +ℤ pos 1)))) ≡ pos (mag x)
-  back-is = read _ flipped-fits ∙ flipped-is
 
 add-up : tie.Need-add-up
 add-up c = up-fits (c .before .args .x) (c .before .fits .x) (c .if1 .taken)
@@ -40,29 +17,16 @@ add-up c = up-fits (c .before .args .x) (c .before .fits .x) (c .if1 .taken)
 sub-flipped : tie.Need-sub-flipped
 sub-flipped c = flipped-fits (c .before .args .x) (c .before .fits .x) (c .if1 .taken)
 
-Castable : ℤ → Type 0
-Castable z = T (nonNeg z) × Fits w64 (natAbs z)
-
 cast-result : tie.Need-cast-result
-unfolding Castable
-cast-result c =
-    let x = c .before .args .x in
-    let f = c .before .fits .x in
-    subst Castable (sym (back-is x f (c .if1 .taken))) (tt, record { fits = omega (arith, f .sfits) })
+cast-result c = back-casts (c .before .args .x) (c .before .fits .x) (c .if1 .taken)
 
 add-result : tie.Need-add-result
 add-result c =
-    let x = c .before .args .x in
     let f = c .before .fits .x in
-    rw (back-is x f (c .if1 .taken)) (record { fits = omega (arith, f .sfits) })
+    rw (back-is (c .before .args .x) f (c .if1 .taken)) (record { fits = omega (arith, f .sfits) })
 
 cast-result-2 : tie.Need-cast-result-2
-unfolding Castable
-cast-result-2 c =
-    let x = c .before .args .x in
-    let f = c .before .fits .x in
-    let e : x ≡ pos (mag x) = pos-is x (subst (λ (z : ℤ). ltZ z (pos 0) ≡ false) (read x f) (c .if1 .left)) in
-    subst Castable (sym (read x f ∙ e)) (tt, record { fits = omega (arith, f .sfits) })
+cast-result-2 c = own-casts (c .before .args .x) (c .before .fits .x) (c .if1 .left)
 
 returns : tie.Need-returns
 returns c =

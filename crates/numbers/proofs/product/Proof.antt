@@ -1,7 +1,7 @@
 -- `numbers::product` meets its contract: a product's magnitude is the magnitudes' product, so it fits.
 -- Assumes nothing.
 use native.Mathlib.Omega.{arith}
-use lib.IntN.{ℤ, _*ℤ_}
+use lib.IntN.{_*ℤ_}
 use mir.Syntax.{w64}
 use mir.Val.{SFits}
 use Rattle.numbers.specs.DistanceLaws.{abs-product}

@@ -1,7 +1,7 @@
 -- `numbers::sum` meets its contract: a sum is no larger than the magnitudes' sum, so it fits.
 -- Assumes nothing.
 use native.Mathlib.Omega.{arith}
-use lib.IntN.{ℤ, _+ℤ_}
+use lib.IntN.{_+ℤ_}
 use mir.Syntax.{w64}
 use mir.Val.{SFits}
 use Rattle.numbers.specs.DistanceLaws.{abs-add}

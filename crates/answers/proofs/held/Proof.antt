@@ -1,0 +1,33 @@
+-- `answers::held` meets its contract: the magnitude that is tested is that of the number.
+-- Assumes nothing.
+use mathlib.Core.Path.{sym, _∙_, ap}
+use native.Mathlib.Omega.{arith}
+use borrow.Author.Needs.{needs}
+use borrow.Author.Tests.{le-leb, lt-leb}
+use lib.IntN.{natAbs}
+use mir.Facts.{toZ-ofZ}
+use Rattle.numbers.specs.Sign.{signed}
+use Rattle.numbers.specs.SignLaws.{abs-signed}
+use Rattle.answers.specs.declared.Counted.the-variants.{Count}
+use Rattle.answers.specs.Laws.{held-in, held-out}
+use Rattle.answers.proofs.held.Statement.{statement}
+use Rattle.answers.proofs.held.Tie as tie
+
+returns : tie.Need-returns
+returns c =
+    let minus = c .before .args .minus in
+    let m = c .before .args .m in
+    sym (held-out (signed minus m) (lt-leb (natAbs (signed minus m)) 400000000 (omega (arith, abs-signed minus m))))
+
+with-sign-requires : tie.Need-with-sign-requires
+with-sign-requires c κs = search needs
+
+returns-2 : tie.Need-returns-2
+returns-2 c =
+    let minus = c .before .before .args .minus in
+    let m = c .before .before .args .m in
+    ap Count (toZ-ofZ (record { sfits = c .with-sign .ok }) ∙ c .with-sign .ensures)
+    ∙ sym (held-in (signed minus m) (le-leb (natAbs (signed minus m)) 400000000 (omega (arith, abs-signed minus m))))
+
+pub held-spec : {M : Type 1} → statement M
+held-spec = tie.close (tie.spec returns with-sign-requires returns-2)
