@@ -1,4 +1,4 @@
--- Each public function's contract allows one outcome: two that meet its equations are equal.
+-- Each public function's contract allows one outcome: two that meet its equation are equal.
 -- Assumes nothing.
 use mathlib.Core.Path.{sym, ap, _∙_}
 use Rattle.outcomes.specs.Outcome.{Determined}

@@ -1,4 +1,4 @@
--- Division that floors: what it is, and the function that computes it. Nearest division is in Nearest.antt, truncated in Truncate.antt.
+-- Division that floors: what it is, and the function that computes it. Nearest: Nearest.antt; truncated: Truncate.antt.
 -- Assumes nothing.
 use Prim.Native.Nat.{ℕ, _/_}
 use lib.IntN.{ℤ, pos, negsuc, negℤ, natAbs, _*ℤ_}
@@ -14,11 +14,11 @@ pub record Floor (x d k : ℤ) : Type 0 where
   pub under : (k *ℤ pos (natAbs d)) ≤ℤ over x d
   pub largest : (j : ℤ) → (j *ℤ pos (natAbs d)) ≤ℤ over x d → j ≤ℤ k
 
--- by a magnitude: -(a + 1) over n is -(a / n + 1)
+-- a number over a magnitude, rounded down: -(a + 1) over n is -(a / n + 1)
 abbrev pub down : ℤ → ℕ → ℤ
 down (pos a) n = pos (a / n)
 down (negsuc a) n = negsuc (a / n)
 
--- by a divisor of either sign
+-- a number over a divisor of either sign, rounded down
 abbrev pub floorZ : ℤ → ℤ → ℤ
 floorZ x d = down (over x d) (natAbs d)

@@ -1,5 +1,4 @@
--- Division that truncates, and its remainder: what they are. The functions that compute them are `quotZ` and `remZ` of lib.Signed.
--- Nearest division is in Nearest.antt, floored in Floor.antt.
+-- Division that truncates, and its remainder: what they are; lib.Signed's `quotZ` and `remZ` compute them. Nearest: Nearest.antt; floored: Floor.antt.
 -- Assumes nothing.
 use mathlib.Core.Path.{_≡_}
 use Prim.Native.Nat.{_<_}

@@ -85,7 +85,8 @@ returns-2 c =
     toZ-ofZ (record { sfits = c .with-sign2 .ok })
     ∙ c .with-sign2 .ensures
     ∙ ap₂ (λ (m n : ℕ). negℤ (pos (m / n))) (m-is s) (n-is s)
-    ∙ floor-whole (s .before .before .args .x) (s .before .before .args .d) (alike t ∙ c .before .before .if1 .left) (s .before .before .pre .1) (r-is s ∙ c .before .if2 .taken)
+    ∙ floor-whole (s .before .before .args .x) (s .before .before .args .d) (alike t ∙ c .before .before .if1 .left) (s .before .before .pre .1)
+    (r-is s ∙ c .before .if2 .taken)
 
 returns-3 : tie.Need-returns-3
 returns-3 c =
