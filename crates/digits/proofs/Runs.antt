@@ -99,6 +99,15 @@ pub field-first : (d r : List ℕ) → IsField d → digitFirst (d ++ r) ≡ tru
 field-first [] r f = absurd (omega (arith, f .some))
 field-first (b ∷ d) r f = all-head b d (f .digits)
 
+-- the two parts of a run
+pub run-value : (l : List ℕ) → runOf l .value ≡ fieldValue (leading l)
+unfolding runOf
+run-value l = refl
+
+pub run-count : (l : List ℕ) → runOf l .count ≡ span l
+unfolding runOf
+run-count l = refl
+
 -- a run's value has nine digits at most
 pub run-below : (l : List ℕ) → runOf l .value < 10 ^ 9
 unfolding runOf

@@ -89,10 +89,9 @@ decimal-back k n =
     (omega (arith, width-enough n, pow-le-pow-right {n = 10} (omega arith) (le-max-right k (width n))))
 
 -- a number written is a field
+pub digits-field : (k n : ℕ) → 0 < k → IsField (digitsOf k n)
+digits-field k n h = record { some = omega (arith, digits-length k n); digits = digits-all k n }
+
 pub decimal-field : (k n : ℕ) → IsField (decimal k n)
 unfolding decimal
-decimal-field k n =
-    record {
-      some = omega (arith, decimal-length k n, width-some n, le-max-right k (width n));
-      digits = digits-all (max k (width n)) n;
-    }
+decimal-field k n = digits-field (max k (width n)) n (omega (arith, width-some n))

@@ -37,10 +37,14 @@ abbrev pub fieldValue : List ℕ → ℕ
 fieldValue d = valueOf (take 9 d)
 
 -- ---- a run of digits in a text
+-- a byte that passes the test stands in front
+abbrev pub firstIs : (test : ℕ → Bool) → List ℕ → Bool
+firstIs test [] = false
+firstIs test (b ∷ l) = test b
+
 -- a digit stands in front
 abbrev pub digitFirst : List ℕ → Bool
-digitFirst [] = false
-digitFirst (b ∷ l) = isDigit b
+digitFirst l = firstIs isDigit l
 
 -- how many digits stand in front
 unfoldable pub span : List ℕ → ℕ

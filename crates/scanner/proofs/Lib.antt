@@ -1,0 +1,4 @@
+pub mod Answers
+pub mod Then
+pub mod Shapes
+pub mod Determined
