@@ -1,6 +1,8 @@
 pub mod Values
 pub mod Width
 pub mod Runs
-pub mod Loops
+pub mod Taking
+pub mod Counting
+pub mod Spelling
 pub mod Statements
 pub mod Determined

@@ -1,14 +1,13 @@
 -- The run in front of a text is its digits up to the first byte that is none.
 -- Assumes nothing.
-use Prim.Native.Nat.{ℕ, zero, suc, _+_, _^_, _≤_, _<_}
+use Prim.Native.Nat.{ℕ, suc, _+_, _^_, _≤_, _<_}
 use mathlib.Core.Path.{_≡_, refl, sym, ap, _∙_}
 use mathlib.Core.List.{List, [], _∷_, _++_}
 use mathlib.Core.Bool.{Bool, true, false, cond}
 use native.Mathlib.Omega.{arith}
-use native.Mathlib.Nat.{pow-le-pow-right, min-le-left}
+use native.Mathlib.Nat.{pow-le-pow-right}
 use lib.ListN.{length, take, drop, length-take, take-append-drop}
-use lib.Seq.{take-at, drop-at, take-all, take-nil}
-use Rattle.digits.specs.declared.Run.{Run}
+use lib.Seq.{take-at, drop-at, take-all}
 use Rattle.digits.specs.Digits.{isDigit, allDigits, IsField, valueOf, fieldValue, digitFirst, span, leading, runOf}
 use Rattle.digits.proofs.Values.{all-cons, all-head, all-tail, all-take, value-below}
 
@@ -56,7 +55,8 @@ module _ (d r : List ℕ) (a : allDigits d ≡ true) (f : digitFirst r ≡ false
   run-nine h = run-of ∙ rw (field-value d h)
 
 -- ---- and back: every text is its leading digits and a rest that does not begin with one
-leading-all-by : (b : ℕ) (l : List ℕ) (t : Bool) → isDigit b ≡ t → allDigits (leading l) ≡ true → allDigits (take (cond t (suc (span l)) 0) (b ∷ l)) ≡ true
+leading-all-by : (b : ℕ) (l : List ℕ) (t : Bool) → isDigit b ≡ t → allDigits (leading l) ≡ true
+    → allDigits (take (cond t (suc (span l)) 0) (b ∷ l)) ≡ true
 unfolding allDigits
 leading-all-by b l true e ih = all-cons b (leading l) e ih
 leading-all-by b l false e ih = refl
@@ -66,7 +66,8 @@ unfolding span allDigits
 leading-all [] = refl
 leading-all (b ∷ l) = leading-all-by b l (isDigit b) refl (leading-all l)
 
-stops-by : (b : ℕ) (l : List ℕ) (t : Bool) → isDigit b ≡ t → digitFirst (drop (span l) l) ≡ false → digitFirst (drop (cond t (suc (span l)) 0) (b ∷ l)) ≡ false
+stops-by : (b : ℕ) (l : List ℕ) (t : Bool) → isDigit b ≡ t → digitFirst (drop (span l) l) ≡ false
+    → digitFirst (drop (cond t (suc (span l)) 0) (b ∷ l)) ≡ false
 stops-by b l true e ih = ih
 stops-by b l false e ih = e
 

@@ -3,13 +3,13 @@
 use Prim.Native.Nat.{ℕ, zero, suc, _+_, _-_, _*_, _/_, _%_, _^_, _≤_, _<_}
 use mathlib.Core.Path.{_≡_, refl, sym, ap, _∙_}
 use mathlib.Core.List.{List, [], _∷_, _++_, append-nil, append-assoc}
-use mathlib.Core.Bool.{Bool, true, false, cond, _&&_}
+use mathlib.Core.Bool.{Bool, true, false, _&&_}
 use native.Mathlib.Omega.{arith}
 use native.Mathlib.Nat.{add-zero, zero-add, pow-suc}
 use lib.ListN.{length, take, length-append}
 use lib.Dec.{leb}
 use borrow.Author.Tests.{le-leb, lt-leb, leb-true}
-use Rattle.digits.specs.Digits.{isDigit, allDigits, IsField, valueFrom, valueOf, digitsOf}
+use Rattle.digits.specs.Digits.{isDigit, allDigits, valueFrom, valueOf, digitsOf}
 
 -- ---- one digit
 -- two tests that pass together
@@ -72,12 +72,6 @@ pub value-snoc : (v : ℕ) (l : List ℕ) (b : ℕ) → valueFrom v (l ++ (b ∷
 unfolding valueFrom
 value-snoc v [] b = refl
 value-snoc v (x ∷ l) b = value-snoc (v * 10 + (x - 48)) l b
-
--- some digits, and then others
-pub value-append : (v : ℕ) (l m : List ℕ) → valueFrom v (l ++ m) ≡ valueFrom (valueFrom v l) m
-unfolding valueFrom
-value-append v [] m = refl
-value-append v (x ∷ l) m = value-append (v * 10 + (x - 48)) l m
 
 -- below ten to the number of digits
 below-by : (m v : ℕ) (d : List ℕ) → allDigits d ≡ true → v < 10 ^ m → valueFrom v d < 10 ^ (m + length d)

@@ -1,10 +1,10 @@
 -- A number's width is the least number of digits, one or more, that are enough for it.
 -- Assumes nothing.
-use Prim.Native.Nat.{ℕ, zero, suc, _+_, _-_, _*_, _/_, _^_, _≤_, _<_, max}
-use mathlib.Core.Path.{_≡_, refl, sym, ap, _∙_}
+use Prim.Native.Nat.{ℕ, zero, suc, _-_, _*_, _/_, _^_, _≤_, _<_, max}
+use mathlib.Core.Path.{_≡_, refl, ap}
 use mathlib.Core.Bool.{Bool, true, false}
 use native.Mathlib.Omega.{arith, by-contra}
-use native.Mathlib.Nat.{pow-suc, pow-le-pow-right, le-max-left, le-max-right}
+use native.Mathlib.Nat.{pow-suc, pow-le-pow-right, le-max-right}
 use lib.ListN.{length}
 use lib.Dec.{ltb}
 use borrow.Author.Tests.{lt-ltb, le-ltb, ltb-true, ltb-false}
@@ -60,7 +60,8 @@ width-enough =
     (λ n h ih. rw (width-large n h, pow-suc) (omega arith))
 
 -- no fewer would be
-at-most-by : (n w : ℕ) → 10 ≤ n → ((v : ℕ) → 0 < v → n / 10 < 10 ^ v → width (n / 10) ≤ v) → 0 < w → n < 10 ^ w → width n ≤ w
+at-most-by : (n w : ℕ) → 10 ≤ n → ((v : ℕ) → 0 < v → n / 10 < 10 ^ v → width (n / 10) ≤ v)
+    → 0 < w → n < 10 ^ w → width n ≤ w
 at-most-by n zero h ih p k = absurd (omega arith)
 at-most-by n (suc zero) h ih p k = absurd (omega arith)
 at-most-by n (suc (suc v)) h ih p k =

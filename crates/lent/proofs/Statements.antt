@@ -6,7 +6,7 @@ use mathlib.Core.Logic.{_⊎_, ⊎-elim}
 use mathlib.Core.List.{List, _++_}
 use mathlib.Core.Bool.{Bool, true, false, cond}
 use native.Mathlib.Omega.{arith}
-use lib.ListN.{length, take, drop, getD, length-take, List·getD-append}
+use lib.ListN.{length, take, drop, getD, List·getD-append}
 use lib.Seq.{getD-take, getD-drop, getD-append-add, length-take-le}
 use borrow.Author.Tests.{leb-true}
 use Rattle.lent.specs.Line.{splice, fits, lineAfter}
@@ -43,7 +43,8 @@ unfolding lineAfter
 same-length line place text = length-by line place text (fits line place text) refl
 
 pub text-there : TextThere
-text-there line place text i h k = ap (λ (l : List ℕ). getD l (place + i) 0) (line-laid line place text h) ∙ there line place text h i k
+text-there line place text i h k =
+    ap (λ (l : List ℕ). getD l (place + i) 0) (line-laid line place text h) ∙ there line place text h i k
 
 past : (line : List ℕ) (place : ℕ) (text : List ℕ) (h : place + length text ≤ length line) (i : ℕ) → place + length text ≤ i
     → getD (splice line place text) i 0 ≡ getD line i 0
@@ -57,7 +58,8 @@ past line place text h i k =
     ∙ getD-drop (place + length text) line j 0
     ∙ ap (λ (x : ℕ). getD line x 0) f
 
-others-by : (line : List ℕ) (place : ℕ) (text : List ℕ) (i : ℕ) (t : Bool) → fits line place text ≡ t → (i < place) ⊎ (place + length text ≤ i)
+others-by : (line : List ℕ) (place : ℕ) (text : List ℕ) (i : ℕ) (t : Bool) → fits line place text ≡ t
+    → (i < place) ⊎ (place + length text ≤ i)
     → getD (cond t (splice line place text) line) i 0 ≡ getD line i 0
 others-by line place text i true e o =
     let h = leb-true (place + length text) (length line) e in

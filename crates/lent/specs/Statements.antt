@@ -5,7 +5,7 @@ use mathlib.Core.Path.{_≡_}
 use mathlib.Core.Logic.{_⊎_}
 use mathlib.Core.List.{List}
 use lib.ListN.{length, getD}
-use Rattle.lent.specs.Line.{splice, lineAfter}
+use Rattle.lent.specs.Line.{lineAfter}
 
 -- the line keeps its length, whether the text fits or not
 abbrev pub SameLength : Type 0

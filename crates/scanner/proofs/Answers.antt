@@ -8,14 +8,12 @@ use native.Mathlib.Omega.{arith}
 use lib.ListN.{length, drop, getD, length-drop, drop-of-length-le}
 use lib.Seq.{drop-cons}
 use lib.Dec.{leb}
-use borrow.Author.Tests.{le-leb, lt-leb, leb-true, leb-false}
+use borrow.Author.Tests.{le-leb, lt-leb}
 use Rattle.digits.specs.declared.Run.{Run}
 use Rattle.digits.specs.Digits.{fieldValue, firstIs, span, leading, runOf}
 use Rattle.digits.proofs.Runs.{span-within, leading-all, field-below, run-value, run-count}
 use Rattle.scanner.specs.declared.Cursor.{Cursor}
-use Rattle.scanner.specs.declared.Field.{Field}
 use Rattle.scanner.specs.declared.Field.the-variants.{Digits, Missing}
-use Rattle.scanner.specs.declared.Passed.{Passed}
 use Rattle.scanner.specs.declared.Passed.the-variants.{Next, Other}
 use Rattle.scanner.specs.Scan.{cursor, found, fieldOf, passed, pastIf, isEnd}
 
@@ -37,7 +35,8 @@ found-some at v zero h = absurd (h refl)
 found-some at v (suc n) h = refl
 
 -- digits lie within the text
-pub found-within : (s : List ℕ) (at : ℕ) (run : Run) → run ≡ runOf (drop at s) → (run .count ≡ 0 → ⊥) → at + run .count ≤ length s
+pub found-within : (s : List ℕ) (at : ℕ) (run : Run) → run ≡ runOf (drop at s) → (run .count ≡ 0 → ⊥)
+    → at + run .count ≤ length s
 found-within s at run e h =
     let n = run-span at (drop at s) run e in
     let z : 0 < run .count = omega (arith, h) in
@@ -51,7 +50,8 @@ pub record Was (at : ℕ) (l : List ℕ) (v n : ℕ) (next : Cursor) : Type 0 wh
   pub there : next .at ≡ at + n
   pub below : v < 10 ^ 9
 
-was-digits-by : (at w m v n : ℕ) (next : Cursor) → Digits v n next ≡ found at w m → (w ≡ v) × (m ≡ n) × (n ≡ 0 → ⊥) × (next .at ≡ at + n)
+was-digits-by : (at w m v n : ℕ) (next : Cursor) → Digits v n next ≡ found at w m
+    → (w ≡ v) × (m ≡ n) × (n ≡ 0 → ⊥) × (next .at ≡ at + n)
 was-digits-by at w zero v n next e = let z : _≡_ {A = ℕ} 0 1 = cc in omega arith
 was-digits-by at w (suc m) v n next e =
     let k : suc m ≡ n = cc in
@@ -90,7 +90,8 @@ was-next-by : (t : Bool) (at : ℕ) (next : Cursor) → Next next ≡ passed t a
 was-next-by true at next e = let p : next ≡ cursor (at + 1) = cc in (refl, ap (λ (x : Cursor). x .at) p)
 was-next-by false at next e = let z : _≡_ {A = ℕ} 0 1 = cc in absurd (omega arith)
 
-pub was-next : (test : ℕ → Bool) (at : ℕ) (l : List ℕ) (next : Cursor) → Next next ≡ pastIf test at l → (firstIs test l ≡ true) × (next .at ≡ at + 1)
+pub was-next : (test : ℕ → Bool) (at : ℕ) (l : List ℕ) (next : Cursor) → Next next ≡ pastIf test at l
+    → (firstIs test l ≡ true) × (next .at ≡ at + 1)
 unfolding pastIf
 was-next test at l next e = was-next-by (firstIs test l) at next e
 

@@ -1,4 +1,5 @@
 pub mod Answers
 pub mod Then
-pub mod Shapes
+pub mod Signed
+pub mod Fields
 pub mod Determined

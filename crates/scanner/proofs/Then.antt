@@ -1,6 +1,6 @@
 -- Each step of a reading: from what the scanner answered, on a text that is known, and back to what the text was.
 -- Assumes nothing.
-use Prim.Native.Nat.{ℕ, zero, suc, _-_, _≤_, _<_}
+use Prim.Native.Nat.{ℕ, zero, suc, _-_}
 use mathlib.Core.Path.{_≡_, refl, sym, ap, _∙_}
 use mathlib.Core.Logic.{_⊎_, inl, inr}
 use mathlib.Core.List.{List, [], _∷_, _++_, append-nil}
@@ -14,8 +14,8 @@ use Rattle.scanner.specs.declared.Cursor.{Cursor}
 use Rattle.scanner.specs.declared.Field.the-variants.{Digits, Missing}
 use Rattle.scanner.specs.declared.Passed.the-variants.{Next, Other}
 use Rattle.scanner.specs.Scan.{fieldOf, pastIf, isByte, isEnd}
-use Rattle.scanner.specs.Then.{fieldBy, fieldThen, byteBy, byteThen, endBy, endOr, signBy, signThen, afterField, fieldsThen}
-use Rattle.scanner.proofs.Answers.{was-digits, was-missing, was-next, was-other}
+use Rattle.scanner.specs.Then.{fieldBy, fieldThen, byteThen, endOr, signThen}
+use Rattle.scanner.proofs.Answers.{was-digits, was-missing, was-next, was-other, end-nil}
 
 -- ---- a field
 module _ {A : Type 0} (none : A) (then : (value count : ℕ) → List ℕ → A) where
@@ -40,7 +40,8 @@ module _ {A : Type 0} (none : A) (then : (value count : ℕ) → List ℕ → A)
       (by-some v n (drop n (drop at s)) (w .some) ∙ ap (then v n) (drop-drop n at s ∙ ap (λ (x : ℕ). drop x s) (sym (w .there))))
 
   -- on a field, and a rest that does not go on with digits
-  pub field-run : (d r : List ℕ) → IsField d → digitFirst r ≡ false → fieldThen none then (d ++ r) ≡ then (fieldValue d) (length d) r
+  pub field-run : (d r : List ℕ) → IsField d → digitFirst r ≡ false
+      → fieldThen none then (d ++ r) ≡ then (fieldValue d) (length d) r
   unfolding fieldThen
   field-run d r f e =
       let a = f .digits in
@@ -88,6 +89,9 @@ module _ {A : Type 0} (test : ℕ → Bool) (other : A) (then : List ℕ → A) 
   pub byte-not : (l : List ℕ) → firstIs test l ≡ false → byteThen test other then l ≡ other
   unfolding byteThen
   byte-not l e = rw e
+
+  pub byte-end : (l : List ℕ) → isEnd l ≡ true → byteThen test other then l ≡ other
+  byte-end l e = byte-not l (ap (firstIs test) (end-nil l e))
 
   -- from the scanner's answer at a place
   pub byte-other : (at : ℕ) (l : List ℕ) → Other ≡ pastIf test at l → byteThen test other then l ≡ other
@@ -139,35 +143,3 @@ module _ {A : Type 0} (then : (minus : Bool) → List ℕ → A) where
   pub sign-plain : (at : ℕ) (l : List ℕ) → Other ≡ pastIf (isByte 45) at l → signThen then l ≡ then false l
   unfolding signThen
   sign-plain at l e = rw (was-other (isByte 45) at l e)
-
--- ---- divided fields
-module _ {S A : Type 0} (divides : ℕ → Bool) (none : A) (keep : S → (value count : ℕ) → S) (then : S → List ℕ → A) where
-  -- what comes after a field, with k more allowed
-  abbrev pub goesOn : (k : ℕ) → S → (value count : ℕ) → List ℕ → A
-  goesOn k kept value count = afterField divides then (fieldsThen divides none keep then k) (keep kept value count)
-
-  -- the reader's equations
-  pub fields-zero : (kept : S) (l : List ℕ) → fieldsThen divides none keep then zero kept l ≡ none
-  unfolding fieldsThen
-  fields-zero kept l = refl
-
-  pub fields-suc : (k : ℕ) (kept : S) (l : List ℕ) → fieldsThen divides none keep then (suc k) kept l ≡ fieldThen none (goesOn k kept) l
-  unfolding fieldsThen
-  fields-suc k kept l = refl
-
-  -- from the scanner's answer at a place, with `left` fields allowed
-  pub fields-over : (left : ℕ) (kept : S) (l : List ℕ) → left ≤ 0 → fieldsThen divides none keep then left kept l ≡ none
-  fields-over zero kept l h = fields-zero kept l
-  fields-over (suc k) kept l h = absurd (omega arith)
-
-  pub fields-none : (left : ℕ) (kept : S) (at : ℕ) (l : List ℕ) → Missing ≡ fieldOf at l → fieldsThen divides none keep then left kept l ≡ none
-  fields-none zero kept at l e = fields-zero kept l
-  fields-none (suc k) kept at l e = fields-suc k kept l ∙ field-none none (goesOn k kept) at l e
-
-  pub fields-some : (left : ℕ) (kept : S) (s : List ℕ) (at v n : ℕ) (next : Cursor) → 0 < left → Digits v n next ≡ fieldOf at (drop at s)
-      → fieldsThen divides none keep then left kept (drop at s) ≡ goesOn (left - 1) kept v n (drop (next .at) s)
-  fields-some left kept s at v n next h e =
-      let k : left ≡ suc (left - 1) = omega arith in
-      ap (λ (x : ℕ). fieldsThen divides none keep then x kept (drop at s)) k
-      ∙ fields-suc (left - 1) kept (drop at s)
-      ∙ field-some none (goesOn (left - 1) kept) s at v n next e

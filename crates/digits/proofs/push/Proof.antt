@@ -3,7 +3,7 @@
 use native.Mathlib.Omega.{arith}
 use mathlib.Core.Path.{sym}
 use Rattle.digits.proofs.Values.{digit-bounds}
-use Rattle.digits.proofs.Loops.{nine-below, push-early, push-late}
+use Rattle.digits.proofs.Taking.{nine-below, push-early, push-late}
 use Rattle.digits.proofs.push.Statement.{statement}
 use Rattle.digits.proofs.push.Tie as tie
 

@@ -3,7 +3,7 @@
 use native.Mathlib.Omega.{arith}
 use mathlib.Core.Path.{refl}
 use borrow.Author.Needs.{needs}
-use Rattle.digits.proofs.Loops.{Spelling, spelling-turn, spelling-done}
+use Rattle.digits.proofs.Spelling.{Spelling, spelling-turn, spelling-done}
 use Rattle.digits.proofs.put_digits.Statement.{statement}
 use Rattle.digits.proofs.put_digits.Tie as tie
 

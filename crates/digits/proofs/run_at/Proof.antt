@@ -7,7 +7,7 @@ use borrow.Author.Needs.{needs}
 use Prim.Native.Nat.{_-_, _<_}
 use lib.ListN.{length, drop}
 use Rattle.digits.specs.Digits.{digitFirst}
-use Rattle.digits.proofs.Loops.{within, digit-here, Taking, taking-start, taking-turn, taking-done}
+use Rattle.digits.proofs.Taking.{within, digit-here, Taking, taking-start, taking-turn, taking-done}
 use Rattle.digits.proofs.run_at.Statement.{statement}
 use Rattle.digits.proofs.run_at.Tie as tie
 

@@ -1,8 +1,8 @@
--- `digits::width_of` meets its contract: the digits taken off and those of what is left are those of n, and the greater of two numbers is returned.
+-- `digits::width_of` meets its contract: the digits taken off and those left are those of n, and the greater number is returned.
 -- Assumes nothing.
 use native.Mathlib.Omega.{arith}
 use borrow.Author.Needs.{needs}
-use Rattle.digits.proofs.Loops.{Counting, counting-start, counting-turn, counting-done}
+use Rattle.digits.proofs.Counting.{Counting, counting-start, counting-turn, counting-done}
 use Rattle.digits.proofs.width_of.Statement.{statement}
 use Rattle.digits.proofs.width_of.Tie as tie
 

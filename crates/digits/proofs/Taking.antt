@@ -1,25 +1,21 @@
--- The three loops: what each keeps from turn to turn is what is wanted at its end.
+-- The loop of `run_at`: what was taken and what is left make the run that is wanted.
 -- Assumes nothing.
-use Prim.Native.Nat.{ℕ, zero, suc, _+_, _-_, _*_, _/_, _%_, _^_, _≤_, _<_, min}
+use Prim.Native.Nat.{ℕ, zero, suc, _+_, _-_, _*_, _^_, _≤_, _<_, min}
 use mathlib.Core.Path.{_≡_, refl, sym, ap, _∙_}
-use mathlib.Core.List.{List, [], _∷_, _++_}
-use mathlib.Core.Bool.{Bool, true, false, cond}
+use mathlib.Core.List.{List, [], _∷_}
+use mathlib.Core.Bool.{Bool, true, false}
 use native.Mathlib.Omega.{arith}
 use native.Mathlib.Numerals.{add-one}
 use native.Mathlib.Nat.{add-zero, min-eq-left, min-eq-right, min-le-right, pow-suc, pow-le-pow-right}
-use lib.ListN.{length, take, drop, getD, set, length-drop, length-set}
+use lib.ListN.{length, take, drop, getD, length-drop}
 use lib.Seq.{drop-cons, take-nil}
 use lib.Dec.{ltb}
-use borrow.Author.Tests.{lt-ltb, le-ltb, ltb-true, ltb-false}
-use Rattle.lent.specs.Line.{front}
-use Rattle.lent.proofs.Laws.{front-nil, front-snoc}
-use Rattle.digits.specs.declared.Run.{Run}
-use Rattle.digits.specs.Digits.{isDigit, valueFrom, fieldValue, digitFirst, span, leading, runOf, digitsOf, width}
-use Rattle.digits.proofs.Values.{digit-bounds, digits-length}
-use Rattle.digits.proofs.Width.{width-small, width-large, width-at-most, width-some}
+use borrow.Author.Tests.{ltb-true, ltb-false}
+use Rattle.digits.specs.Digits.{isDigit, valueFrom, fieldValue, digitFirst, span, leading, runOf}
+use Rattle.digits.proofs.Values.{digit-bounds}
 use Rattle.digits.proofs.Runs.{span-cons, span-no}
 
--- ---- `push`: a digit more, where it is one of the first nine
+-- ---- a digit more, where it is one of the first nine
 module _ (v n b : ℕ) where
   pub push-early : n < 9 → valueFrom v (take (9 - n) (b ∷ [])) ≡ v * 10 + (b - 48)
   unfolding valueFrom
@@ -37,12 +33,14 @@ module _ (v n b : ℕ) where
       rw e (ap (λ (x : List ℕ). valueFrom (valueFrom v (b ∷ x)) (take m l)) (sym (take-nil m)))
 
   -- the value of digits is that of the first, pushed, with the others behind it
-  pub push-on : (l : List ℕ) → valueFrom v (take (9 - n) (b ∷ l)) ≡ valueFrom (valueFrom v (take (9 - n) (b ∷ []))) (take (9 - (n + 1)) l)
+  pub push-on : (l : List ℕ)
+      → valueFrom v (take (9 - n) (b ∷ l)) ≡ valueFrom (valueFrom v (take (9 - n) (b ∷ []))) (take (9 - (n + 1)) l)
   push-on l =
       let e : 9 - n - 1 ≡ 9 - (n + 1) = omega arith in
       push-on-by (9 - n) l ∙ rw e
 
-  push-below-by : (t : Bool) → ltb n 9 ≡ t → v < 10 ^ min n 9 → b ≤ 57 → valueFrom v (take (9 - n) (b ∷ [])) < 10 ^ min (n + 1) 9
+  push-below-by : (t : Bool) → ltb n 9 ≡ t → v < 10 ^ min n 9 → b ≤ 57
+      → valueFrom v (take (9 - n) (b ∷ [])) < 10 ^ min (n + 1) 9
   push-below-by true e h k =
       let l = ltb-true n 9 e in
       let f : v < 10 ^ n = rw (min-eq-left {n = n} {m = 9} (omega arith)) at h in
@@ -59,7 +57,7 @@ module _ (v n b : ℕ) where
 pub nine-below : (v n : ℕ) → v < 10 ^ min n 9 → v < 10 ^ 9
 nine-below v n h = omega (arith, pow-le-pow-right {n = 10} (omega arith) (min-le-right n 9))
 
--- ---- `run_at`: n digits of value v were taken from `at` on, and i is the next place
+-- ---- n digits of value v were taken from `at` on, and i is the next place
 within-by : (l : List ℕ) → digitFirst l ≡ true → 0 < length l
 within-by [] e = let z : _≡_ {A = ℕ} 0 1 = cc in omega arith
 within-by (b ∷ l) e = omega arith
@@ -105,42 +103,3 @@ unfolding runOf valueFrom
 taking-done s at i v n k e =
     let none = span-no (drop i s) e in
     sym (rw (k .value, k .count, none, add-zero, take-nil))
-
--- ---- `width_of`: k - 1 digits were taken off, and `rest` is left
-pub record Counting (n k rest : ℕ) : Type 0 where
-  pub most : width n ≤ 20
-  pub same : k + width rest ≡ width n + 1
-
-pub counting-start : (n : ℕ) → n < 2 ^ 64 → Counting n 1 n
-counting-start n h = record { most = width-at-most n 20 (omega arith) (omega arith); same = omega arith }
-
-pub counting-turn : (n k rest : ℕ) → Counting n k rest → 10 ≤ rest → Counting n (k + 1) (rest / 10)
-counting-turn n k rest c h = record { most = c .most; same = omega (arith, width-large rest h) }
-
-pub counting-done : (n k rest : ℕ) → Counting n k rest → rest < 10 → k ≡ width n
-counting-done n k rest c h = omega (arith, width-small rest h)
-
--- ---- `put_digits`: the i digits that are left, at the front of the line as it is, make the line that is wanted
-pub record Spelling (l₀ : List ℕ) (k n : ℕ) (l : List ℕ) (i rest : ℕ) : Type 0 where
-  pub long : length l ≡ length l₀
-  pub inside : i ≤ length l₀
-  pub left : front l₀ (digitsOf k n) ≡ front l (digitsOf i rest)
-
-pub spelling-turn : (l₀ : List ℕ) (k n : ℕ) (l : List ℕ) (i rest : ℕ) → Spelling l₀ k n l i rest → 0 < i
-    → Spelling l₀ k n (set l (i - 1) (48 + rest % 10)) (i - 1) (rest / 10)
-unfolding digitsOf
-spelling-turn l₀ k n l zero rest s h = absurd (omega arith)
-spelling-turn l₀ k n l (suc i) rest s h =
-    let d = digitsOf i (rest / 10) in
-    let p : suc i - 1 ≡ i = omega arith in
-    let e : length d ≡ i = digits-length i (rest / 10) in
-    record {
-      long = simp length-set (s .long);
-      inside = omega arith;
-      left = s .left ∙ front-snoc l d (48 + rest % 10) (omega arith) ∙ rw (p, e);
-    }
-
-pub spelling-done : (l₀ : List ℕ) (k n : ℕ) (l : List ℕ) (i rest : ℕ) → Spelling l₀ k n l i rest → i ≤ 0 → l ≡ front l₀ (digitsOf k n)
-unfolding digitsOf
-spelling-done l₀ k n l zero rest s h = sym (s .left ∙ front-nil l)
-spelling-done l₀ k n l (suc i) rest s h = absurd (omega arith)

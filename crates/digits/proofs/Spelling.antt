@@ -1,0 +1,37 @@
+-- The loop of `put_digits`: the digits that are left, on the line as it is, make the line that is wanted.
+-- Assumes nothing.
+use Prim.Native.Nat.{ℕ, zero, suc, _+_, _-_, _/_, _%_, _≤_, _<_}
+use mathlib.Core.Path.{_≡_, sym, _∙_}
+use mathlib.Core.List.{List}
+use native.Mathlib.Omega.{arith}
+use lib.ListN.{length, set, length-set}
+use Rattle.lent.specs.Line.{front}
+use Rattle.lent.proofs.Laws.{front-nil, front-snoc}
+use Rattle.digits.specs.Digits.{digitsOf}
+use Rattle.digits.proofs.Values.{digits-length}
+
+-- i digits of `rest` are left to be set in the line l, which was l₀
+pub record Spelling (l₀ : List ℕ) (k n : ℕ) (l : List ℕ) (i rest : ℕ) : Type 0 where
+  pub long : length l ≡ length l₀
+  pub inside : i ≤ length l₀
+  pub left : front l₀ (digitsOf k n) ≡ front l (digitsOf i rest)
+
+pub spelling-turn : (l₀ : List ℕ) (k n : ℕ) (l : List ℕ) (i rest : ℕ) → Spelling l₀ k n l i rest → 0 < i
+    → Spelling l₀ k n (set l (i - 1) (48 + rest % 10)) (i - 1) (rest / 10)
+unfolding digitsOf
+spelling-turn l₀ k n l zero rest s h = absurd (omega arith)
+spelling-turn l₀ k n l (suc i) rest s h =
+    let d = digitsOf i (rest / 10) in
+    let p : suc i - 1 ≡ i = omega arith in
+    let e : length d ≡ i = digits-length i (rest / 10) in
+    record {
+      long = simp length-set (s .long);
+      inside = omega arith;
+      left = s .left ∙ front-snoc l d (48 + rest % 10) (omega arith) ∙ rw (p, e);
+    }
+
+pub spelling-done : (l₀ : List ℕ) (k n : ℕ) (l : List ℕ) (i rest : ℕ) → Spelling l₀ k n l i rest → i ≤ 0
+    → l ≡ front l₀ (digitsOf k n)
+unfolding digitsOf
+spelling-done l₀ k n l zero rest s h = sym (s .left ∙ front-nil l)
+spelling-done l₀ k n l (suc i) rest s h = absurd (omega arith)
