@@ -1,0 +1,103 @@
+-- `chains::carry` meets its contract: the rest of the list, from the timecode at hand, ends where the whole does.
+-- Assumes nothing.
+use mathlib.Core.Path.{_≡_, refl, sym, _∙_}
+use mathlib.Core.Bool.{true}
+use Prim.Native.Nat.{_+_, _-_, _≤_, _<_}
+use native.Mathlib.Omega.{arith}
+use borrow.Author.Needs.{needs}
+use lib.ListN.{length, getD, drop, drop-of-length-le}
+use Rattle.rates.specs.Rates.{isRate}
+use Rattle.rates.specs.Every.{at-every}
+use Rattle.chains.specs.declared.Converted.the-variants.{At, Refused}
+use Rattle.time.specs.Instant.{Bounded}
+use Rattle.chains.specs.Chain.{stepOf, carried}
+use Rattle.chains.specs.ChainLaws.{step-bounded, carried-none, carried-next, carried-stop}
+use Rattle.chains.proofs.Walk.{from-here}
+use Rattle.chains.proofs.carry.Statement.{statement}
+use Rattle.chains.proofs.carry.Tie as tie
+
+abbrev Inv-loop : tie.InvT-loop
+Inv-loop list at₀ i₀ at i = (i ≤ length list) × Bounded at × (carried at (drop i list) ≡ carried at₀ list)
+
+abbrev μ-loop : tie.MeasureT-loop
+μ-loop list at₀ i₀ at i = length list - i
+
+loop-holds : tie.Need-loop-holds Inv-loop μ-loop
+loop-holds c = (omega arith, c .before .pre .0, refl)
+
+mul-step : tie.Need-mul-step Inv-loop μ-loop
+mul-step c = search needs
+
+shared-slice-read-step : tie.Need-shared-slice-read-step Inv-loop μ-loop
+shared-slice-read-step c = search needs
+
+-- the number at hand is a rate
+next-rate : (c : tie.In-loop Inv-loop μ-loop) → let s = c .before .before .before in
+    isRate (getD (s .args .list .now) (c .before .loop .i) 0) ≡ true
+next-rate c =
+    let s = c .before .before .before in
+    at-every isRate (s .args .list .now) 0 (s .pre .1) (c .before .loop .i) (search needs)
+
+step-requires : tie.Need-step-requires Inv-loop μ-loop
+step-requires c κs = (c .before .before .loop .inv .1, next-rate (c .before))
+
+enum-known-s : tie.Need-enum-known-s Inv-loop μ-loop
+enum-known-s c = search needs
+
+enum-told : tie.Need-enum-told Inv-loop μ-loop
+enum-told c = search needs
+
+returns : tie.Need-returns Inv-loop μ-loop
+returns c =
+    let k = c .before .before .before .before .before in
+    let l = k .before .before .args .list .now in
+    let below : k .loop .i < length l = search needs in
+    let told : c .before .before .step .result ≡ Refused (c .enum-told .given .0 .0) = c .enum-told .given .1 in
+    told
+    ∙ sym (carried-stop (k .loop .at) (getD l (k .loop .i) 0) (drop (k .loop .i + 1) l) _ (sym (c .before .before .step .ensures) ∙ told))
+    ∙ (rw (from-here l (k .loop .i) below) at (k .loop .inv .2))
+
+add-i : tie.Need-add-i Inv-loop μ-loop
+add-i c = search needs
+
+loop-less : tie.Need-loop-less Inv-loop μ-loop
+loop-less c = search needs
+
+loop-again : tie.Need-loop-again Inv-loop μ-loop
+loop-again c =
+    let k = c .before .before .before .before .before .before in
+    let l = k .before .before .args .list .now in
+    let next = getD l (k .loop .i) 0 in
+    let there = c .before .s .given .0 .0 in
+    let below : k .loop .i < length l = search needs in
+    let took : stepOf (k .loop .at) next ≡ At there = sym (c .before .before .before .step .ensures) ∙ c .before .s .given .1 in (
+      omega arith,
+      step-bounded (k .loop .at) there next (next-rate (c .before .before .before .before .before)) took,
+      sym (carried-next (k .loop .at) there next (drop (k .loop .i + 1) l) took)
+          ∙ (rw (from-here l (k .loop .i) below) at (k .loop .inv .2)),
+    )
+
+returns-2 : tie.Need-returns-2 Inv-loop μ-loop
+returns-2 c =
+    let k = c .before in
+    let l = k .before .before .args .list .now in
+    let past : length l ≤ k .loop .i = omega arith in
+    sym (carried-none (k .loop .at)) ∙ (rw (drop-of-length-le l past) at (k .loop .inv .2))
+
+pub carry-spec : {M : Type 1} → statement M
+carry-spec =
+    tie.close
+    (tie.spec
+    Inv-loop
+    μ-loop
+    loop-holds
+    mul-step
+    shared-slice-read-step
+    step-requires
+    enum-known-s
+    enum-told
+    returns
+    add-i
+    loop-less
+    loop-again
+    returns-2)

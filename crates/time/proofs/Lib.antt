@@ -1,0 +1,4 @@
+pub mod Guards
+pub mod Back
+pub mod Statements
+pub mod Determined
