@@ -2,10 +2,10 @@
 -- Assumes nothing.
 use mathlib.Core.Path.{_≡_, sym, ap, _∙_}
 use Rattle.outcomes.specs.Outcome.{Determined}
-use Rattle.written.proofs.number_of as number-of
-use Rattle.written.proofs.number_of.Reads as number-of-reads
-use Rattle.written.proofs.length_of as length-of
-use Rattle.written.proofs.length_of.Reads as length-of-reads
+use Rattle.written.proofs.number as number
+use Rattle.written.proofs.number.Reads as number-reads
+use Rattle.written.proofs.length as length
+use Rattle.written.proofs.length.Reads as length-reads
 use Rattle.written.proofs.sign_length as sign-length
 use Rattle.written.proofs.sign_length.Reads as sign-length-reads
 use Rattle.written.proofs.put_sign as put-sign
@@ -13,11 +13,11 @@ use Rattle.written.proofs.put_sign.Reads as put-sign-reads
 use Rattle.written.proofs.put_marked as put-marked
 use Rattle.written.proofs.put_marked.Reads as put-marked-reads
 
-pub number-of-determined : Determined number-of.ended number-of-reads.Asked number-of-reads.Learnt
-number-of-determined κs a asked x y p q = ap (λ z. (z, x .1)) (p ∙ sym q)
+pub number-determined : Determined number.ended number-reads.Asked number-reads.Learnt
+number-determined κs a asked x y p q = ap (λ z. (z, x .1)) (p ∙ sym q)
 
-pub length-of-determined : Determined length-of.ended length-of-reads.Asked length-of-reads.Learnt
-length-of-determined κs a asked x y p q = ap (λ z. (z, x .1)) (p ∙ sym q)
+pub length-determined : Determined length.ended length-reads.Asked length-reads.Learnt
+length-determined κs a asked x y p q = ap (λ z. (z, x .1)) (p ∙ sym q)
 
 pub sign-length-determined : Determined sign-length.ended sign-length-reads.Asked sign-length-reads.Learnt
 sign-length-determined κs a asked x y p q = ap (λ z. (z, x .1)) (p ∙ sym q)

@@ -17,7 +17,7 @@ pub enum Written {
 }
 
 // Document 01's number of an answer; 0 where a text was laid down.
-pub fn number_of(w: Written) -> u8
+pub fn number(w: Written) -> u8
     ensures answer { λ r. ⌜ r ≡ numberOf w ⌝ }
 {
     match w {
@@ -27,7 +27,7 @@ pub fn number_of(w: Written) -> u8
 }
 
 // How many bytes were laid down; 0 where a refusal was given.
-pub fn length_of(w: Written) -> usize
+pub fn length(w: Written) -> usize
     ensures answer { λ r. ⌜ r ≡ lengthOf w ⌝ }
 {
     match w {

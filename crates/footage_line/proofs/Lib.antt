@@ -1,0 +1,4 @@
+pub mod Laws
+pub mod Drafts
+pub mod Statements
+pub mod Determined

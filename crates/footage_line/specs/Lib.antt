@@ -1,0 +1,3 @@
+pub mod FootageText
+pub mod Parts
+pub mod Statements

@@ -1,0 +1,10 @@
+pub mod Steps
+pub mod Justified
+pub mod Shape
+pub mod Short
+pub mod OneShape
+pub mod Back
+pub mod Scanned
+pub mod Apart
+pub mod Statements
+pub mod Determined
