@@ -1,7 +1,7 @@
 -- Each way out of a writer is one law here, over any text: refused before there is one, laid down, or without room.
 -- Assumes nothing.
 use Prim.Native.Nat.{ℕ, _+_, _-_, _≤_, _<_}
-use mathlib.Core.Path.{_≡_, refl, sym, ap, _∙_}
+use mathlib.Core.Path.{_≡_, sym, ap}
 use mathlib.Core.List.{List}
 use lib.ListN.{length}
 use borrow.Rule.Slice.PartMut.{putMid, midOf}
@@ -11,7 +11,7 @@ use Rattle.answers.specs.declared.Refusal.{Refusal}
 use Rattle.answers.specs.Refusals.{noRoom}
 use Rattle.written.specs.declared.Written.{Written}
 use Rattle.written.specs.declared.Written.the-variants.{Length, Refused}
-use Rattle.written.specs.Written.{Draft, Text, NoText, writtenTo, answerTo, lineTo}
+use Rattle.written.specs.Written.{Draft, Text, NoText, answerTo, lineTo}
 
 -- what a writer shows at a return: its answer and its line are those of the draft
 abbrev pub Meets : (line : List ℕ) (place : ℕ) → Draft → Written → List ℕ → Type 0

@@ -1,19 +1,19 @@
 -- A refusal changes nothing, and a length answered is that of the text that stands there: by cases on the draft and on room.
 -- Assumes nothing.
-use Prim.Native.Nat.{ℕ, _+_, _≤_, _<_}
-use mathlib.Core.Path.{_≡_, refl, sym, ap, _∙_}
+use Prim.Native.Nat.{ℕ, _+_, _<_}
+use mathlib.Core.Path.{_≡_, refl}
 use mathlib.Core.List.{List}
 use mathlib.Core.Bool.{Bool, true, false, cond}
 use native.Mathlib.Omega.{arith}
 use lib.ListN.{length}
-use borrow.Author.Tests.{leb-true, leb-false}
+use borrow.Author.Tests.{leb-false}
 use Rattle.lent.specs.Line.{splice, fits, lineAfter}
 use Rattle.lent.proofs.Laws.{fits-false}
 use Rattle.answers.specs.declared.Refusal.{Refusal}
 use Rattle.answers.specs.Refusals.{noRoom}
 use Rattle.written.specs.declared.Written.the-variants.{Length, Refused}
-use Rattle.written.specs.Written.{Draft, Text, NoText, answerTo, lineTo}
-use Rattle.written.specs.Statements.{RefusedKeeps, LengthStands, Stands, NoRoomExactly}
+use Rattle.written.specs.Written.{Text, NoText, answerTo, lineTo}
+use Rattle.written.specs.Statements.{RefusedKeeps, LengthStands, NoRoomExactly}
 
 module _ (line : List ℕ) (place : ℕ) (text : List ℕ) where
   keeps-by : (t : Bool) (e : Refusal) → cond t (Length (length text)) (Refused noRoom) ≡ Refused e → cond t (splice line place text) line ≡ line
