@@ -3,7 +3,7 @@
 use Prim.Native.Nat.{ℕ, _≤_, _<_}
 use mathlib.Core.Path.{_≡_, refl}
 use mathlib.Core.Bool.{Bool, true, false}
-use mathlib.Core.List.{List}
+use mathlib.Core.List.{List, _∷_, _++_}
 use native.Mathlib.Omega.{arith}
 use lib.IntN.{ℤ, natAbs}
 use Rattle.numbers.specs.Sign.{isNeg}
@@ -18,12 +18,14 @@ use Rattle.labels.specs.Label.{hoursIn, minutesIn, secondsIn, framesIn, LabelOf
 use Rattle.labels.specs.Sections.{sectionsOf}
 use Rattle.labels.specs.Statements.{Small}
 use Rattle.labels.proofs.Statements.{has-label, small-fields}
+use Rattle.digits.specs.Digits.{decimal}
+use Rattle.written.specs.Parts.{signText}
 use Rattle.written.specs.Written as written
 use Rattle.written.specs.Written.{Text, NoText}
 use Rattle.label_line.specs.declared.TimecodeSections.{TimecodeSections}
 use Rattle.label_line.specs.declared.Sectioned.the-variants.{Sections, Refused}
 use Rattle.label_line.specs.Sections.{labelFields, labelSections, orElse, sectioned}
-use Rattle.label_line.specs.LabelText.{framesMark, sectionsText, labelText, labelDraft, TwoDigits}
+use Rattle.label_line.specs.LabelText.{framesMark, fieldsText, sectionsText, labelText, labelDraft, TwoDigits}
 
 -- ---- the fields of a label at a rate
 module _ (rate : ℕ) (count : ℤ) (h : isRate rate ≡ true) where
@@ -38,6 +40,17 @@ module _ (rate : ℕ) (count : ℤ) (h : isRate rate ≡ true) where
   pub label-short : TwoDigits (labelSections rate count)
   unfolding labelSections
   label-short = let s = label-small in record { minutes = s .minutes; seconds = s .seconds; frames = s .frames }
+
+-- the label's text by its fields
+pub label-parts : (rate : ℕ) (count : ℤ)
+    → labelText rate count
+    ≡ signText (isNeg count)
+    ++ (decimal 2 (hoursIn (labelFields rate count))
+    ++ (58 ∷ decimal 2 (minutesIn (labelFields rate count))
+    ++ (58 ∷ decimal 2 (secondsIn (labelFields rate count))
+    ++ (framesMark rate ∷ decimal 2 (framesIn (labelFields rate count))))))
+unfolding labelText sectionsText fieldsText labelSections
+label-parts rate count = refl
 
 -- what `labels::sections` asks of a rate's row
 pub row-asks : (rate : ℕ) (row : Framerate) (d : ℕ) → isRate rate ≡ true → row ≡ rateRow rate → d ≡ dropFrames rate
@@ -71,6 +84,10 @@ module _ (tc : Timecode) where
   pub both : isRate (tc .rate) ≡ true → isCount (tc .count) ≡ true → Sections (labelSections (tc .rate) (tc .count)) ≡ sectioned tc
   unfolding sectioned
   both r k = rw (r, k)
+
+  pub draft-text : isRate (tc .rate) ≡ true → isCount (tc .count) ≡ true → labelDraft tc ≡ Text (labelText (tc .rate) (tc .count))
+  unfolding labelDraft
+  draft-text r k = rw (r, k)
 
   -- ---- and back: what an answer says of the tests, and so of the text
   passed-by : (r k : Bool) → isRate (tc .rate) ≡ r → isCount (tc .count) ≡ k → (s : TimecodeSections)

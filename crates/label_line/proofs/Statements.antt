@@ -1,7 +1,7 @@
 -- A label's length and bytes follow from those of its parts; its hours have four digits at most, since a minute has 1,436 counts or more.
 -- Assumes nothing.
 use Prim.Native.Nat.{ℕ, _+_, _*_, _-_, _≤_, _<_}
-use mathlib.Core.Path.{_≡_, refl}
+use mathlib.Core.Path.{_≡_, refl, ap, _∙_}
 use mathlib.Core.List.{List, [], _∷_, _++_, append-nil}
 use mathlib.Core.Bool.{Bool, true, false, cond}
 use native.Mathlib.Omega.{arith}
@@ -19,13 +19,15 @@ use Rattle.labels.specs.LabelLaws.{count-by-minutes}
 use Rattle.digits.specs.Digits.{allDigits, width, decimal}
 use Rattle.digits.proofs.Values.{both, all-head, all-tail}
 use Rattle.digits.proofs.Width.{width-at-most, decimal-field}
+use Rattle.written.specs.Written.{answerTo, lineTo}
 use Rattle.written.specs.Parts.{signText}
+use Rattle.written.proofs.Laws.{text-written}
 use Rattle.written.proofs.Parts.{sign-most}
 use Rattle.label_line.specs.Sections.{labelFields, labelSections}
 use Rattle.label_line.specs.LabelText.{framesMark, fieldsText, sectionsText, labelText}
-use Rattle.label_line.specs.Statements.{LabelLength, LabelBounds, isLabelByte, LabelBytes}
+use Rattle.label_line.specs.Statements.{LabelLength, LabelBounds, isLabelByte, LabelBytes, LabelWritten}
 use Rattle.label_line.proofs.Texts.{sections-length}
-use Rattle.label_line.proofs.Answers.{label-of, label-short}
+use Rattle.label_line.proofs.Answers.{label-of, label-short, draft-text}
 
 -- ---- length
 pub label-length : LabelLength
@@ -86,3 +88,11 @@ label-bytes rate count =
     let s = labelSections rate count in
     every-append isLabelByte (signText (s .negative)) (fieldsText (framesMark rate) s) (sign-bytes (s .negative))
     (field-bytes (s .hours) _ (field-bytes (s .minutes) _ (field-bytes (s .seconds) _ (last-bytes (isDrop rate) (s .frames)))))
+
+-- ---- written
+pub label-written : LabelWritten
+label-written tc line place r k room =
+    let text = labelText (tc .rate) (tc .count) in
+    let w = text-written line place text (omega (arith, label-bounds (tc .rate) (tc .count) r k)) in
+    let d = draft-text tc r k in
+    (ap (answerTo line place) d ∙ w .0, ap (lineTo line place) d ∙ w .1)

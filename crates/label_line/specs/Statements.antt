@@ -1,19 +1,24 @@
--- What holds of every label's text: its length, and the bytes that occur in it. Proofs: proofs/Statements.antt.
+-- What holds of every label's text: its length, the bytes that occur in it, and when it is written. Proofs: proofs/Statements.antt.
 -- Assumes nothing.
 use Prim.Native.Nat.{ℕ, _+_, _≤_, max}
 use mathlib.Core.Path.{_≡_}
 use mathlib.Core.Bool.{Bool, true, _||_}
+use mathlib.Core.List.{List}
 use lib.Dec.{eqb}
 use lib.IntN.{ℤ}
 use lib.ListN.{length}
 use Rattle.numbers.specs.Sign.{isNeg}
+use Rattle.lent.specs.Line.{splice}
 use Rattle.answers.specs.Refusals.{isCount}
+use Rattle.rates.specs.declared.Timecode.{Timecode}
 use Rattle.rates.specs.Rates.{isRate}
 use Rattle.rates.specs.Every.{every}
 use Rattle.digits.specs.Digits.{isDigit, width}
+use Rattle.written.specs.declared.Written.the-variants.{Length}
+use Rattle.written.specs.Written.{answerTo, lineTo}
 use Rattle.written.specs.Parts.{signText}
 use Rattle.label_line.specs.Sections.{labelSections}
-use Rattle.label_line.specs.LabelText.{labelText}
+use Rattle.label_line.specs.LabelText.{labelText, labelDraft}
 
 -- a label is as long as its sign, its hours in two digits at least, and three marks with two digits each
 abbrev pub LabelLength : Type 0
@@ -34,3 +39,11 @@ isLabelByte b = isDigit b || (eqb b 58 || (eqb b 59 || eqb b 45))
 -- no other byte occurs in it
 abbrev pub LabelBytes : Type 0
 LabelBytes = (rate : ℕ) (count : ℤ) → every isLabelByte (labelText rate count) ≡ true
+
+-- at a rate, within the bounds and with 14 bytes of room the label is written: its length is answered, and it stands in the line
+abbrev pub LabelWritten : Type 0
+LabelWritten =
+    (tc : Timecode) (line : List ℕ) (place : ℕ)
+    → isRate (tc .rate) ≡ true → isCount (tc .count) ≡ true → place + 14 ≤ length line
+    → let text = labelText (tc .rate) (tc .count) in
+    (answerTo line place (labelDraft tc) ≡ Length (length text)) × (lineTo line place (labelDraft tc) ≡ splice line place text)

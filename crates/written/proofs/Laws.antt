@@ -5,8 +5,8 @@ use mathlib.Core.Path.{_≡_, sym, ap}
 use mathlib.Core.List.{List}
 use lib.ListN.{length}
 use borrow.Rule.Slice.PartMut.{putMid, midOf}
-use Rattle.lent.specs.Line.{front}
-use Rattle.lent.proofs.Laws.{fits-true, fits-false, line-lent, line-kept}
+use Rattle.lent.specs.Line.{front, splice}
+use Rattle.lent.proofs.Laws.{fits-true, fits-false, line-laid, line-lent, line-kept}
 use Rattle.answers.specs.declared.Refusal.{Refusal}
 use Rattle.answers.specs.Refusals.{noRoom}
 use Rattle.written.specs.declared.Written.{Written}
@@ -35,3 +35,9 @@ module _ (line : List ℕ) (place : ℕ) (draft : Draft) where
   unfolding answerTo lineTo
   laid text last need d n h e =
       (rw (d, fits-true line place text h) (ap Length n), rw d (line-lent line place text last h e))
+
+-- where a text has room, the answer is its length, and it stands in the line
+pub text-written : (line : List ℕ) (place : ℕ) (text : List ℕ) → place + length text ≤ length line
+    → (answerTo line place (Text text) ≡ Length (length text)) × (lineTo line place (Text text) ≡ splice line place text)
+unfolding answerTo lineTo
+text-written line place text h = (rw (fits-true line place text h), line-laid line place text h)
