@@ -1,0 +1,4 @@
+pub mod Fraction
+pub mod RuntimeText
+pub mod Parts
+pub mod Statements
