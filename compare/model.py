@@ -328,6 +328,13 @@ def runtime(rate, count, precision):
     return f"{minus(count)}{hours:02}:{minute:02}:{second:02}.{digits or '0'}"
 
 
+def minute(m):
+    """ "the 1,440 first frame numbers of a 29.97 drop day's minutes": "Entry 0 is 0; each next is 1800 more after a minute
+    that is a multiple of 10, else 1798 more." """
+    within(m, 0, 1439)
+    return sum(1798 if before % 10 else 1800 for before in range(m))
+
+
 # -- Arithmetic --
 
 
@@ -452,6 +459,7 @@ NUMBERS = {
     b"neg": (neg, 2),
     b"abs": (absolute, 2),
     b"rebase": (rebase, 3),
+    b"minute": (minute, 1),
 }
 
 NUMBER = re.compile(rb"(-?)0*([0-9]{1,19})")
@@ -529,6 +537,12 @@ read 2 -0:05 = -5
 read 2 -0 = 0
 read 2  = refused 1
 read 5 1:00;00 = refused 3
+minute 0 = 0
+minute 1 = 1800
+minute 2 = 3598
+minute 9 = 16184
+minute 10 = 17982
+minute 1439 = 2587610
 """
 
 

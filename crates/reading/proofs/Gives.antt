@@ -1,0 +1,67 @@
+-- What a text's shape and its fault give: the answer of each case.
+-- Assumes nothing.
+use Prim.Native.Nat.{ℕ}
+use mathlib.Core.Path.{_≡_, ap, _∙_}
+use mathlib.Core.List.{List}
+use mathlib.Core.Bool.{Bool, true}
+use lib.IntN.{ℤ}
+use Rattle.digits.specs.Digits.{valueOf}
+use Rattle.answers.specs.Refusals.{noShape, tooLong, droppedLabel, noPerfField, held}
+use Rattle.film.specs.declared.FilmFormat.{FilmFormat}
+use Rattle.footage_text.specs.Shape.{FootageParts, hasPerf}
+use Rattle.reading.specs.declared.Stated.{Stated}
+use Rattle.reading.specs.declared.Stated.the-variants.{Nothing}
+use Rattle.reading.specs.declared.Read.the-variants.{Refused}
+use Rattle.reading.specs.Answer.{asLabel, asFootage}
+use Rattle.reading.specs.Shaped.{formatFor, Shaped, shapeOf}
+use Rattle.reading.specs.Reading.{labelRead, takesPerf, footageRead, readShaped, readText}
+use Rattle.reading.specs.ReadingLaws.{label-dropped, label-kept, footage-marked, footage-taken, read-shaped}
+use Rattle.reading.specs.Statements.{Allowed, HasShape, FootageText, PerfRefused, LabelText, DroppedText, LabelCount, FootageCount}
+use Rattle.reading.proofs.Shapes.{shape-label, shape-footage, shape-long}
+use Rattle.reading.proofs.FourKinds.{shape-none}
+
+module _ (l : List ℕ) (stated : Stated) (rate : ℕ) (a : Allowed stated rate) where
+  by-shape : (x : Shaped) → shapeOf stated l ≡ x → readText l stated rate ≡ readShaped rate stated x
+  by-shape x e = read-shaped l stated rate (a .rated) (a .filmed) ∙ ap (readShaped rate stated) e
+
+  pub gives-none : ((t : Bool) → ¬ HasShape stated l t) → readText l stated rate ≡ Refused noShape
+  gives-none h = by-shape _ (shape-none stated l h)
+
+  pub gives-long : HasShape stated l true → readText l stated rate ≡ Refused tooLong
+  gives-long h = by-shape _ (shape-long stated l h)
+
+  -- ---- a label
+  pub gives-label : stated ≡ Nothing → (m : Bool) (fields : List ℕ) → LabelText l m fields → readText l stated rate ≡ labelRead rate m fields
+  gives-label u m fields t = by-shape _ (ap (λ (s : Stated). shapeOf s l) u ∙ shape-label l m fields t)
+
+  pub gives-dropped : stated ≡ Nothing → DroppedText l rate → readText l stated rate ≡ Refused droppedLabel
+  gives-dropped u d = gives-label u (d .minus) (d .fields) (d .text) ∙ label-dropped rate (d .minus) (d .fields) (d .dropped)
+
+  pub gives-label-count : (z : ℤ) → LabelCount l stated rate z → readText l stated rate ≡ asLabel (held z)
+  gives-label-count z x =
+      gives-label (x .unstated) (x .minus) (x .fields) (x .text)
+      ∙ label-kept rate (x .minus) (x .fields) (x .kept)
+      ∙ ap (λ (y : ℤ). asLabel (held y)) (x .count)
+
+  -- ---- a footage
+  pub gives-footage : (p : FootageParts) → FootageText l p
+      → readText l stated rate
+      ≡ footageRead (formatFor stated (hasPerf (p .perf))) (p .minus) (valueOf (p .feet)) (valueOf (p .frames)) (hasPerf (p .perf))
+  gives-footage p t = by-shape _ (shape-footage stated l p t)
+
+  pub gives-no-perf : PerfRefused l stated → readText l stated rate ≡ Refused noPerfField
+  gives-no-perf x =
+      let p = x .parts in
+      let perf = hasPerf (p .perf) in
+      gives-footage p (x .text)
+      ∙ footage-marked (formatFor stated perf) (p .minus) (valueOf (p .feet)) (valueOf (p .frames)) perf
+      (ap (λ (b : Bool). takesPerf (formatFor stated b) b) (x .present) ∙ x .none)
+
+  pub gives-footage-count : (format : FilmFormat) (z : ℤ) → FootageCount l stated format z → readText l stated rate ≡ asFootage format (held z)
+  gives-footage-count format z x =
+      let p = x .parts in
+      let perf = hasPerf (p .perf) in
+      gives-footage p (x .text)
+      ∙ ap (λ (f : FilmFormat). footageRead f (p .minus) (valueOf (p .feet)) (valueOf (p .frames)) perf) (x .chosen)
+      ∙ footage-taken format (p .minus) (valueOf (p .feet)) (valueOf (p .frames)) perf (x .takes)
+      ∙ ap (λ (y : ℤ). asFootage format (held y)) (x .count)

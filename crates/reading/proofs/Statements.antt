@@ -1,0 +1,79 @@
+-- Each answer tells the text's shape and its fault, and each shape and fault gives its answer.
+-- Assumes nothing.
+use Prim.Native.Nat.{ℕ}
+use native.Mathlib.Omega.{arith}
+use mathlib.Core.Path.{_≡_, refl, ap, _∙_, subst}
+use mathlib.Core.Logic.{⊎-elim}
+use mathlib.Core.List.{List}
+use mathlib.Core.Bool.{Bool, true, false}
+use Rattle.answers.specs.Refusals.{isCount}
+use Rattle.answers.specs.Laws.{held-in, held-out}
+use Rattle.rates.specs.Rates.{isRate}
+use Rattle.reading.specs.declared.Stated.{Stated}
+use Rattle.reading.specs.declared.Read.{Read}
+use Rattle.reading.specs.declared.Read.the-variants.{Label, Footage, Refused}
+use Rattle.reading.specs.Answer.{numberOf, countOf, asLabel, asFootage}
+use Rattle.reading.specs.Shaped.{isStated}
+use Rattle.reading.specs.Reading.{readText}
+use Rattle.reading.specs.ReadingLaws.{no-rate, no-format}
+use Rattle.reading.specs.Statements.{Allowed, ShapesApart, RefusedSix, NoShape, TooLong, NoPerfField, Dropped, LabelCounted, FootageCounted, CountOut, OutOfBounds, CountBounded}
+use Rattle.reading.proofs.Shapes as shapes
+use Rattle.reading.proofs.Told.{Told, told, cause}
+use Rattle.reading.proofs.Gives.{gives-none, gives-long, gives-dropped, gives-label-count, gives-no-perf, gives-footage-count}
+
+pub shapes-apart : ShapesApart
+shapes-apart = shapes.shapes-apart
+
+-- ---- the refusals
+six-by : (l : List ℕ) (stated : Stated) (rate : ℕ) (t : Bool) → isRate rate ≡ t → isStated stated ≡ false → numberOf (readText l stated rate) ≡ 6
+six-by l stated rate true r s = ap numberOf (no-format l stated rate r s)
+six-by l stated rate false r s = ap numberOf (no-rate l stated rate r)
+
+pub refused-six : RefusedSix
+refused-six l stated rate = (
+  cause l stated rate 6 (omega arith),
+  ⊎-elim (λ r. ap numberOf (no-rate l stated rate r)) (six-by l stated rate (isRate rate) refl),
+)
+
+pub no-shape : NoShape
+no-shape l stated rate a = (cause l stated rate 1 (omega arith), λ h. ap numberOf (gives-none l stated rate a h))
+
+pub too-long : TooLong
+too-long l stated rate a = (cause l stated rate 2 (omega arith), λ h. ap numberOf (gives-long l stated rate a h))
+
+pub no-perf-field : NoPerfField
+no-perf-field l stated rate a = (cause l stated rate 4 (omega arith), λ x. ap numberOf (gives-no-perf l stated rate a x))
+
+pub dropped : Dropped
+dropped l stated rate a = (cause l stated rate 3 (omega arith), λ x. ap numberOf (gives-dropped l stated rate a (x .0) (x .1)))
+
+-- ---- the counts
+pub label-counted : LabelCounted
+label-counted l stated rate z a = (
+  λ e. subst (Told l stated rate) e (told l stated rate),
+  λ x. gives-label-count l stated rate a z (x .0) ∙ ap asLabel (held-in z (x .1)),
+)
+
+pub footage-counted : FootageCounted
+footage-counted l stated rate format z a = (
+  λ e. subst (Told l stated rate) e (told l stated rate),
+  λ x. gives-footage-count l stated rate a format z (x .0) ∙ ap (asFootage format) (held-in z (x .1)),
+)
+
+gives-out : (l : List ℕ) (stated : Stated) (rate : ℕ) → Allowed stated rate → CountOut l stated rate → numberOf (readText l stated rate) ≡ 5
+gives-out l stated rate a x =
+    ⊎-elim
+    (λ c. ap numberOf (gives-label-count l stated rate a (x .z) c ∙ ap asLabel (held-out (x .z) (x .out))))
+    (λ c. ap numberOf (gives-footage-count l stated rate a (c .0) (x .z) (c .1) ∙ ap (asFootage (c .0)) (held-out (x .z) (x .out))))
+    (x .count)
+
+pub out-of-bounds : OutOfBounds
+out-of-bounds l stated rate a = (cause l stated rate 5 (omega arith), gives-out l stated rate a)
+
+bounded-by : (l : List ℕ) (stated : Stated) (rate : ℕ) (r : Read) → Told l stated rate r → isCount (countOf r) ≡ true
+bounded-by l stated rate (Label z) t = t .1
+bounded-by l stated rate (Footage z format) t = t .1
+bounded-by l stated rate (Refused e) t = refl
+
+pub count-bounded : CountBounded
+count-bounded l stated rate = bounded-by l stated rate (readText l stated rate) (told l stated rate)

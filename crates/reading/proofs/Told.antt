@@ -1,0 +1,112 @@
+-- What an answer tells of the text: each refusal's number its cause, and each count its label or its footage.
+-- Assumes nothing.
+use Prim.Native.Nat.{ℕ, zero, suc, _<_}
+use native.Mathlib.Omega.{arith}
+use mathlib.Core.Path.{_≡_, refl, sym, ap, _∙_, subst}
+use mathlib.Core.Logic.{_⊎_, inl, inr}
+use mathlib.Core.List.{List}
+use mathlib.Core.Bool.{Bool, true, false}
+use lib.IntN.{ℤ}
+use Rattle.numbers.specs.Sign.{signed}
+use Rattle.digits.specs.Digits.{valueOf}
+use Rattle.answers.specs.Refusals.{isCount, held}
+use Rattle.answers.specs.Laws.{held-in, held-out}
+use Rattle.rates.specs.Rates.{isRate, rateRow, dropFrames}
+use Rattle.film.specs.declared.FilmFormat.{FilmFormat}
+use Rattle.film.specs.Film.{allowsPerfField}
+use Rattle.film.specs.Footage.{footageCount}
+use Rattle.labels.specs.Label.{countIn, droppedIn}
+use Rattle.footage_text.specs.Shape.{FootageParts, hasPerf}
+use Rattle.reading.specs.declared.Stated.{Stated}
+use Rattle.reading.specs.declared.Stated.the-variants.{Nothing}
+use Rattle.reading.specs.declared.Read.{Read}
+use Rattle.reading.specs.declared.Read.the-variants.{Label, Footage, Refused}
+use Rattle.reading.specs.Answer.{numberOf, asLabel, asFootage}
+use Rattle.reading.specs.Shaped.{isStated, formatFor, Shaped, shapeOf}
+use Rattle.reading.specs.Reading.{labelRead, takesPerf, footageRead, readShaped, readText}
+use Rattle.reading.specs.ReadingLaws.{label-dropped, label-kept, footage-marked, footage-taken, no-rate, no-format, read-shaped}
+use Rattle.reading.specs.Statements.{HasShape, FootageText, PerfRefused, LabelText, DroppedText, LabelCount, FootageCount, CountOut}
+use Rattle.reading.proofs.FourKinds.{Kind, none, long, labelled, filmed, kind}
+
+module _ (l : List ℕ) (stated : Stated) (rate : ℕ) where
+  -- what each number tells
+  abbrev pub Cause : ℕ → Type 0
+  Cause zero = Unit {0}
+  Cause (suc zero) = (t : Bool) → ¬ HasShape stated l t
+  Cause (suc (suc zero)) = HasShape stated l true
+  Cause (suc (suc (suc zero))) = (stated ≡ Nothing) × DroppedText l rate
+  Cause (suc (suc (suc (suc zero)))) = PerfRefused l stated
+  Cause (suc (suc (suc (suc (suc zero))))) = CountOut l stated rate
+  Cause (suc (suc (suc (suc (suc (suc n)))))) = (isRate rate ≡ false) ⊎ (isStated stated ≡ false)
+
+  abbrev pub Told : Read → Type 0
+  Told (Label z) = LabelCount l stated rate z × (isCount z ≡ true)
+  Told (Footage z format) = FootageCount l stated format z × (isCount z ≡ true)
+  Told (Refused e) = Cause (e .number)
+
+  -- ---- a label
+  label-by-count : (z : ℤ) → LabelCount l stated rate z → (t : Bool) → isCount z ≡ t → Told (asLabel (held z))
+  label-by-count z x true e = subst (λ a. Told (asLabel a)) (sym (held-in z e)) (x, e)
+  label-by-count z x false e = subst (λ a. Told (asLabel a)) (sym (held-out z e)) record { z = z; count = inl x; out = e }
+
+  label-told : stated ≡ Nothing → (m : Bool) (fields : List ℕ) → LabelText l m fields
+      → (t : Bool) → droppedIn (dropFrames rate) fields ≡ t → Told (labelRead rate m fields)
+  label-told u m fields x true e =
+      subst Told (sym (label-dropped rate m fields e)) (u, record { minus = m; fields = fields; text = x; dropped = e })
+  label-told u m fields x false e =
+      let z = signed m (countIn (rateRow rate .timebase) (dropFrames rate) fields) in
+      subst Told (sym (label-kept rate m fields e))
+      (label-by-count z (record { unstated = u; minus = m; fields = fields; text = x; kept = e; count = refl }) (isCount z) refl)
+
+  -- ---- a footage
+  footage-by-count : (format : FilmFormat) (z : ℤ) → FootageCount l stated format z → (t : Bool) → isCount z ≡ t → Told (asFootage format (held z))
+  footage-by-count format z x true e = subst (λ a. Told (asFootage format a)) (sym (held-in z e)) (x, e)
+  footage-by-count format z x false e =
+      subst (λ a. Told (asFootage format a)) (sym (held-out z e)) record { z = z; count = inr (format, x); out = e }
+
+  -- a format takes every footage but one with a perf field that it has not
+  refuses : (format : FilmFormat) (perf : Bool) → takesPerf format perf ≡ false → (perf ≡ true) × (allowsPerfField format ≡ false)
+  refuses format true e = (refl, e)
+  refuses format false e = let z : _≡_ {A = ℕ} 0 1 = cc in absurd (omega arith)
+
+  footage-told : (p : FootageParts) → FootageText l p → (t : Bool)
+      → takesPerf (formatFor stated (hasPerf (p .perf))) (hasPerf (p .perf)) ≡ t
+      → Told (footageRead (formatFor stated (hasPerf (p .perf))) (p .minus) (valueOf (p .feet)) (valueOf (p .frames)) (hasPerf (p .perf)))
+  footage-told p x false e =
+      let perf = hasPerf (p .perf) in
+      let r = refuses (formatFor stated perf) perf e in
+      subst Told (sym (footage-marked (formatFor stated perf) (p .minus) (valueOf (p .feet)) (valueOf (p .frames)) perf e))
+      record { parts = p; text = x; present = r .0; none = ap (λ (b : Bool). allowsPerfField (formatFor stated b)) (sym (r .0)) ∙ r .1 }
+  footage-told p x true e =
+      let perf = hasPerf (p .perf) in
+      let format = formatFor stated perf in
+      let z = signed (p .minus) (footageCount format (valueOf (p .feet)) (valueOf (p .frames))) in
+      subst Told (sym (footage-taken format (p .minus) (valueOf (p .feet)) (valueOf (p .frames)) perf e))
+      (footage-by-count format z (record { parts = p; text = x; chosen = refl; takes = e; count = refl }) (isCount z) refl)
+
+  -- ---- a text
+  kind-told : (x : Shaped) → Kind stated l x → Told (readShaped rate stated x)
+  kind-told x (none h) = h
+  kind-told x (long h) = h
+  kind-told x (labelled {m = m} {fields = fields} u t) = label-told u m fields t (droppedIn (dropFrames rate) fields) refl
+  kind-told x (filmed p t) = footage-told p t (takesPerf (formatFor stated (hasPerf (p .perf))) (hasPerf (p .perf))) refl
+
+  by-format : isRate rate ≡ true → (t : Bool) → isStated stated ≡ t → Told (readText l stated rate)
+  by-format r true s = subst Told (sym (read-shaped l stated rate r s)) (kind-told (shapeOf stated l) (kind stated l))
+  by-format r false s = subst Told (sym (no-format l stated rate r s)) (inr s)
+
+  by-rate : (t : Bool) → isRate rate ≡ t → Told (readText l stated rate)
+  by-rate true r = by-format r (isStated stated) refl
+  by-rate false r = subst Told (sym (no-rate l stated rate r)) (inl r)
+
+  pub told : Told (readText l stated rate)
+  told = by-rate (isRate rate) refl
+
+  number-by : (r : Read) (n : ℕ) → Told r → 0 < n → numberOf r ≡ n → Cause n
+  number-by (Label z) n t h e = absurd (omega arith)
+  number-by (Footage z format) n t h e = absurd (omega arith)
+  number-by (Refused f) n t h e = subst Cause e t
+
+  -- a refusal's number tells its cause
+  pub cause : (n : ℕ) → 0 < n → numberOf (readText l stated rate) ≡ n → Cause n
+  cause n h e = number-by (readText l stated rate) n told h e

@@ -1,0 +1,30 @@
+-- `reading::as_footage` meets its contract: each arm is the definition's case.
+-- Assumes nothing.
+use mathlib.Core.Path.{_≡_, sym, ap, _∙_}
+use borrow.Author.Needs.{needs}
+use lib.IntN.{ℤ}
+use mir.Syntax.{w64}
+use mir.Val.{toZ, ofZ}
+use Rattle.reading.specs.declared.Read.the-variants.{Footage}
+use Rattle.reading.specs.Answer.{asFootage}
+use Rattle.reading.proofs.as_footage.Statement.{statement}
+use Rattle.reading.proofs.as_footage.Tie as tie
+
+enum-known-counted : tie.Need-enum-known-counted
+enum-known-counted c = search needs
+
+enum-known-counted-2 : tie.Need-enum-known-counted-2
+enum-known-counted-2 c = search needs
+
+returns : tie.Need-returns
+returns c =
+    let z = c .before .counted .given .0 .0 in
+    let back : toZ w64 (ofZ w64 z) ≡ z = search needs in
+    let format = c .before .before .before .args .format in
+    ap (λ (x : ℤ). Footage x format) back ∙ sym (ap (asFootage format) (c .before .counted .given .1))
+
+returns-2 : tie.Need-returns-2
+returns-2 c = sym (ap (asFootage (c .before .before .before .args .format)) (c .before .counted2 .given .1))
+
+pub as-footage-spec : {M : Type 1} → statement M
+as-footage-spec = tie.close (tie.spec enum-known-counted enum-known-counted-2 returns returns-2)

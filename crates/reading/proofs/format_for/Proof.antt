@@ -1,0 +1,55 @@
+-- `reading::format_for` meets its contract: each return is the definition's case.
+-- Assumes nothing.
+use mathlib.Core.Path.{sym, ap, _∙_}
+use borrow.Author.Needs.{needs}
+use Rattle.reading.specs.declared.Stated.{Stated}
+use Rattle.reading.specs.Shaped.{formatIn, formatFor}
+use Rattle.reading.proofs.format_for.Statement.{statement}
+use Rattle.reading.proofs.format_for.Tie as tie
+
+enum-known-stated : tie.Need-enum-known-stated
+enum-known-stated c = search needs
+
+enum-told : tie.Need-enum-told
+enum-told c = search needs
+
+returns : tie.Need-returns
+returns c = search needs
+
+returns-2 : tie.Need-returns-2
+returns-2 c = search needs
+
+format-at-requires : tie.Need-format-at-requires
+format-at-requires c κs = search needs
+
+enum-known-filmed : tie.Need-enum-known-filmed
+enum-known-filmed c = search needs
+
+enum-told-2 : tie.Need-enum-told-2
+enum-told-2 c = search needs
+
+returns-3 : tie.Need-returns-3
+returns-3 c =
+    let perf = c .before .before .before .before .before .before .args .perf in
+    sym (ap (λ (s : Stated). formatFor s perf) (c .before .before .before .before .stated .given .1)
+    ∙ ap formatIn (sym (c .before .before .format-at .ensures) ∙ c .enum-told2 .given .1))
+
+returns-4 : tie.Need-returns-4
+returns-4 c =
+    let perf = c .before .before .before .before .before .before .before .args .perf in
+    sym (ap (λ (s : Stated). formatFor s perf) (c .before .before .before .before .before .stated .given .1)
+    ∙ ap formatIn (sym (c .before .before .before .format-at .ensures) ∙ c .before .filmed .given .1))
+
+pub format-for-spec : {M : Type 1} → statement M
+format-for-spec =
+    tie.close
+    (tie.spec
+    enum-known-stated
+    enum-told
+    returns
+    returns-2
+    format-at-requires
+    enum-known-filmed
+    enum-told-2
+    returns-3
+    returns-4)

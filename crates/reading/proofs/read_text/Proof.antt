@@ -1,0 +1,81 @@
+-- `reading::read_text` meets its contract: its tests are the definition's, in its order, and then the shapes that may be.
+-- Assumes nothing.
+use mathlib.Core.Path.{_≡_, sym, ap, _∙_}
+use mathlib.Core.Bool.{true}
+use borrow.Author.Needs.{needs}
+use borrow.Author.Tests.{not-true, not-false}
+use Rattle.rates.specs.Rates.{isRate}
+use Rattle.reading.specs.declared.Stated.{Stated}
+use Rattle.reading.specs.Shaped.{isStated, shapeOf}
+use Rattle.reading.specs.Reading.{readShaped}
+use Rattle.reading.specs.ReadingLaws.{no-rate, no-format, read-shaped}
+use Rattle.reading.proofs.read_text.Statement.{statement}
+use Rattle.reading.proofs.read_text.Tie as tie
+
+is-rate-requires : tie.Need-is-rate-requires
+is-rate-requires c κs = search needs
+
+returns : tie.Need-returns
+returns c =
+    let a = c .before .before .before .args in
+    sym (no-rate (a .text .now) (a .stated) (a .rate) (sym (c .before .is-rate .ensures) ∙ not-true _ (c .if1 .taken)))
+
+rated : (c : tie.Else1) → isRate (c .before .before .before .args .rate) ≡ true
+rated c = sym (c .before .is-rate .ensures) ∙ not-false _ (c .if1 .left)
+
+is-stated-requires : tie.Need-is-stated-requires
+is-stated-requires c κs = search needs
+
+returns-2 : tie.Need-returns-2
+returns-2 c =
+    let first = c .before .before in
+    let a = first .before .before .before .args in
+    sym (no-format (a .text .now) (a .stated) (a .rate) (rated first) (sym (c .before .is-stated .ensures) ∙ not-true _ (c .if2 .taken)))
+
+allowed : (c : tie.Else2) → isStated (c .before .before .before .before .before .args .stated) ≡ true
+allowed c = sym (c .before .is-stated .ensures) ∙ not-false _ (c .if2 .left)
+
+enum-told : tie.Need-enum-told
+enum-told c = search needs
+
+enum-told-2 : tie.Need-enum-told-2
+enum-told-2 c = search needs
+
+label-or-footage-requires : tie.Need-label-or-footage-requires
+label-or-footage-requires c κs = rated (c .before .before .before .before)
+
+returns-3 : tie.Need-returns-3
+returns-3 c =
+    let second = c .before .before .before in
+    let first = second .before .before in
+    let a = first .before .before .before .args in
+    c .label-or-footage .ensures
+    ∙ sym (read-shaped (a .text .now) (a .stated) (a .rate) (rated first) (allowed second)
+    ∙ ap (λ (s : Stated). readShaped (a .rate) s (shapeOf s (a .text .now))) (c .before .enum-told2 .given .1))
+
+only-footage-requires : tie.Need-only-footage-requires
+only-footage-requires c κs = search needs
+
+returns-4 : tie.Need-returns-4
+returns-4 c =
+    let second = c .before .before .before in
+    let first = second .before .before in
+    let a = first .before .before .before .args in
+    c .only-footage .ensures (a .rate)
+    ∙ sym (read-shaped (a .text .now) (a .stated) (a .rate) (rated first) (allowed second)
+    ∙ ap (λ (s : Stated). readShaped (a .rate) (a .stated) (shapeOf s (a .text .now))) (c .before .enum-told .given .1))
+
+pub read-text-spec : {M : Type 1} → statement M
+read-text-spec =
+    tie.close
+    (tie.spec
+    is-rate-requires
+    returns
+    is-stated-requires
+    returns-2
+    enum-told
+    enum-told-2
+    label-or-footage-requires
+    returns-3
+    only-footage-requires
+    returns-4)

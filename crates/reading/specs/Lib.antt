@@ -1,0 +1,5 @@
+pub mod Answer
+pub mod Shaped
+pub mod Reading
+pub mod ReadingLaws
+pub mod Statements

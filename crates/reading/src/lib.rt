@@ -1,0 +1,171 @@
+// A text read as a count at a rate: that of a label or of a footage, but with a stated film format only of a footage.
+// Refuses 6: no such rate or film format; 1: no shape; 2: a field of over 9 digits; 4: a perf field with a stated format that has
+// none; 3: a dropped label; 5: the count is out of bounds; in this order.
+ghost use mathlib.Core.Path.{_≡_};
+ghost use mathlib.Core.Bool.{true};
+ghost use Prim.Native.Nat.{ℕ, _<_, _^_};
+ghost use Rattle.rates.specs.Rates.{isRate};
+ghost use Rattle.labels.specs.Label.{Short};
+ghost use Rattle.footage_text.specs.Footage.{footageScan};
+ghost use Rattle.reading.specs.Answer.{asLabel, asFootage};
+ghost use Rattle.reading.specs.Shaped.{isStated, formatFor, footageShaped, shapeOf};
+ghost use Rattle.reading.specs.Reading.{takesPerf, labelRead, footageRead, readShaped, readText};
+use answers::Counted;
+use answers::Refusal;
+use film::FilmFormat;
+use film::Filmed;
+use footage_text::FootageScan;
+use label_text::Verdict;
+
+// The film format that is stated, by its number, or that none is.
+pub enum Stated {
+    Nothing,
+    Format(u64),
+}
+
+// What a text reads as: a label's count, a footage's count and film format, or why it is neither.
+pub enum Read {
+    Label(i64),
+    Footage(i64, FilmFormat),
+    Refused(Refusal),
+}
+
+// A count as the answer to a label.
+fn as_label(counted: Counted) -> Read
+    ensures answer { λ r. ⌜ r ≡ asLabel counted ⌝ }
+{
+    match counted {
+        Counted::Count(z) => Read::Label(z),
+        Counted::Refused(e) => Read::Refused(e),
+    }
+}
+
+// A count as the answer to a footage.
+fn as_footage(format: FilmFormat, counted: Counted) -> Read
+    ensures answer { λ r. ⌜ r ≡ asFootage format counted ⌝ }
+{
+    match counted {
+        Counted::Count(z) => Read::Footage(z, format),
+        Counted::Refused(e) => Read::Refused(e),
+    }
+}
+
+// Whether what is stated is no number, or that of a film format.
+fn is_stated(stated: Stated) -> bool
+    ensures answer { λ r. ⌜ r ≡ isStated stated ⌝ }
+{
+    let Stated::Format(n) = stated else {
+        return true;
+    };
+    let filmed = film::format_at(n);
+    let Filmed::Format(_) = filmed else {
+        return false;
+    };
+    true
+}
+
+// The film format of a footage: the stated one, or that which the perf field chooses.
+fn format_for(stated: Stated, perf: bool) -> FilmFormat
+    ensures answer { λ r. ⌜ r ≡ formatFor stated perf ⌝ }
+{
+    let Stated::Format(n) = stated else {
+        if perf {
+            return FilmFormat::FF35mm3perf;
+        }
+        return FilmFormat::FF35mm4perf;
+    };
+    let filmed = film::format_at(n);
+    let Filmed::Format(format) = filmed else {
+        return FilmFormat::FF35mm4perf;
+    };
+    format
+}
+
+// Whether a footage of this format may have the perf field that it has, or has none.
+fn takes_perf(format: FilmFormat, perf: bool) -> bool
+    ensures answer { λ r. ⌜ r ≡ takesPerf format perf ⌝ }
+{
+    if !perf {
+        return true;
+    }
+    format.allows_perf_field()
+}
+
+// The answer to a label's sign and fields. Asks a rate, and fields of at most 9 digits.
+fn read_label(rate: u64, minus: bool, fields: [u64; 4]) -> Read
+    requires rate { ⌜ isRate rate ≡ true ⌝ }
+    requires fields { ⌜ Short fields ⌝ }
+    ensures answer { λ r. ⌜ r ≡ labelRead rate minus fields ⌝ }
+{
+    let d = rates::drop_frames_per_minute(rate);
+    if labels::is_dropped(fields, d) {
+        return Read::Refused(answers::DROPPED_LABEL);
+    }
+    let row = rates::row(rate);
+    let count = labels::label_count(fields, row.timebase, d);
+    as_label(answers::held(minus, count))
+}
+
+// The answer to a footage's format, sign and fields. Asks fields of at most 9 digits.
+fn read_footage(format: FilmFormat, minus: bool, feet: u64, frames: u64, perf: bool) -> Read
+    requires fields { ⌜ (feet < 10 ^ 9) × (frames < 10 ^ 9) ⌝ }
+    ensures answer { λ r. ⌜ r ≡ footageRead format minus feet frames perf ⌝ }
+{
+    if !takes_perf(format, perf) {
+        return Read::Refused(answers::NO_PERF_FIELD);
+    }
+    let count = film::footage_count(format, feet, frames);
+    as_footage(format, answers::held(minus, count))
+}
+
+// The answer to a text that can be a footage only; it is the same at every rate.
+fn only_footage(text: &[u8], stated: Stated) -> Read
+    ensures answer { λ r. ⌜ ((rate : ℕ) → r ≡ readShaped rate stated (footageShaped (footageScan (now (text .entry))))) ⌝ }
+{
+    let scan = footage_text::scan_footage(text);
+    match scan {
+        FootageScan::Footage {
+            minus,
+            feet,
+            frames,
+            perf,
+        } => {
+            let format = format_for(stated, perf);
+            read_footage(format, minus, feet, frames, perf)
+        }
+        FootageScan::Refused(e) => Read::Refused(e),
+    }
+}
+
+// The answer to a text that is a label, or else can be a footage. Asks a rate.
+fn label_or_footage(text: &[u8], rate: u64) -> Read
+    requires rate { ⌜ isRate rate ≡ true ⌝ }
+    ensures answer { λ r. ⌜ r ≡ readShaped rate Stated.Nothing (shapeOf Stated.Nothing (now (text .entry))) ⌝ }
+{
+    let scan = label_text::scan_label(text);
+    let verdict = scan.verdict;
+    let Verdict::Refused(e) = verdict else {
+        let fields = scan.fields;
+        return read_label(rate, scan.minus, fields);
+    };
+    if e.number == 1 {
+        return only_footage(text, Stated::Nothing);
+    }
+    Read::Refused(e)
+}
+
+// What a text reads as at a rate (vtc's `parse_timecode_string` and `parse_feet_and_frames_str`).
+pub fn read_text(text: &[u8], stated: Stated, rate: u64) -> Read
+    ensures answer { λ r. ⌜ r ≡ readText (now (text .entry)) stated rate ⌝ }
+{
+    if !rates::is_rate(rate) {
+        return Read::Refused(answers::NO_SUCH);
+    }
+    if !is_stated(stated) {
+        return Read::Refused(answers::NO_SUCH);
+    }
+    let Stated::Format(_) = stated else {
+        return label_or_footage(text, rate);
+    };
+    only_footage(text, stated)
+}

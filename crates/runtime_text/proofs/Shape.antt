@@ -1,0 +1,137 @@
+-- A text of the shape gives what its parts say, and one that is not refused 1 has the shape.
+-- Assumes nothing.
+use Prim.Native.Nat.{ℕ}
+use mathlib.Core.Path.{_≡_, refl, sym, ap, _∙_, subst}
+use mathlib.Core.Logic.{_⊎_, inl, inr, ⊎-elim}
+use mathlib.Core.List.{List, [], _∷_, _++_, map, append-nil, append-assoc}
+use mathlib.Core.Bool.{Bool, true, false, or-false}
+use lib.ListN.{length}
+use borrow.Author.Tests.{eqb-true}
+use Rattle.digits.specs.Digits.{IsField, fieldValue, firstIs, digitFirst}
+use Rattle.answers.specs.Refusals.{noShape}
+use Rattle.scanner.specs.Scan.{isByte}
+use Rattle.scanner.specs.Then.{byteThen, endOr, keepAll}
+use Rattle.scanner.specs.Shapes.{Signed, plain, minus, Fields, last, more}
+use Rattle.scanner.proofs.Then.{field-last, begun, passing, byte-not}
+use Rattle.scanner.proofs.Signed.{field-begins, signed-complete, signed-sound}
+use Rattle.scanner.proofs.Fields.{apart-byte, fields-complete, divided}
+use Rattle.runtime_text.specs.declared.RuntimeScan.{RuntimeScan}
+use Rattle.runtime_text.specs.declared.Kept.{Kept}
+use Rattle.runtime_text.specs.Shape.{Fraction, absent, present, RuntimeParts, parts, RuntimeFields, whole, pointed, RuntimeShape, rightJustified, inMillionths, fieldsLong, someLong}
+use Rattle.runtime_text.specs.Runtime.{fits, refused, unlessLong, nothing, keep, ended, afterFraction, fractionScan, afterFields, fieldsScan, runtimeScan}
+use Rattle.runtime_text.proofs.Justified.{keptOf, keep-nothing}
+
+-- what a text gives that consists of these parts
+abbrev pub fractionRead : Fraction → ℕ
+fractionRead absent = 0
+fractionRead (present d) = inMillionths (fieldValue d) (length d)
+
+abbrev pub scanned : RuntimeParts → RuntimeScan
+scanned p = fits (p .minus) (rightJustified (map fieldValue (p .fields))) (fractionRead (p .fraction))
+
+abbrev pub readAs : RuntimeParts → RuntimeScan
+readAs p = unlessLong (someLong p) (scanned p)
+
+-- ---- a text of the shape
+-- fields, and a rest that begins with no digit and no `:`
+fields-then : (m : Bool) (l r : List ℕ) (ds : List (List ℕ)) → digitFirst r ≡ false → firstIs (isByte 58) r ≡ false → Fields (isByte 58) 3 l ds
+    → fieldsScan m (l ++ r) ≡ afterFields m (keptOf ds) r
+fields-then m l r ds stops ends t =
+    fields-complete (isByte 58) (refused noShape) keep (afterFields m) (apart-byte 58 refl) r stops ends 3 nothing l ds t
+    ∙ ap (λ (k : Kept). afterFields m k r) (keep-nothing ds)
+
+fields-read : (m : Bool) (l : List ℕ) (p : RuntimeParts) → RuntimeFields m l p → fieldsScan m l ≡ readAs p
+unfolding byteThen endOr
+fields-read m l p (whole {fields = ds} t) =
+    ap (fieldsScan m) (sym (append-nil l))
+    ∙ fields-then m l [] ds refl refl t
+    ∙ ap (λ (long : Bool). unlessLong long (fits m (rightJustified (map fieldValue ds)) 0)) (sym (or-false (fieldsLong ds)))
+fields-read m l p (pointed {l = k} {fraction = f} {fields = ds} t i) =
+    fields-then m k (46 ∷ f) ds refl refl t ∙ field-last (refused noShape) (afterFraction m (keptOf ds)) f i
+
+-- fields do not begin with `-`
+no-sign : (k : ℕ) (l r : List ℕ) (ds : List (List ℕ)) → Fields (isByte 58) k l ds → firstIs (isByte 45) (l ++ r) ≡ false
+no-sign k l r ds (last {d = d} f) = field-begins 45 d r refl f
+no-sign k l r ds (more {c = c} {d = d} {l = m} f e t) =
+    ap (firstIs (isByte 45)) (append-assoc d (c ∷ m) r) ∙ field-begins 45 d (c ∷ (m ++ r)) refl f
+
+pub fields-first : (m : Bool) (l : List ℕ) (p : RuntimeParts) → RuntimeFields m l p → firstIs (isByte 45) l ≡ false
+fields-first m l p (whole {fields = ds} t) = ap (firstIs (isByte 45)) (sym (append-nil l)) ∙ no-sign 3 l [] ds t
+fields-first m l p (pointed {l = k} {fraction = f} {fields = ds} t i) = no-sign 3 k (46 ∷ f) ds t
+
+-- ---- a text that is not refused 1
+-- after `.` digits up to the end
+module _ (m : Bool) (kept : Kept) where
+  fraction-by : (l d r : List ℕ) → IsField d → d ++ r ≡ l → fractionScan m kept l ≡ afterFraction m kept (fieldValue d) (length d) r
+      → (fractionScan m kept l ≡ refused noShape) ⊎ IsField l
+  unfolding endOr
+  fraction-by l d [] i w g = inr (subst IsField (sym (append-nil d) ∙ w) i)
+  fraction-by l d (c ∷ r) i w g = inl g
+
+  fraction-found : (l : List ℕ) → (fractionScan m kept l ≡ refused noShape) ⊎ IsField l
+  fraction-found l =
+      ⊎-elim inl (λ b. fraction-by l (b .field) (b .rest) (b .is) (b .all) (b .gives)) (begun (refused noShape) (afterFraction m kept) l)
+
+-- the text l begins with the fields ds
+module _ (m : Bool) (l k : List ℕ) (ds : List (List ℕ)) (t : Fields (isByte 58) 3 k ds) (kept : Kept) where
+  abbrev Found : Type 0
+  Found = (fieldsScan m l ≡ refused noShape) ⊎ ((p : RuntimeParts) × RuntimeFields m l p)
+
+  -- without a fraction
+  found-whole : (r : List ℕ) → k ++ r ≡ l → fieldsScan m l ≡ ended (kept .long) (fits m (kept .fields) 0) r → Found
+  unfolding endOr
+  found-whole [] w g =
+      inr (parts m ds absent, subst (λ (x : List ℕ). RuntimeFields m x (parts m ds absent)) (sym (append-nil k) ∙ w) (whole t))
+  found-whole (c ∷ r) w g = inl g
+
+  -- with one
+  found-pointed : (c : ℕ) (q r : List ℕ) → isByte 46 c ≡ true → c ∷ q ≡ r → k ++ r ≡ l → fieldsScan m l ≡ fractionScan m kept q → Found
+  found-pointed c q r e p w g =
+      let a : k ++ 46 ∷ q ≡ l = ap (λ (x : ℕ). k ++ x ∷ q) (sym (eqb-true c 46 e)) ∙ ap (λ (x : List ℕ). k ++ x) p ∙ w in
+      let s = parts m ds (present q) in
+      ⊎-elim (λ z. inl (g ∙ z)) (λ i. inr (s, subst (λ (x : List ℕ). RuntimeFields m x s) a (pointed t i))) (fraction-found m kept q)
+
+  found-by : (r : List ℕ) → k ++ r ≡ l → fieldsScan m l ≡ afterFields m kept r → Found
+  found-by r w g =
+      let none = ended (kept .long) (fits m (kept .fields) 0) r in
+      ⊎-elim
+      (λ n. found-whole r w (g ∙ byte-not (isByte 46) none (fractionScan m kept) r n))
+      (λ p. found-pointed (p .byte) (p .rest) r (p .passes) (p .all) w (g ∙ p .gives))
+      (passing (isByte 46) none (fractionScan m kept) r)
+
+-- a text that reads as g since it consists of parts for it
+pub record Reads (m : Bool) (l : List ℕ) (g : RuntimeScan) : Type 0 where
+  pub parts : RuntimeParts
+  pub shape : RuntimeFields m l parts
+  pub gives : readAs parts ≡ g
+
+fields-found : (m : Bool) (l : List ℕ) → (fieldsScan m l ≡ refused noShape) ⊎ Reads m l (fieldsScan m l)
+fields-found m l =
+    ⊎-elim inl
+    (λ d. ⊎-elim inl
+    (λ f. inr record { parts = f .0; shape = f .1; gives = sym (fields-read m l (f .0) (f .1)) })
+    (found-by m l (d .front) (d .fields) (d .shape) (keepAll keep nothing (d .fields)) (d .rest) (d .all) (d .gives)))
+    (divided (isByte 58) (refused noShape) keep (afterFields m) 3 nothing l)
+
+-- ---- the sign
+signed-reads : (l : List ℕ) (p : RuntimeParts) → RuntimeShape l p → Signed Reads l (readAs p)
+signed-reads l p (plain t) = plain record { parts = p; shape = t; gives = refl }
+signed-reads l p (minus t) = minus record { parts = p; shape = t; gives = refl }
+
+-- a text of the shape gives what its parts say
+pub runtime-given : (l : List ℕ) (p : RuntimeParts) → RuntimeShape l p → runtimeScan l ≡ readAs p
+unfolding runtimeScan
+runtime-given l p shape =
+    signed-complete Reads fieldsScan
+    (λ k g r. fields-first false k (r .parts) (r .shape))
+    (λ m k g r. fields-read m k (r .parts) (r .shape) ∙ r .gives)
+    l (readAs p) (signed-reads l p shape)
+
+-- and one that is not refused 1 has the shape
+shaped : (l : List ℕ) (g : RuntimeScan) → Signed Reads l g → (p : RuntimeParts) × RuntimeShape l p
+shaped l g (plain r) = (r .parts, plain (r .shape))
+shaped l g (minus r) = (r .parts, minus (r .shape))
+
+pub runtime-found : (l : List ℕ) → (runtimeScan l ≡ refused noShape) ⊎ ((p : RuntimeParts) × RuntimeShape l p)
+unfolding runtimeScan
+runtime-found l = ⊎-elim inl (λ s. inr (shaped l (runtimeScan l) s)) (signed-sound Reads fieldsScan (refused noShape) fields-found l)
