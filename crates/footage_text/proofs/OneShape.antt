@@ -8,7 +8,7 @@ use lib.ListN.{drop}
 use Rattle.digits.specs.Digits.{IsField, span, leading}
 use Rattle.digits.proofs.Runs.{leading-run, after-run}
 use Rattle.scanner.specs.Then.{signThen}
-use Rattle.scanner.proofs.Shapes.{signed-complete}
+use Rattle.scanner.proofs.Signed.{signed-complete}
 use Rattle.footage_text.specs.Shape.{PerfField, absent, present, FootageParts, parts, FootageFields, whole, marked, FootageShape}
 use Rattle.footage_text.specs.Statements.{OneFootageShape}
 use Rattle.footage_text.proofs.Shape.{fields-first}

@@ -12,7 +12,7 @@ use Rattle.scanner.specs.Scan.{isByte}
 use Rattle.scanner.specs.Then.{byteThen, endOr}
 use Rattle.scanner.specs.Shapes.{Signed, plain, minus}
 use Rattle.scanner.proofs.Then.{field-run, field-last, begun, passing, byte-not}
-use Rattle.scanner.proofs.Shapes.{field-begins, signed-complete, signed-sound}
+use Rattle.scanner.proofs.Signed.{field-begins, signed-complete, signed-sound}
 use Rattle.footage_text.specs.declared.FootageScan.{FootageScan}
 use Rattle.footage_text.specs.declared.FootageScan.the-variants.{Footage}
 use Rattle.footage_text.specs.Shape.{FootageParts, FootageFields, whole, marked, FootageShape, absent, present, parts, hasPerf, isLong, someLong}

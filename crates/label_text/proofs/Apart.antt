@@ -9,7 +9,8 @@ use Rattle.answers.specs.Refusals.{noShape}
 use Rattle.scanner.specs.Scan.{isDivider}
 use Rattle.scanner.specs.Then.{signBy, signThen, keepAll}
 use Rattle.scanner.specs.Shapes.{last}
-use Rattle.scanner.proofs.Shapes.{field-begins, fields-complete}
+use Rattle.scanner.proofs.Signed.{field-begins}
+use Rattle.scanner.proofs.Fields.{fields-complete}
 use Rattle.label_text.specs.Shape.{signed}
 use Rattle.label_text.specs.Label.{refused, nothing, keep, ended, fieldsScan, labelScan}
 use Rattle.label_text.proofs.Steps.{ended-more}

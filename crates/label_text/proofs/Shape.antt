@@ -12,7 +12,8 @@ use Rattle.answers.specs.Refusals.{noShape}
 use Rattle.scanner.specs.Scan.{isByte, isDivider}
 use Rattle.scanner.specs.Then.{keepAll}
 use Rattle.scanner.specs.Shapes.{Signed, plain, minus, Fields, last, more}
-use Rattle.scanner.proofs.Shapes.{field-begins, signed-complete, signed-sound, fields-complete, divided}
+use Rattle.scanner.proofs.Signed.{field-begins, signed-complete, signed-sound}
+use Rattle.scanner.proofs.Fields.{fields-complete, divided}
 use Rattle.label_text.specs.declared.LabelScan.{LabelScan}
 use Rattle.label_text.specs.Shape.{label, LabelShape, rightJustified, someLong}
 use Rattle.label_text.specs.Label.{fits, refused, unlessLong, nothing, keep, judged, ended, fieldsScan, labelScan}

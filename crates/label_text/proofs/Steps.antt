@@ -12,7 +12,8 @@ use Rattle.scanner.specs.declared.Field.the-variants.{Digits}
 use Rattle.scanner.specs.declared.Passed.the-variants.{Next, Other}
 use Rattle.scanner.specs.Scan.{cursor, fieldOf, pastIf, isByte, isDivider, isEnd}
 use Rattle.scanner.specs.Then.{afterField, signThen}
-use Rattle.scanner.proofs.Then.{fields-some, byte-other, byte-next, end-yes, end-no, sign-minus, sign-plain}
+use Rattle.scanner.proofs.Fields.{fields-some}
+use Rattle.scanner.proofs.Then.{byte-other, byte-next, end-yes, end-no, sign-minus, sign-plain}
 use Rattle.label_text.specs.declared.Kept.{Kept}
 use Rattle.label_text.specs.Label.{refused, shift, keep, judged, ended, fieldsFrom, fieldsScan, labelScan}
 

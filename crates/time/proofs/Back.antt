@@ -5,7 +5,6 @@ use mathlib.Core.Path.{_≡_, sym, _∙_, ap}
 use mathlib.Core.Bool.{true}
 use native.Mathlib.Nat.{mul-comm, mul-le-mul}
 use native.Mathlib.Omega.{arith}
-use borrow.Author.Tests.{leb-true}
 use lib.IntN.{ℤ, pos, natAbs, _*ℤ_}
 use Rattle.numbers.specs.DistanceLaws.{abs-product}
 use Rattle.numbers.specs.Lowest.{Lowest}
@@ -17,6 +16,7 @@ use Rattle.time.specs.BoundsLaws.{is-fraction}
 use Rattle.time.specs.LeastLaws.{lowest-le}
 use Rattle.time.specs.MultipleLaws.{mul-twice, mul-cancel}
 use Rattle.time.specs.Instant.{secondTicks, frameTicks, instant, Bounded}
+use Rattle.time.specs.InstantLaws.{count-most}
 use Rattle.time.specs.Seconds.{InSeconds}
 
 module _ (tc : Timecode) (p : ℤ) (q : ℕ) (b : Bounded tc) (x : InSeconds (instant tc) p q) where
@@ -54,6 +54,6 @@ module _ (tc : Timecode) (p : ℤ) (q : ℕ) (b : Bounded tc) (x : InSeconds (in
   seconds-within =
       let row = sound (tc .rate) (b .rate) in
       let least = lowest-le _ _ _ _ (row .numerator-pos) by-frames in
-      let most = mul-le-mul (leb-true (natAbs (tc .count)) 400000000 (b .count)) (row .denominator-most) in
+      let most = mul-le-mul (count-most tc b) (row .denominator-most) in
       is-fraction 1000000000000 p q
       (record { top = omega (arith, most, least .0); least = x .lowest .positive; bottom = omega (arith, least .1, row .numerator-most) })

@@ -1,4 +1,4 @@
--- Bounds of an instant: two such add up below 2 ^ 63.
+-- Bounds of a count and of its instant: two instants add up below 2 ^ 63.
 -- Assumes nothing.
 use Prim.Native.Nat.{ℕ, _≤_, _<_}
 use mathlib.Core.Path.{_≡_}
@@ -16,8 +16,11 @@ use Rattle.time.specs.Instant.{frameTicks, instant, Bounded}
 pub frame-pos : (rate : ℕ) → isRate rate ≡ true → 0 < frameTicks rate
 frame-pos rate h = omega (arith, sound rate h .ticks-least)
 
+pub count-most : (tc : Timecode) → Bounded tc → natAbs (tc .count) ≤ 400000000
+count-most tc h = leb-true (natAbs (tc .count)) 400000000 (h .count)
+
 pub instant-most : (tc : Timecode) → Bounded tc → natAbs (instant tc) ≤ 4237833600000000000
 unfolding instant
 instant-most tc h =
     rw (abs-product (tc .count) (pos (frameTicks (tc .rate))))
-    (instant-le (tc .rate) (natAbs (tc .count)) (h .rate) (leb-true (natAbs (tc .count)) 400000000 (h .count)))
+    (instant-le (tc .rate) (natAbs (tc .count)) (h .rate) (count-most tc h))

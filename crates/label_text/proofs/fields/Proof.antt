@@ -5,7 +5,7 @@ use borrow.Author.Needs.{needs}
 use lib.ListN.{drop}
 use Rattle.answers.specs.Refusals.{noShape}
 use Rattle.scanner.specs.Scan.{isDivider}
-use Rattle.scanner.proofs.Then.{fields-over, fields-none}
+use Rattle.scanner.proofs.Fields.{fields-over, fields-none}
 use Rattle.label_text.specs.Label.{refused, keep, ended, fieldsFrom, fieldsScan}
 use Rattle.label_text.proofs.Steps.{last-taken, next-taken}
 use Rattle.label_text.proofs.fields.Statement.{statement}

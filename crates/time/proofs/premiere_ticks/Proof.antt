@@ -22,16 +22,20 @@ returns : tie.Need-returns
 unfolding ticksOf
 returns c = simp (fails (c .before .is-rate .ensures) (c .if1 .taken))
 
-rated : (c : tie.Else1) → isRate (c .before .before .args .tc .rate) ≡ true
+-- behind the rate's test
+abbrev start1 : tie.Else1 → tie.Start
+start1 c = c .before .before
+
+rated : (c : tie.Else1) → isRate (start1 c .args .tc .rate) ≡ true
 rated c = passes (c .before .is-rate .ensures) (c .if1 .left)
 
 is-count-requires : tie.Need-is-count-requires
 is-count-requires c κs = search needs
 
 -- what the test told is of the count itself
-told : (c : tie.After-is-count) → c .is-count .result ≡ isCount (c .before .before .before .before .args .tc .count)
+told : (c : tie.After-is-count) → c .is-count .result ≡ isCount (start1 (c .before .before) .args .tc .count)
 told c =
-    let count = c .before .before .before .before .args .tc .count in
+    let count = start1 (c .before .before) .args .tc .count in
     let back : toZ w64 (ofZ w64 count) ≡ count = search needs in
     c .is-count .ensures ∙ ap isCount back
 
@@ -39,7 +43,11 @@ returns-2 : tie.Need-returns-2
 unfolding ticksOf
 returns-2 c = simp (rated (c .before .before .before), fails (told (c .before)) (c .if2 .taken))
 
-bounded : (c : tie.Else2) → Bounded (c .before .before .before .before .before .args .tc)
+-- behind the count's test
+abbrev start2 : tie.Else2 → tie.Start
+start2 c = start1 (c .before .before .before)
+
+bounded : (c : tie.Else2) → Bounded (start2 c .args .tc)
 bounded c =
     record { rate = rated (c .before .before .before); count = passes (told (c .before)) (c .if2 .left) }
 

@@ -29,16 +29,20 @@ returns : tie.Need-returns
 unfolding SecondsOf
 returns c = simp (fails (c .before .is-rate .ensures) (c .if1 .taken))
 
-rated : (c : tie.Else1) → isRate (c .before .before .args .tc .rate) ≡ true
+-- behind the rate's test
+abbrev start1 : tie.Else1 → tie.Start
+start1 c = c .before .before
+
+rated : (c : tie.Else1) → isRate (start1 c .args .tc .rate) ≡ true
 rated c = passes (c .before .is-rate .ensures) (c .if1 .left)
 
 is-count-requires : tie.Need-is-count-requires
 is-count-requires c κs = search needs
 
 -- what the test told is of the count itself
-told : (c : tie.After-is-count) → c .is-count .result ≡ isCount (c .before .before .before .before .args .tc .count)
+told : (c : tie.After-is-count) → c .is-count .result ≡ isCount (start1 (c .before .before) .args .tc .count)
 told c =
-    let count = c .before .before .before .before .args .tc .count in
+    let count = start1 (c .before .before) .args .tc .count in
     let back : toZ w64 (ofZ w64 count) ≡ count = search needs in
     c .is-count .ensures ∙ ap isCount back
 
@@ -46,7 +50,11 @@ returns-2 : tie.Need-returns-2
 unfolding SecondsOf
 returns-2 c = simp (rated (c .before .before .before), fails (told (c .before)) (c .if2 .taken))
 
-bounded : (c : tie.Else2) → Bounded (c .before .before .before .before .before .args .tc)
+-- behind the count's test
+abbrev start2 : tie.Else2 → tie.Start
+start2 c = start1 (c .before .before .before)
+
+bounded : (c : tie.Else2) → Bounded (start2 c .args .tc)
 bounded c =
     record { rate = rated (c .before .before .before); count = passes (told (c .before)) (c .if2 .left) }
 
@@ -55,7 +63,7 @@ instant-of-requires c κs = bounded c
 
 -- the ticks, as the machine reads them
 ticks-is : (c : tie.After-instant-of)
-    → toZ w64 (ofZ w64 (c .instant-of .result)) ≡ instant (c .before .before .before .before .before .before .args .tc)
+    → toZ w64 (ofZ w64 (c .instant-of .result)) ≡ instant (start2 (c .before) .args .tc)
 ticks-is c = toZ-ofZ (record { sfits = c .instant-of .ok }) ∙ c .instant-of .ensures
 
 magnitude-requires : tie.Need-magnitude-requires
@@ -66,7 +74,7 @@ lowest-requires c κs = search needs
 
 -- the fraction that the call gave is that of the instant's magnitude
 lowest-is : (c : tie.After-lowest)
-    → Lowest (natAbs (instant (c .before .before .before .before .before .before .before .before .args .tc))) secondTicks (c .lowest .result .num) (c .lowest .result .den)
+    → Lowest (natAbs (instant (start2 (c .before .before .before) .args .tc))) secondTicks (c .lowest .result .num) (c .lowest .result .den)
 lowest-is c =
     subst (λ (m : ℕ). Lowest m secondTicks (c .lowest .result .num) (c .lowest .result .den))
     (c .before .magnitude .ensures ∙ ap natAbs (ticks-is (c .before .before))) (c .lowest .ensures)
@@ -83,7 +91,7 @@ returns-3 : tie.Need-returns-3
 unfolding SecondsOf
 returns-3 c =
     let l = c .before .before in
-    let t = instant (l .before .before .before .before .before .before .before .before .args .tc) in
+    let t = instant (start2 (l .before .before .before) .args .tc) in
     let b = bounded (l .before .before .before) in
     let minus : c .before .below-zero .result ≡ isNeg t = c .before .below-zero .ensures ∙ ap isNeg (ticks-is (l .before .before)) in
     simp (b .rate, b .count)

@@ -29,7 +29,11 @@ returns : tie.Need-returns
 unfolding secondsAt
 returns c = simp (fails (c .before .is-rate .ensures) (c .if1 .taken))
 
-rated : (c : tie.Else1) → isRate (c .before .before .args .rate) ≡ true
+-- behind the rate's test
+abbrev start1 : tie.Else1 → tie.Start
+start1 c = c .before .before
+
+rated : (c : tie.Else1) → isRate (start1 c .args .rate) ≡ true
 rated c = passes (c .before .is-rate .ensures) (c .if1 .left)
 
 is-fraction-requires : tie.Need-is-fraction-requires
@@ -37,30 +41,34 @@ is-fraction-requires c κs = search needs
 
 -- what the test told is of p itself
 told : (c : tie.After-is-fraction)
-    → c .is-fraction .result ≡ isSeconds (c .before .before .before .args .p) (c .before .before .before .args .q)
+    → c .is-fraction .result ≡ isSeconds (start1 (c .before) .args .p) (start1 (c .before) .args .q)
 told c =
-    let s = c .before .before .before in
+    let s = start1 (c .before) in
     c .is-fraction .ensures ∙ ap (λ (z : ℤ). isSeconds z (s .args .q)) (toZ-ofZ (s .fits .p))
 
 returns-2 : tie.Need-returns-2
 unfolding secondsAt
 returns-2 c = simp (rated (c .before .before), fails (told (c .before)) (c .if2 .taken))
 
-fraction : (c : tie.Else2) → isSeconds (c .before .before .before .before .args .p) (c .before .before .before .before .args .q) ≡ true
+-- behind the fraction's test
+abbrev start2 : tie.Else2 → tie.Start
+start2 c = start1 (c .before .before)
+
+fraction : (c : tie.Else2) → isSeconds (start2 c .args .p) (start2 c .args .q) ≡ true
 fraction c = passes (told (c .before)) (c .if2 .left)
 
-within : (c : tie.Else2) → Fraction 1000000000000 (c .before .before .before .before .args .p) (c .before .before .before .before .args .q)
+within : (c : tie.Else2) → Fraction 1000000000000 (start2 c .args .p) (start2 c .args .q)
 within c =
-    let s = c .before .before .before .before in
+    let s = start2 c in
     fraction-is 1000000000000 (s .args .p) (s .args .q) (fraction c)
 
 row-requires : tie.Need-row-requires
 row-requires c κs = rated (c .before .before)
 
-numerator-is : (c : tie.After-row) → c .row .result .numerator ≡ rateRow (c .before .before .before .before .before .args .rate) .numerator
+numerator-is : (c : tie.After-row) → c .row .result .numerator ≡ rateRow (start2 (c .before) .args .rate) .numerator
 numerator-is c = ap (λ (r : Framerate). r .numerator) (c .row .ensures)
 
-denominator-is : (c : tie.After-row) → c .row .result .denominator ≡ rateRow (c .before .before .before .before .before .args .rate) .denominator
+denominator-is : (c : tie.After-row) → c .row .result .denominator ≡ rateRow (start2 (c .before) .args .rate) .denominator
 denominator-is c = ap (λ (r : Framerate). r .denominator) (c .row .ensures)
 
 with-sign-requires : tie.Need-with-sign-requires
@@ -68,11 +76,11 @@ with-sign-requires c κs = omega (arith, numerator-is c, sound _ (rated (c .befo
 
 -- the operands of the product, as the machine reads them
 p-is : (c : tie.After-with-sign)
-    → toZ w64 (ofZ w64 (c .before .before .before .before .before .before .args .p)) ≡ c .before .before .before .before .before .before .args .p
-p-is c = toZ-ofZ (c .before .before .before .before .before .before .fits .p)
+    → toZ w64 (ofZ w64 (start2 (c .before .before) .args .p)) ≡ start2 (c .before .before) .args .p
+p-is c = toZ-ofZ (start2 (c .before .before) .fits .p)
 
 top-is : (c : tie.After-with-sign)
-    → toZ w64 (ofZ w64 (c .with-sign .result)) ≡ pos (rateRow (c .before .before .before .before .before .before .args .rate) .numerator)
+    → toZ w64 (ofZ w64 (c .with-sign .result)) ≡ pos (rateRow (start2 (c .before .before) .args .rate) .numerator)
 top-is c = toZ-ofZ (record { sfits = c .with-sign .ok }) ∙ c .with-sign .ensures ∙ ap pos (numerator-is (c .before))
 
 product-requires : tie.Need-product-requires
@@ -82,7 +90,7 @@ product-requires c κs =
     (omega (arith, mul-le-mul (within e .top) (sound _ (rated (e .before .before)) .numerator-most)))
 
 bottom-most : (c : tie.After-row)
-    → c .before .before .before .before .before .args .q * c .row .result .denominator ≤ 1000000 * 1001
+    → start2 (c .before) .args .q * c .row .result .denominator ≤ 1000000 * 1001
 bottom-most c =
     rw (denominator-is c) (mul-le-mul (within (c .before) .bottom) (sound _ (rated (c .before .before .before)) .denominator-most))
 
@@ -99,7 +107,7 @@ unfolding secondsAt
 returns-3 c =
     let w = c .before .before .before in
     let r = w .before in
-    let q = r .before .before .before .before .before .args .q in
+    let q = start2 (r .before) .args .q in
     simp (rated (r .before .before .before), fraction (r .before))
     (c .nearest-count .ensures
     ∙ ap₂ (λ (z : ℤ) (d : ℕ). held (nearestZ z (q * d)))

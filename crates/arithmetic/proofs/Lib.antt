@@ -1,0 +1,5 @@
+pub mod Told
+pub mod Orders
+pub mod Joined
+pub mod Statements
+pub mod Determined

@@ -1,0 +1,11 @@
+pub mod Pair
+pub mod PairLaws
+pub mod Sum
+pub mod Product
+pub mod Divisor
+pub mod Truncating
+pub mod Flooring
+pub mod Remainder
+pub mod Compare
+pub mod Count
+pub mod Statements
