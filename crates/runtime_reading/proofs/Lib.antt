@@ -1,0 +1,4 @@
+pub mod Gives
+pub mod Told
+pub mod Statements
+pub mod Determined
