@@ -1,0 +1,237 @@
+-- Demand 1, exactly when: an answer behind a test has the test's number where it fails, and else that of what follows.
+-- Assumes nothing.
+use Prim.Native.Nat.{ℕ, _-_}
+use mathlib.Core.Path.{_≡_, refl, ap, _∙_}
+use mathlib.Core.Bool.{Bool, true, false, cond, not, _||_}
+use mathlib.Core.List.{List, [], _∷_}
+use lib.Dec.{leb}
+use lib.IntN.{ℤ}
+use lib.ListN.{length, getD}
+use Rattle.lent.specs.Line.{fits}
+use Rattle.answers.specs.declared.Refusal.{Refusal}
+use Rattle.answers.specs.declared.Counted.{Counted}
+use Rattle.answers.specs.declared.Counted.the-variants.{Count}
+use Rattle.answers.specs.Refusals.{noSuch, outOfBounds, zeroDivisor, noRoom, isCount, held, orElse, numberOf}
+use Rattle.rates.specs.declared.Timecode.{Timecode}
+use Rattle.rates.specs.declared.Framerate.{Framerate}
+use Rattle.rates.specs.declared.Rated.the-variants as rated-is
+use Rattle.rates.specs.Rates.{isRate, rateRow, rateAt}
+use Rattle.rates.specs.Rates as rated
+use Rattle.rates.specs.Every.{every}
+use Rattle.film.specs.declared.FilmFormat.{FilmFormat}
+use Rattle.film.specs.declared.FilmFormat.the-variants.{FF35mm4perf}
+use Rattle.film.specs.declared.Filmed.{Filmed}
+use Rattle.film.specs.declared.Filmed.the-variants as filmed
+use Rattle.film.specs.Film.{isFormat, formats, formatAt}
+use Rattle.film.specs.Film as film
+use Rattle.reading.specs.Shaped.{formatIn}
+use Rattle.minutes.specs.Minutes.{minuteAt}
+use Rattle.time.specs.declared.Ticked.{Ticked}
+use Rattle.time.specs.declared.Timed.{Timed}
+use Rattle.time.specs.declared.Timed.the-variants as timed-is
+use Rattle.time.specs.Bounds.{isSeconds, isFactor}
+use Rattle.time.specs.Instant.{instant}
+use Rattle.time.specs.Frames.{framesAt, ticksAt, secondsAt}
+use Rattle.time.specs.Ticks.{ticksOf}
+use Rattle.time.specs.Ticks as ticked
+use Rattle.time.specs.Seconds.{OrElse, IsSeconds, SecondsOf}
+use Rattle.time.specs.Seconds as timed
+use Rattle.arithmetic.specs.declared.Paired.{Paired}
+use Rattle.arithmetic.specs.Divisor.{isDivisor}
+use Rattle.arithmetic.specs.Pair.{instantsOf}
+use Rattle.arithmetic.specs.Pair as paired
+use Rattle.arithmetic.specs.Sum.{behind, joined}
+use Rattle.arithmetic.specs.Product.{mulOf}
+use Rattle.arithmetic.specs.Truncating.{divOf, remOf}
+use Rattle.arithmetic.specs.Flooring.{divqOf}
+use Rattle.arithmetic.specs.Remainder.{remqOf}
+use Rattle.arithmetic.specs.Compare.{ordered, compareOf}
+use Rattle.arithmetic.specs.Compare as compared
+use Rattle.arithmetic.specs.Count.{negOf, absOf, rebaseOf}
+use Rattle.chains.specs.declared.Converted.{Converted}
+use Rattle.chains.specs.declared.Converted.the-variants.{At}
+use Rattle.chains.specs.Chain.{timecode, nearestFrame, placed, stepOf, andThen, carried, convertOf}
+use Rattle.chains.specs.Chain as converted
+use Rattle.written.specs.declared.Written.the-variants.{Length, Refused}
+use Rattle.written.specs.Written.{Draft, Text, answerTo}
+use Rattle.written.specs.Written as written
+use Rattle.label_line.specs.declared.Sectioned.{Sectioned}
+use Rattle.label_line.specs.Sections.{sectioned}
+use Rattle.label_line.specs.Sections as fields
+use Rattle.label_line.specs.LabelText.{labelDraft}
+use Rattle.footage_line.specs.FootageText.{countDraft, footageDraft, inFormat}
+use Rattle.runtime_line.specs.RuntimeText.{countDraft as runtimeCount, runtimeDraft}
+use Rattle.promises.specs.When.{leaves, givenBy, RefusedWhen}
+
+-- ---- behind a test, for each kind of answer
+counts : (t : Bool) (e : Refusal) (rest : Counted) (k : ℕ) → numberOf rest ≡ k → numberOf (orElse t e rest) ≡ cond (not t) (e .number) k
+counts true e rest k h = h
+counts false e rest k h = refl
+
+-- the resulting count
+result : (z : ℤ) → numberOf (held z) ≡ cond (not (isCount z)) 5 0
+unfolding held
+result z = counts (isCount z) outOfBounds (Count z) 0 refl
+
+-- two instants, and what is counted by them
+pairs : (f : ℤ → ℤ → Counted) (t : Bool) (e : Refusal) (rest : Paired) (k : ℕ)
+    → numberOf (behind rest f) ≡ k → numberOf (behind (paired.orElse t e rest) f) ≡ cond (not t) (e .number) k
+pairs f true e rest k h = h
+pairs f false e rest k h = refl
+
+orders : (t : Bool) (e : Refusal) (rest : Paired) (k : ℕ)
+    → compared.numberOf (ordered rest) ≡ k → compared.numberOf (ordered (paired.orElse t e rest)) ≡ cond (not t) (e .number) k
+orders true e rest k h = h
+orders false e rest k h = refl
+
+ticks : (t : Bool) (e : Refusal) (rest : Ticked) (k : ℕ)
+    → ticked.numberOf rest ≡ k → ticked.numberOf (ticked.orElse t e rest) ≡ cond (not t) (e .number) k
+ticks true e rest k h = h
+ticks false e rest k h = refl
+
+sections : (t : Bool) (e : Refusal) (rest : Sectioned) (k : ℕ)
+    → fields.numberOf rest ≡ k → fields.numberOf (fields.orElse t e rest) ≡ cond (not t) (e .number) k
+sections true e rest k h = h
+sections false e rest k h = refl
+
+ends : (t : Bool) (e : Refusal) (rest : Converted) (k : ℕ)
+    → converted.numberOf rest ≡ k → converted.numberOf (converted.orElse t e rest) ≡ cond (not t) (e .number) k
+ends true e rest k h = h
+ends false e rest k h = refl
+
+module _ (line : List ℕ) (place : ℕ) where
+  drafts : (t : Bool) (e : Refusal) (rest : Draft) (k : ℕ)
+      → givenBy rest line place ≡ k → givenBy (written.orElse t e rest) line place ≡ cond (not t) (e .number) k
+  unfolding answerTo
+  drafts true e rest k h = h
+  drafts false e rest k h = refl
+
+  -- 8 comes last
+  room : (text : List ℕ) → givenBy (Text text) line place ≡ cond (not (fits line place text)) 8 0
+  unfolding answerTo
+  room text = by (fits line place text)
+    where
+      by : (t : Bool) → written.numberOf (cond t (Length (length text)) (Refused noRoom)) ≡ cond (not t) 8 0
+      by true = refl
+      by false = refl
+
+-- ---- through a list of rates
+-- a step and what comes after it is a test of its count before that
+step-number : (z : ℤ) (next : ℕ) (f : Timecode → Converted) (t : Bool)
+    → converted.numberOf (andThen (placed next (orElse t outOfBounds (Count z))) f)
+    ≡ converted.numberOf (converted.orElse t outOfBounds (f (timecode z next)))
+step-number z next f true = refl
+step-number z next f false = refl
+
+-- behind the test of the start's count
+first-or : (b c : Bool) (k : ℕ) → k ≡ cond c 5 0 → cond (not b) 5 k ≡ cond (not b || c) 5 0
+first-or true c k h = h
+first-or false c k h = refl
+
+steps : (tc : Timecode) (list : List ℕ)
+    → converted.numberOf (converted.orElse (isCount (tc .count)) outOfBounds (carried tc list)) ≡ cond (leaves tc list) 5 0
+unfolding carried stepOf held
+steps tc [] = ends (isCount (tc .count)) outOfBounds (At tc) 0 refl
+steps tc (next ∷ list) =
+    let z = nearestFrame tc next in
+    let after = timecode z next in
+    ends (isCount (tc .count)) outOfBounds (carried tc (next ∷ list)) (cond (leaves after list) 5 0)
+    (step-number z next (λ t. carried t list) (isCount z) ∙ steps after list)
+    ∙ first-or (isCount (tc .count)) (leaves after list) (cond (leaves after list) 5 0) refl
+
+-- ---- of one timecode, and of two
+timecode-number : (tc : Timecode) (rest : Counted) (k : ℕ) → numberOf rest ≡ k
+    → numberOf (orElse (isRate (tc .rate)) noSuch (orElse (isCount (tc .count)) outOfBounds rest))
+    ≡ cond (not (isRate (tc .rate))) 6 (cond (not (isCount (tc .count))) 5 k)
+timecode-number tc rest k h =
+    counts (isRate (tc .rate)) noSuch (orElse (isCount (tc .count)) outOfBounds rest) (cond (not (isCount (tc .count))) 5 k)
+    (counts (isCount (tc .count)) outOfBounds rest k h)
+
+pair-number : (f : ℤ → ℤ → Counted) (a b : Timecode) (k : ℕ) → numberOf (f (instant a) (instant b)) ≡ k
+    → numberOf (behind (instantsOf a b) f)
+    ≡ cond (not (isRate (a .rate))) 6
+    (cond (not (isRate (b .rate))) 6 (cond (not (isCount (a .count))) 5 (cond (not (isCount (b .count))) 5 k)))
+unfolding instantsOf
+pair-number f a b k h =
+    pairs f (isRate (a .rate)) noSuch _ _
+    (pairs f (isRate (b .rate)) noSuch _ _
+    (pairs f (isCount (a .count)) outOfBounds _ _ (pairs f (isCount (b .count)) outOfBounds _ k h)))
+
+-- ---- a film format's number
+module _ (line : List ℕ) (place : ℕ) (count : ℤ) where
+  -- the count is written in the format that a number has
+  formatted : Filmed → ℕ
+  formatted format = givenBy (inFormat format (λ chosen. countDraft chosen count)) line place
+
+  format-by : (t : Bool) (format : FilmFormat) (k : ℕ)
+      → givenBy (countDraft (formatIn (cond t (filmed.Format format) (filmed.Refused noSuch))) count) line place ≡ k
+      → formatted (cond t (filmed.Format format) (filmed.Refused noSuch)) ≡ cond (not t) 6 k
+  unfolding answerTo formatted
+  format-by true format k h = h
+  format-by false format k h = refl
+
+  format-number : (format k : ℕ) → givenBy (countDraft (formatIn (formatAt format)) count) line place ≡ k
+      → givenBy (inFormat (formatAt format) (λ chosen. countDraft chosen count)) line place ≡ cond (not (isFormat format)) 6 k
+  unfolding formatAt formatted
+  format-number format k h = format-by (isFormat format) (getD formats (format - 1) FF35mm4perf) k h
+
+-- ---- a row, and a format
+row-number : (t : Bool) (row : Framerate) → rated.numberOf (cond t (rated-is.Row row) (rated-is.Refused noSuch)) ≡ cond (not t) 6 0
+row-number true row = refl
+row-number false row = refl
+
+format-of : (t : Bool) (format : FilmFormat) → film.numberOf (cond t (filmed.Format format) (filmed.Refused noSuch)) ≡ cond (not t) 6 0
+format-of true format = refl
+format-of false format = refl
+
+-- ---- seconds, whose fraction is told by what it is
+second-number : (tc : Timecode) (r c : Bool) (answer : Timed)
+    → OrElse r noSuch (OrElse c outOfBounds (IsSeconds (instant tc))) answer → timed.numberOf answer ≡ cond (not r) 6 (cond (not c) 5 0)
+second-number tc true true (timed-is.Seconds p q) h = refl
+second-number tc true true (timed-is.Refused e) h = absurd h
+second-number tc true false answer h = ap timed.numberOf h
+second-number tc false c answer h = ap timed.numberOf h
+
+pub refused-when : RefusedWhen
+unfolding sectioned rateAt formatAt labelDraft footageDraft countDraft runtimeDraft runtimeCount framesAt ticksAt secondsAt ticksOf SecondsOf
+    minuteAt joined instantsOf compareOf mulOf divOf remOf divqOf remqOf negOf absOf rebaseOf convertOf
+refused-when = record {
+  write-label =
+      λ tc line place.
+      drafts line place (isRate (tc .rate)) noSuch _ _ (drafts line place (isCount (tc .count)) outOfBounds _ _ (room line place _));
+  write-footage =
+      λ tc format line place.
+      drafts line place (isRate (tc .rate)) noSuch _ _
+      (format-number line place (tc .count) format _ (drafts line place (isCount (tc .count)) outOfBounds _ _ (room line place _)));
+  write-runtime =
+      λ tc precision line place.
+      drafts line place (isRate (tc .rate)) noSuch _ _
+      (drafts line place (isCount (tc .count)) outOfBounds _ _ (drafts line place (leb precision 6) outOfBounds _ _ (room line place _)));
+  sections = λ tc. sections (isRate (tc .rate)) noSuch _ _ (sections (isCount (tc .count)) outOfBounds _ _ refl);
+  with-frames = λ count rate. counts (isRate rate) noSuch _ _ (counts (isCount count) outOfBounds _ _ refl);
+  with-premiere-ticks = λ t rate. counts (isRate rate) noSuch _ _ (result _);
+  with-seconds = λ p q rate. counts (isRate rate) noSuch _ _ (counts (isSeconds p q) outOfBounds _ _ (result _));
+  premiere-ticks = λ tc. ticks (isRate (tc .rate)) noSuch _ _ (ticks (isCount (tc .count)) outOfBounds _ _ refl);
+  seconds = λ tc answer h. second-number tc (isRate (tc .rate)) (isCount (tc .count)) answer h;
+  add = λ a b. pair-number _ a b _ (result _);
+  sub = λ a b. pair-number _ a b _ (result _);
+  cmp =
+      λ a b.
+      orders (isRate (a .rate)) noSuch _ _
+      (orders (isRate (b .rate)) noSuch _ _
+      (orders (isCount (a .count)) outOfBounds _ _ (orders (isCount (b .count)) outOfBounds _ _ refl)));
+  mul = λ tc p q. timecode-number tc _ _ (counts (isFactor p q) outOfBounds _ _ (result _));
+  div = λ tc n. timecode-number tc _ _ (counts (isDivisor n) zeroDivisor _ _ refl);
+  rem = λ tc n. timecode-number tc _ _ (counts (isDivisor n) zeroDivisor _ _ refl);
+  divq =
+      λ tc p q. timecode-number tc _ _ (counts (isFactor p q) outOfBounds _ _ (counts (isDivisor p) zeroDivisor _ _ (result _)));
+  remq =
+      λ tc p q. timecode-number tc _ _ (counts (isFactor p q) outOfBounds _ _ (counts (isDivisor p) zeroDivisor _ _ (result _)));
+  neg = λ tc. timecode-number tc _ _ refl;
+  abs = λ tc. timecode-number tc _ _ refl;
+  rebase = λ tc rate. counts (isRate rate) noSuch _ _ (timecode-number tc _ _ refl);
+  framerate-at = λ rate. row-number (isRate rate) (rateRow rate);
+  format-at = λ format. format-of (isFormat format) (getD formats (format - 1) FF35mm4perf);
+  minute-start = λ minute. counts (leb minute 1439) outOfBounds _ _ refl;
+  convert = λ tc list. ends (isRate (tc .rate)) noSuch _ _ (ends (every isRate list) noSuch _ _ (steps tc list));
+}

@@ -1,0 +1,111 @@
+-- Demand 1, calls: any bytes and any numbers get an answer, and one only; nothing relies on the caller having checked.
+-- Assumes nothing.
+use denote.Triple.Entry.{Args}
+use denote.Triple.Clauses.{Ended}
+use Rattle.outcomes.specs.Outcome.{Times, Asks, Tells, Determined}
+use Rattle.reading.proofs.read_text as read-text
+use Rattle.reading.proofs.read_text.Reads as read-text-reads
+use Rattle.runtime_reading.proofs.read_runtime as read-runtime
+use Rattle.runtime_reading.proofs.read_runtime.Reads as read-runtime-reads
+use Rattle.label_line.proofs.sections as sections
+use Rattle.label_line.proofs.sections.Reads as sections-reads
+use Rattle.label_line.proofs.write_label as write-label
+use Rattle.label_line.proofs.write_label.Reads as write-label-reads
+use Rattle.footage_line.proofs.write_footage as write-footage
+use Rattle.footage_line.proofs.write_footage.Reads as write-footage-reads
+use Rattle.runtime_line.proofs.write_runtime as write-runtime
+use Rattle.runtime_line.proofs.write_runtime.Reads as write-runtime-reads
+use Rattle.time.proofs.with_frames as with-frames
+use Rattle.time.proofs.with_frames.Reads as with-frames-reads
+use Rattle.time.proofs.with_premiere_ticks as with-premiere-ticks
+use Rattle.time.proofs.with_premiere_ticks.Reads as with-premiere-ticks-reads
+use Rattle.time.proofs.with_seconds as with-seconds
+use Rattle.time.proofs.with_seconds.Reads as with-seconds-reads
+use Rattle.time.proofs.premiere_ticks as premiere-ticks
+use Rattle.time.proofs.premiere_ticks.Reads as premiere-ticks-reads
+use Rattle.time.proofs.seconds as seconds
+use Rattle.time.proofs.seconds.Reads as seconds-reads
+use Rattle.arithmetic.proofs.add as add
+use Rattle.arithmetic.proofs.add.Reads as add-reads
+use Rattle.arithmetic.proofs.sub as sub
+use Rattle.arithmetic.proofs.sub.Reads as sub-reads
+use Rattle.arithmetic.proofs.mul as mul
+use Rattle.arithmetic.proofs.mul.Reads as mul-reads
+use Rattle.arithmetic.proofs.div as div
+use Rattle.arithmetic.proofs.div.Reads as div-reads
+use Rattle.arithmetic.proofs.rem as rem
+use Rattle.arithmetic.proofs.rem.Reads as rem-reads
+use Rattle.arithmetic.proofs.divq as divq
+use Rattle.arithmetic.proofs.divq.Reads as divq-reads
+use Rattle.arithmetic.proofs.remq as remq
+use Rattle.arithmetic.proofs.remq.Reads as remq-reads
+use Rattle.arithmetic.proofs.cmp as cmp
+use Rattle.arithmetic.proofs.cmp.Reads as cmp-reads
+use Rattle.arithmetic.proofs.neg as neg
+use Rattle.arithmetic.proofs.neg.Reads as neg-reads
+use Rattle.arithmetic.proofs.abs as abs
+use Rattle.arithmetic.proofs.abs.Reads as abs-reads
+use Rattle.arithmetic.proofs.rebase as rebase
+use Rattle.arithmetic.proofs.rebase.Reads as rebase-reads
+use Rattle.chains.proofs.convert as convert
+use Rattle.chains.proofs.convert.Reads as convert-reads
+use Rattle.answers.proofs.number as answers-number
+use Rattle.answers.proofs.number.Reads as answers-number-reads
+use Rattle.answers.proofs.count as answers-count
+use Rattle.answers.proofs.count.Reads as answers-count-reads
+use Rattle.written.proofs.number as written-number
+use Rattle.written.proofs.number.Reads as written-number-reads
+use Rattle.written.proofs.length as written-length
+use Rattle.written.proofs.length.Reads as written-length-reads
+use Rattle.rates.proofs.framerate_at as framerate-at
+use Rattle.rates.proofs.framerate_at.Reads as framerate-at-reads
+use Rattle.film.proofs.format_at as format-at
+use Rattle.film.proofs.format_at.Reads as format-at-reads
+use Rattle.minutes.proofs.minute_start as minute-start
+use Rattle.minutes.proofs.minute_start.Reads as minute-start-reads
+
+-- what the contract asks of the caller holds of every argument, and any two outcomes that it allows are equal: the answer, and every lent byte.
+-- (That the function ends with such an outcome is its own theorem.)
+pub record Answers (T : Ended) (asks : Asks T) (tells : Tells T) : Type 0 where
+  pub asks-nothing : (κs : Times T) (a : Args (T .signature) κs) → asks κs a
+  pub one-outcome : Determined T asks tells
+
+-- every function that a user calls
+pub record OneAnswer : Type 0 where
+  -- reading
+  pub read-text : Answers read-text.ended read-text-reads.Asked read-text-reads.Learnt
+  pub read-runtime : Answers read-runtime.ended read-runtime-reads.Asked read-runtime-reads.Learnt
+  -- writing
+  pub sections : Answers sections.ended sections-reads.Asked sections-reads.Learnt
+  pub write-label : Answers write-label.ended write-label-reads.Asked write-label-reads.Learnt
+  pub write-footage : Answers write-footage.ended write-footage-reads.Asked write-footage-reads.Learnt
+  pub write-runtime : Answers write-runtime.ended write-runtime-reads.Asked write-runtime-reads.Learnt
+  -- time
+  pub with-frames : Answers with-frames.ended with-frames-reads.Asked with-frames-reads.Learnt
+  pub with-premiere-ticks : Answers with-premiere-ticks.ended with-premiere-ticks-reads.Asked with-premiere-ticks-reads.Learnt
+  pub with-seconds : Answers with-seconds.ended with-seconds-reads.Asked with-seconds-reads.Learnt
+  pub premiere-ticks : Answers premiere-ticks.ended premiere-ticks-reads.Asked premiere-ticks-reads.Learnt
+  pub seconds : Answers seconds.ended seconds-reads.Asked seconds-reads.Learnt
+  -- arithmetic
+  pub add : Answers add.ended add-reads.Asked add-reads.Learnt
+  pub sub : Answers sub.ended sub-reads.Asked sub-reads.Learnt
+  pub mul : Answers mul.ended mul-reads.Asked mul-reads.Learnt
+  pub div : Answers div.ended div-reads.Asked div-reads.Learnt
+  pub rem : Answers rem.ended rem-reads.Asked rem-reads.Learnt
+  pub divq : Answers divq.ended divq-reads.Asked divq-reads.Learnt
+  pub remq : Answers remq.ended remq-reads.Asked remq-reads.Learnt
+  pub cmp : Answers cmp.ended cmp-reads.Asked cmp-reads.Learnt
+  pub neg : Answers neg.ended neg-reads.Asked neg-reads.Learnt
+  pub abs : Answers abs.ended abs-reads.Asked abs-reads.Learnt
+  pub rebase : Answers rebase.ended rebase-reads.Asked rebase-reads.Learnt
+  -- chains
+  pub convert : Answers convert.ended convert-reads.Asked convert-reads.Learnt
+  -- what an answer holds
+  pub answers-number : Answers answers-number.ended answers-number-reads.Asked answers-number-reads.Learnt
+  pub answers-count : Answers answers-count.ended answers-count-reads.Asked answers-count-reads.Learnt
+  pub written-number : Answers written-number.ended written-number-reads.Asked written-number-reads.Learnt
+  pub written-length : Answers written-length.ended written-length-reads.Asked written-length-reads.Learnt
+  -- the tables
+  pub framerate-at : Answers framerate-at.ended framerate-at-reads.Asked framerate-at-reads.Learnt
+  pub format-at : Answers format-at.ended format-at-reads.Asked format-at-reads.Learnt
+  pub minute-start : Answers minute-start.ended minute-start-reads.Asked minute-start-reads.Learnt

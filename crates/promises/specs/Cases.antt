@@ -1,0 +1,75 @@
+-- The starred cases of the document: rows of a single table, under one statement.
+-- Assumes nothing.
+use Prim.Native.Nat.{ℕ}
+use Prim.Native.String.{String}
+use mathlib.Core.Path.{_≡_}
+use mathlib.Core.Bool.{true}
+use mathlib.Core.List.{List, [], _∷_}
+use lib.IntN.{ℤ, pos, negsuc}
+use Rattle.answers.specs.declared.Counted.the-variants.{Count}
+use Rattle.rates.specs.Rates.{isRate}
+use Rattle.film.specs.declared.FilmFormat.{FilmFormat}
+use Rattle.film.specs.declared.FilmFormat.the-variants.{FF35mm3perf}
+use Rattle.film.specs.Film.{formatNumber}
+use Rattle.reading.specs.declared.Stated.the-variants.{Nothing, Format}
+use Rattle.reading.specs.declared.Read.the-variants.{Label, Footage}
+use Rattle.reading.specs.Answer.{numberOf}
+use Rattle.reading.specs.Reading.{readText}
+use Rattle.label_line.specs.LabelText.{labelText}
+use Rattle.footage_line.specs.FootageText.{footageText}
+use Rattle.arithmetic.specs.Truncating.{divOf}
+use Rattle.arithmetic.specs.Flooring.{divqOf}
+use Rattle.arithmetic.specs.Sum.{addOf}
+use Rattle.chains.specs.declared.Converted.the-variants.{At}
+use Rattle.chains.specs.Chain.{timecode, convertOf}
+use Rattle.promises.specs.Bytes.{bytesOf}
+
+-- what a row says, in the document's words
+pub data Case : Type 0 where
+  label : (rate : ℕ) (count : ℤ) (text : String) → Case  -- rate 5: 1800 is `00:01:00;02`
+  gives : (rate : ℕ) (text : String) (number : ℕ) → Case  -- rate 5: `00:01:00;00` gives 3
+  footage : (format : FilmFormat) (count : ℤ) (text : String) → Case  -- 3-perf: 21 is `1+00.1`
+  divided : (count n answer : ℤ) → Case  -- -1 divided by integer 2 is 0
+  dividedBy : (count p : ℤ) (q : ℕ) (answer : ℤ) → Case  -- -1 divided by 2/1 is -1
+  plus : (count : ℤ) (rate : ℕ) (other : ℤ) (otherRate : ℕ) (answer : ℤ) → Case  -- 5 at rate 2 plus -1 at rate 8 is 5
+  through : (count : ℤ) (rate : ℕ) (list : List ℕ) (answer : ℤ) (last : ℕ) → Case  -- 1 at rate 12 through rates 2, 12 ends at 0
+
+-- a count is a text where it is written so, and the text is read as the count; what names no rate holds at every rate
+abbrev pub Holds : Case → Type 0
+Holds (label rate count text) = (labelText rate count ≡ bytesOf text) × (readText (bytesOf text) Nothing rate ≡ Label count)
+Holds (gives rate text number) = numberOf (readText (bytesOf text) Nothing rate) ≡ number
+Holds (footage format count text) =
+    (footageText format count ≡ bytesOf text)
+    × ((rate : ℕ) → isRate rate ≡ true → readText (bytesOf text) (Format (formatNumber format)) rate ≡ Footage count format)
+Holds (divided count n answer) = (rate : ℕ) → isRate rate ≡ true → divOf (timecode count rate) n ≡ Count answer
+Holds (dividedBy count p q answer) = (rate : ℕ) → isRate rate ≡ true → divqOf (timecode count rate) p q ≡ Count answer
+Holds (plus count rate other otherRate answer) = addOf (timecode count rate) (timecode other otherRate) ≡ Count answer
+Holds (through count rate list answer last) = convertOf (timecode count rate) list ≡ At (timecode answer last)
+
+abbrev pub All : List Case → Type 0
+All [] = Unit {0}
+All (c ∷ cs) = Holds c × All cs
+
+-- the table: -1 is negsuc 0
+abbrev pub cases : List Case
+cases =
+    label 5 (pos 1799) "00:00:59;29"
+    ∷ label 5 (pos 1800) "00:01:00;02"
+    ∷ gives 5 "00:01:00;00" 3
+    ∷ label 5 (pos 17982) "00:10:00;00"
+    ∷ label 5 (pos 901) "00:00:30;01"
+    ∷ label 5 (pos 2589407) "23:59:59;29"
+    ∷ label 5 (pos 2589408) "24:00:00;00"
+    ∷ label 11 (pos 3600) "00:01:00;04"
+    ∷ gives 11 "00:01:00;03" 3
+    ∷ footage FF35mm3perf (pos 21) "1+00.1"
+    ∷ footage FF35mm3perf (pos 63) "2+21.2"
+    ∷ divided (negsuc 0) (pos 2) (pos 0)
+    ∷ dividedBy (negsuc 0) (pos 2) 1 (negsuc 0)
+    ∷ plus (pos 5) 2 (negsuc 0) 8 (pos 5)
+    ∷ through (pos 1) 12 (2 ∷ 12 ∷ []) (pos 0) 12
+    ∷ []
+
+-- each row holds
+abbrev pub StarredCases : Type 0
+StarredCases = All cases
