@@ -1,77 +1,35 @@
--- Demand 2: a strict label is scanned as its fields, the allowed ones fill the day's counts once each, and the fields written of a count are these.
+-- Demand 2: the allowed strict labels fill the day's counts once each, and the fields written of a count are these.
 -- Assumes nothing.
-use Prim.Native.Nat.{ℕ, _+_, _^_, _≤_, _<_}
-use mathlib.Core.Path.{_≡_, refl, sym, ap, _∙_}
+use Prim.Native.Nat.{ℕ, _+_, _≤_, _<_}
+use mathlib.Core.Path.{_≡_, refl, ap, _∙_}
 use mathlib.Core.Bool.{Bool, true, false}
-use mathlib.Core.List.{List, _∷_, _++_}
+use mathlib.Core.List.{List}
 use native.Mathlib.Omega.{arith}
 use borrow.Author.Tests.{le-leb}
 use lib.IntN.{ℤ, pos}
-use lib.ListN.{length, length-append}
-use Rattle.digits.specs.Digits.{decimal}
-use Rattle.digits.proofs.Values.{digits-length}
+use lib.ListN.{length}
 use Rattle.lent.specs.Line.{splice}
 use Rattle.answers.specs.Refusals.{droppedLabel, isCount}
 use Rattle.rates.specs.Rates.{rates, isRate, rateRow, dropFrames, isDrop}
 use Rattle.rates.specs.Rule.{sound}
 use Rattle.rates.specs.Laws.{drop-small}
-use Rattle.labels.specs.Label.{hoursIn, minutesIn, secondsIn, framesIn, countIn, droppedIn}
+use Rattle.labels.specs.Label.{countIn, droppedIn}
 use Rattle.labels.specs.Sections.{sectionsOf}
 use Rattle.labels.specs.Statements.{DayLabel, Filled}
 use Rattle.labels.proofs.Statements.{one-label, fill-day30, fill-day60}
-use Rattle.label_text.specs.Label.{fits, labelScan}
-use Rattle.label_text.proofs.Statements.{label-back}
 use Rattle.reading.specs.declared.Read.the-variants.{Label, Refused}
 use Rattle.reading.specs.Reading.{labelRead}
 use Rattle.reading.specs.ReadingLaws.{label-dropped, label-within}
 use Rattle.written.specs.declared.Written.the-variants.{Length}
 use Rattle.written.specs.Written.{Text, answerTo, lineTo}
 use Rattle.written.proofs.Laws.{text-written}
-use Rattle.written.proofs.Parts.{decimal-short}
 use Rattle.label_line.specs.Sections.{labelFields}
 use Rattle.label_line.specs.LabelText.{labelText, labelDraft}
 use Rattle.label_line.proofs.Answers.{label-of, label-parts, draft-text}
 use Rattle.chains.specs.Chain.{timecode}
 use Rattle.promises.specs.Demand2.{twoDigitText, StrictText, readAt, ReadAs, CountUnder, Demand2, Demand2At5, Demand2At11}
-use Rattle.promises.proofs.Read.{four-fields, read-label}
-
--- ---- a label in two digits each
--- fields that two digits are enough for
-record TwoDigits (fields : List ℕ) : Type 0 where
-  pub hours : hoursIn fields < 10 ^ 2
-  pub minutes : minutesIn fields < 10 ^ 2
-  pub seconds : secondsIn fields < 10 ^ 2
-  pub frames : framesIn fields < 10 ^ 2
-
--- are written in two
-two-digits : (fields : List ℕ) (a b c : ℕ) → TwoDigits fields
-    → decimal 2 (hoursIn fields) ++ (a ∷ decimal 2 (minutesIn fields) ++ (b ∷ decimal 2 (secondsIn fields) ++ (c ∷ decimal 2 (framesIn fields))))
-    ≡ twoDigitText fields a b c
-two-digits fields a b c x =
-    rw (
-      decimal-short 2 (hoursIn fields) (omega arith) (x .hours),
-      decimal-short 2 (minutesIn fields) (omega arith) (x .minutes),
-      decimal-short 2 (secondsIn fields) (omega arith) (x .seconds),
-      decimal-short 2 (framesIn fields) (omega arith) (x .frames),
-    )
-
--- eleven bytes
-two-digit-length : (fields : List ℕ) (a b c : ℕ) → length (twoDigitText fields a b c) ≡ 11
-two-digit-length fields a b c = simp (length-append, digits-length) (omega arith)
-
-module _ (timebase : ℕ) (few : timebase ≤ 60) (fields text : List ℕ) (x : StrictText timebase fields text) where
-  strict-digits : TwoDigits fields
-  strict-digits =
-      let s = x .strict in record { hours = omega arith; minutes = omega arith; seconds = omega arith; frames = omega arith }
-
-  -- a strict label is scanned as its fields
-  strict-scan : labelScan text ≡ fits false fields
-  strict-scan =
-      let t = strict-digits in
-      ap labelScan (x .spelt ∙ sym (two-digits fields (x .first) (x .second) (x .third) t))
-      ∙ label-back false (hoursIn fields) (minutesIn fields) (secondsIn fields) (framesIn fields) (x .first) (x .second) (x .third)
-      (omega arith) (omega arith) (omega arith) (omega arith) (x .first-divides) (x .second-divides) (x .third-divides)
-      ∙ ap (fits false) (sym (four-fields fields (x .strict .four)))
+use Rattle.promises.proofs.Read.{read-label}
+use Rattle.promises.proofs.StrictLabels.{two-digits, two-digit-length, strict-digits, strict-scan}
 
 -- ---- at a drop rate
 module _ (rate whole : ℕ) (r : isRate rate ≡ true) (drop : isDrop rate ≡ true)

@@ -1,8 +1,10 @@
 pub mod Calls
 pub mod Demand1
+pub mod Behind
 pub mod When
 pub mod Read
 pub mod ReadBack
+pub mod StrictLabels
 pub mod Demand2
 pub mod Cases
 pub mod Promises
