@@ -199,7 +199,7 @@ class Given:
 def of_numbers(word, numbers, document, crate):
     given = Given(word, numbers)
     if crate == PANIC:
-        return panic_kind(given, document)
+        return panic_kind(word, given, document)
     if document == "refused 6" or given.q == 0 or given.zero_divisor:
         return None
     if crate in crate_compute(word, numbers):
@@ -222,11 +222,11 @@ def crate_compute(word, numbers):
     return [str(function(*numbers))]
 
 
-def panic_kind(given, document):
+def panic_kind(word, given, document):
     """A divisor of 0, a fraction over 0, or numbers past their bounds that pass 64 bits."""
     if document == "refused 6":
-        # of two timecodes the left one is made before the right one's rate is looked at
-        return 17 if len(given.counts) == 2 and is_huge(given.counts[0]) else None
+        # the first timecode is made before the other rates are looked at
+        return 17 if word in (b"add", b"sub", b"cmp", b"convert") and is_huge(given.counts[0]) else None
     if given.q == 0:
         return 18
     if given.zero_divisor:
