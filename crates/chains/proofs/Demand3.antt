@@ -14,7 +14,7 @@ use Rattle.numbers.proofs.Statements.{nearest-is}
 use Rattle.answers.specs.Refusals.{isCount, held}
 use Rattle.rates.specs.declared.Timecode.{Timecode}
 use Rattle.rates.specs.Rates.{rates, isRate, rateRow}
-use Rattle.rates.specs.Every.{every}
+use Rattle.rates.specs.Every.{every, every-append}
 use Rattle.chains.specs.declared.Converted.the-variants.{At}
 use Rattle.time.specs.Instant.{frameTicks, instant, Bounded}
 use Rattle.time.specs.InstantLaws.{frame-pos}
@@ -22,7 +22,7 @@ use Rattle.chains.specs.Chain.{timecode, nearestFrame, stepOf, carried, 
 use Rattle.chains.specs.ChainLaws.{step-in, carried-none, carried-next, carried-first, Taken, convert-in, convert-at, taken-is}
 use Rattle.chains.specs.Demand3.{EmptyList, StepIsNearest, InTurn, ConvertedAt, EachTime, ChainWithin, ChainOrdered, CountsOrdered, OutAndBack, SecondTrip}
 use Rattle.chains.proofs.Multiples.{there-back, le-multiple}
-use Rattle.chains.proofs.Steps.{split, none-is, arrived, carried-append, every-append, last-is, within, ordered}
+use Rattle.chains.proofs.Steps.{split, none-is, arrived, carried-append, last-is, within, ordered}
 
 -- ---- what a conversion is
 
@@ -41,7 +41,7 @@ unfolding convertOf
 in-turn tc middle list more p =
     let t = convert-at tc middle list p in
     let m = arrived tc middle list t in
-    rw (t .start .rate, every-append list more (t .listed), t .start .count, carried-append tc middle list more (t .ends), m .rate, m .count)
+    rw (t .start .rate, every-append isRate list more (t .listed), t .start .count, carried-append tc middle list more (t .ends), m .rate, m .count)
 
 pub converted-at : ConvertedAt
 converted-at tc end list p = last-is tc end list (convert-at tc end list p .ends)

@@ -1,6 +1,6 @@
 -- The steps through a list of any length, by its first step and the rest: where they end, how far from the start, and in which order.
 -- Assumes nothing.
-use mathlib.Core.Path.{_≡_, refl, sym, _∙_, ap, subst}
+use mathlib.Core.Path.{_≡_, sym, _∙_, ap, subst}
 use mathlib.Core.Bool.{true, and-eq-true-iff}
 use mathlib.Core.List.{List, [], _∷_, _++_}
 use Prim.Native.Nat.{ℕ, _*_, _≤_}
@@ -43,12 +43,6 @@ carried-append tc middle (next ∷ list) more p =
     let f = carried-first tc middle next list p in
     carried-next tc _ next (list ++ more) (step-in tc next (f .0))
     ∙ carried-append (timecode (nearestFrame tc next) next) middle list more (f .1)
-
-pub every-append : (list more : List ℕ) → every isRate list ≡ true → every isRate (list ++ more) ≡ every isRate more
-every-append [] more l = refl
-every-append (next ∷ list) more l =
-    let s = split next list l in
-    rw (s .0) (every-append list more (s .1))
 
 -- the rate is the last one
 pub last-is : (tc end : Timecode) (list : List ℕ) → carried tc list ≡ At end → end .rate ≡ lastRate (tc .rate) list

@@ -1,50 +1,43 @@
 -- A text has the shape in one way only: its digits in front are the feet, and those after the next byte the frames.
 -- Assumes nothing.
 use Prim.Native.Nat.{ℕ}
-use mathlib.Core.Path.{_≡_, refl, sym, ap, _∙_}
+use mathlib.Core.Path.{_≡_, refl, sym, ap, ap₂, _∙_}
 use mathlib.Core.List.{List, [], _∷_, _++_, append-nil}
 use mathlib.Core.Bool.{Bool, false}
-use lib.ListN.{drop}
-use Rattle.digits.specs.Digits.{IsField, span, leading}
-use Rattle.digits.proofs.Runs.{leading-run, after-run}
-use Rattle.scanner.specs.Then.{signThen}
-use Rattle.scanner.proofs.Signed.{signed-complete}
-use Rattle.footage_text.specs.Shape.{PerfField, absent, present, FootageParts, parts, FootageFields, whole, marked, FootageShape}
+use native.Mathlib.Omega.{arith}
+use Rattle.digits.specs.Digits.{IsField}
+use Rattle.scanner.proofs.OneShape.{field-one, signed-one}
+use Rattle.footage_text.specs.Shape.{absent, present, FootageParts, parts, FootageFields, whole, marked}
 use Rattle.footage_text.specs.Statements.{OneFootageShape}
 use Rattle.footage_text.proofs.Shape.{fields-first}
 
--- what follows the digits in front
-abbrev after : List ℕ → List ℕ
-after l = drop (span l) l
+-- the feet, and what follows `+`
+feet-one : (d e l k : List ℕ) → IsField d → IsField e → d ++ 43 ∷ l ≡ e ++ 43 ∷ k → (d ≡ e) × (l ≡ k)
+feet-one d e l k f g p =
+    let o = field-one d e (43 ∷ l) (43 ∷ k) f g refl refl p in
+    let rest : l ≡ k = let h = o .1 in cc in
+    (o .0, rest)
 
-abbrev perfFrom : List ℕ → PerfField
-perfFrom [] = absent
-perfFrom (c ∷ l) = present l
+-- frames up to the end are not frames and a perf field
+not-marked : (d e f : List ℕ) → IsField d → IsField e → d ≡ e ++ 46 ∷ f → ⊥
+not-marked d e f i j p =
+    let o = field-one d e [] (46 ∷ f) i j refl refl (append-nil d ∙ p) .1 in
+    let z : _≡_ {A = ℕ} 0 1 = cc in
+    omega arith
 
--- the parts that a text can have
-abbrev framesFrom : (minus : Bool) (feet : List ℕ) → List ℕ → FootageParts
-framesFrom minus feet l = parts minus feet (leading l) (perfFrom (after l))
-
-abbrev partsFrom : (minus : Bool) → List ℕ → FootageParts
-partsFrom minus l = framesFrom minus (leading l) (drop 1 (after l))
-
--- a text of the shape has these
-whole-from : (m : Bool) (d e : List ℕ) → IsField e → framesFrom m d e ≡ parts m d e absent
-whole-from m d e j =
-    ap (framesFrom m d) (sym (append-nil e)) ∙ rw (leading-run e [] (j .digits) refl, after-run e [] (j .digits) refl)
-
-marked-from : (m : Bool) (d e f : List ℕ) → IsField e → framesFrom m d (e ++ 46 ∷ f) ≡ parts m d e (present f)
-marked-from m d e f j = rw (leading-run e (46 ∷ f) (j .digits) refl, after-run e (46 ∷ f) (j .digits) refl)
-
-feet-from : (m : Bool) (d l : List ℕ) → IsField d → partsFrom m (d ++ 43 ∷ l) ≡ framesFrom m d l
-feet-from m d l i = rw (leading-run d (43 ∷ l) (i .digits) refl, after-run d (43 ∷ l) (i .digits) refl)
-
-parts-from : (m : Bool) (l : List ℕ) (p : FootageParts) → FootageFields m l p → partsFrom m l ≡ p
-parts-from m l p (whole {feet = d} {frames = e} i j) = feet-from m d e i ∙ whole-from m d e j
-parts-from m l p (marked {feet = d} {frames = e} {perf = f} i j k) = feet-from m d (e ++ 46 ∷ f) i ∙ marked-from m d e f j
-
-shape-from : (l : List ℕ) (p : FootageParts) → FootageShape l p → signThen partsFrom l ≡ p
-shape-from l p shape = signed-complete FootageFields partsFrom (fields-first false) parts-from l p shape
+parts-one : (m : Bool) (l k : List ℕ) (p q : FootageParts) → FootageFields m l p → FootageFields m k q → l ≡ k → p ≡ q
+parts-one m l k p q (whole {feet = d} {frames = f} i j) (whole {feet = e} {frames = g} a b) w =
+    let o = feet-one d e f g i a w in
+    ap₂ (λ (x y : List ℕ). parts m x y absent) (o .0) (o .1)
+parts-one m l k p q (whole {feet = d} {frames = f} i j) (marked {feet = e} {frames = g} {perf = h} a b c) w =
+    absurd (not-marked f g h j b (feet-one d e f (g ++ 46 ∷ h) i a w .1))
+parts-one m l k p q (marked {feet = d} {frames = f} {perf = r} i j n) (whole {feet = e} {frames = g} a b) w =
+    absurd (not-marked g f r b j (sym (feet-one d e (f ++ 46 ∷ r) g i a w .1)))
+parts-one m l k p q (marked {feet = d} {frames = f} {perf = r} i j n) (marked {feet = e} {frames = g} {perf = h} a b c) w =
+    let o = feet-one d e (f ++ 46 ∷ r) (g ++ 46 ∷ h) i a w in
+    let u = field-one f g (46 ∷ r) (46 ∷ h) j b refl refl (o .1) in
+    let perf : r ≡ h = let v = u .1 in cc in
+    ap₂ (λ (x y : List ℕ). parts m x y (present r)) (o .0) (u .0) ∙ ap (λ (x : List ℕ). parts m e g (present x)) perf
 
 pub one-shape : OneFootageShape
-one-shape l p q s t = sym (shape-from l p s) ∙ shape-from l q t
+one-shape l p q s t = signed-one FootageFields (fields-first false) parts-one l p q s t

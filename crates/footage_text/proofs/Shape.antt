@@ -3,19 +3,19 @@
 use Prim.Native.Nat.{ℕ}
 use mathlib.Core.Path.{_≡_, refl, sym, ap, _∙_, subst}
 use mathlib.Core.Logic.{_⊎_, inl, inr, ⊎-elim}
-use mathlib.Core.List.{List, [], _∷_, _++_, append-nil}
+use mathlib.Core.List.{List, [], _∷_, _++_}
 use mathlib.Core.Bool.{Bool, true, false, _||_, or-false}
 use lib.ListN.{length}
-use borrow.Author.Tests.{eqb-true}
 use Rattle.digits.specs.Digits.{IsField, fieldValue, firstIs}
 use Rattle.scanner.specs.Scan.{isByte}
 use Rattle.scanner.specs.Then.{byteThen, endOr}
 use Rattle.scanner.specs.Shapes.{Signed, plain, minus}
-use Rattle.scanner.proofs.Then.{field-run, field-last, begun, passing, byte-not}
+use Rattle.scanner.specs.Long.{isLong}
+use Rattle.scanner.proofs.Then.{field-run, field-last, begun, passing, byte-not, at-byte, to-end, last-found}
 use Rattle.scanner.proofs.Signed.{field-begins, signed-complete, signed-sound}
 use Rattle.footage_text.specs.declared.FootageScan.{FootageScan}
 use Rattle.footage_text.specs.declared.FootageScan.the-variants.{Footage}
-use Rattle.footage_text.specs.Shape.{FootageParts, FootageFields, whole, marked, FootageShape, absent, present, parts, hasPerf, isLong, someLong}
+use Rattle.footage_text.specs.Shape.{FootageParts, FootageFields, whole, marked, FootageShape, absent, present, parts, hasPerf, someLong}
 use Rattle.footage_text.specs.Footage.{shapeless, unlessLong, ended, afterPerf, perfScan, optionalPerf, afterFrames, framesScan, afterFeet, feetScan, footageScan}
 
 -- what a text gives that consists of these parts
@@ -41,24 +41,9 @@ fields-first m l p (whole {feet = d} {frames = e} i j) = field-begins 45 d (43 �
 fields-first m l p (marked {feet = d} {frames = e} {perf = f} i j k) = field-begins 45 d (43 ∷ (e ++ 46 ∷ f)) refl i
 
 -- ---- a text that is not refused 1
--- the byte b after a field
-at-byte : (b c : ℕ) (d q r l : List ℕ) → isByte b c ≡ true → c ∷ q ≡ r → d ++ r ≡ l → d ++ b ∷ q ≡ l
-at-byte b c d q r l e p w = ap (λ (x : ℕ). d ++ x ∷ q) (sym (eqb-true c b e)) ∙ ap (λ (x : List ℕ). d ++ x) p ∙ w
-
--- a field up to the end
-to-end : (d l : List ℕ) → d ++ [] ≡ l → d ≡ l
-to-end d l w = sym (append-nil d) ∙ w
-
-module _ (long : Bool) (answer : FootageScan) where
-  perf-by : (l d r : List ℕ) → IsField d → d ++ r ≡ l → perfScan long answer l ≡ afterPerf long answer (fieldValue d) (length d) r
-      → (perfScan long answer l ≡ shapeless) ⊎ IsField l
-  unfolding endOr
-  perf-by l d [] i w g = inr (subst IsField (to-end d l w) i)
-  perf-by l d (c ∷ r) i w g = inl g
-
-  perf-found : (l : List ℕ) → (perfScan long answer l ≡ shapeless) ⊎ IsField l
-  perf-found l =
-      ⊎-elim inl (λ b. perf-by l (b .field) (b .rest) (b .is) (b .all) (b .gives)) (begun shapeless (afterPerf long answer) l)
+-- after `.` a field up to the end
+perf-found : (long : Bool) (answer : FootageScan) (l : List ℕ) → (perfScan long answer l ≡ shapeless) ⊎ IsField l
+perf-found long answer l = last-found shapeless (λ value count. unlessLong (long || isLong count) answer) l
 
 -- the text l after the feet d and `+`
 module _ (m : Bool) (d : List ℕ) (i : IsField d) where

@@ -6,9 +6,9 @@ use mathlib.Core.Bool.{Bool, true, false, _||_}
 use Rattle.answers.specs.Refusals.{noShape, tooLong}
 use Rattle.scanner.specs.Scan.{isByte}
 use Rattle.scanner.specs.Then.{fieldThen, byteThen, endOr, signThen}
+use Rattle.scanner.specs.Long.{isLong}
 use Rattle.footage_text.specs.declared.FootageScan.{FootageScan}
 use Rattle.footage_text.specs.declared.FootageScan.the-variants.{Footage, Refused}
-use Rattle.footage_text.specs.Shape.{isLong}
 
 -- the document's number of an answer (0: not refused), its feet and its frames (a refusal's are 0)
 abbrev pub numberOf : FootageScan → ℕ

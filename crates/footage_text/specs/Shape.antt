@@ -4,9 +4,9 @@ use Prim.Native.Nat.{ℕ}
 use mathlib.Core.List.{List, _∷_, _++_}
 use mathlib.Core.Bool.{Bool, true, false, _||_}
 use lib.ListN.{length}
-use lib.Dec.{ltb}
 use Rattle.digits.specs.Digits.{IsField}
 use Rattle.scanner.specs.Shapes.{Signed}
+use Rattle.scanner.specs.Long.{isLong}
 
 -- the digits of a perf field, where it is present
 pub data PerfField : Type 0 where
@@ -34,20 +34,12 @@ pub data FootageFields (minus : Bool) : List ℕ → FootageParts → Type 0 whe
 abbrev pub FootageShape : (l : List ℕ) → FootageParts → Type 0
 FootageShape l footage = Signed FootageFields l footage
 
--- a text with `-` in front, or without
-abbrev pub signed : (minus : Bool) → List ℕ → List ℕ
-signed true l = 45 ∷ l
-signed false l = l
-
 -- whether a perf field is present
 abbrev pub hasPerf : PerfField → Bool
 hasPerf absent = false
 hasPerf (present perf) = true
 
--- a field of so many digits has over 9
-abbrev pub isLong : (count : ℕ) → Bool
-isLong count = ltb 9 count
-
+-- the perf field, where it is present, has over 9 digits
 abbrev pub perfLong : PerfField → Bool
 perfLong absent = false
 perfLong (present perf) = isLong (length perf)

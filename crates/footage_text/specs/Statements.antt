@@ -7,8 +7,9 @@ use mathlib.Core.List.{List, _∷_, _++_}
 use mathlib.Core.Bool.{Bool, true, false}
 use Rattle.digits.specs.Digits.{valueOf, decimal}
 use Rattle.answers.specs.Refusals.{noShape, tooLong}
+use Rattle.scanner.specs.Shapes.{signed}
 use Rattle.footage_text.specs.declared.FootageScan.the-variants.{Footage, Refused}
-use Rattle.footage_text.specs.Shape.{FootageParts, FootageShape, signed, hasPerf, someLong}
+use Rattle.footage_text.specs.Shape.{FootageParts, FootageShape, hasPerf, someLong}
 use Rattle.footage_text.specs.Footage.{numberOf, feetOf, framesOf, footageScan}
 
 -- a text of the shape, no field of over 9 digits, reads as its sign, the values of its feet and frames, and whether it has a perf field

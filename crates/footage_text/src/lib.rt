@@ -3,7 +3,7 @@
 ghost use mathlib.Core.Path.{_≡_};
 ghost use mathlib.Core.Bool.{_||_};
 ghost use lib.ListN.{drop};
-ghost use Rattle.footage_text.specs.Shape.{isLong};
+ghost use Rattle.scanner.specs.Long.{isLong};
 ghost use Rattle.footage_text.specs.Footage.{unlessLong, ended, perfScan, framesScan, feetScan, footageScan};
 use answers::Refusal;
 use scanner::Cursor;

@@ -11,13 +11,13 @@ use borrow.Author.Tests.{leb-true}
 use Rattle.numbers.specs.Sign.{isNeg}
 use Rattle.answers.specs.Refusals.{isCount}
 use Rattle.rates.specs.Rates.{isRate, rateRow, isDrop, dropFrames}
-use Rattle.rates.specs.Every.{every}
+use Rattle.rates.specs.Every.{every, every-append}
 use Rattle.rates.specs.Rule.{sound}
 use Rattle.rates.specs.Laws.{drop-le}
 use Rattle.labels.specs.Label.{hoursIn, minutesIn, secondsIn, framesIn}
 use Rattle.labels.specs.LabelLaws.{count-by-minutes}
 use Rattle.digits.specs.Digits.{allDigits, width, decimal}
-use Rattle.digits.proofs.Values.{both, all-head, all-tail}
+use Rattle.digits.proofs.Values.{all-head, all-tail}
 use Rattle.digits.proofs.Width.{width-at-most, decimal-field}
 use Rattle.written.specs.Written.{answerTo, lineTo}
 use Rattle.written.specs.Parts.{signText}
@@ -59,13 +59,9 @@ label-bounds rate count h k =
     (omega (arith, sign-most (isNeg count)), omega (arith, sign-most (isNeg count)))
 
 -- ---- bytes
-every-append : (f : ℕ → Bool) (l m : List ℕ) → every f l ≡ true → every f m ≡ true → every f (l ++ m) ≡ true
-every-append f [] m p q = q
-every-append f (b ∷ l) m p q = let t = both (f b) (every f l) p in rw (t .0) (every-append f l m (t .1) q)
-
 -- a field, and more behind it
 field-bytes : (n : ℕ) (rest : List ℕ) → every isLabelByte rest ≡ true → every isLabelByte (decimal 2 n ++ rest) ≡ true
-field-bytes n rest = every-append isLabelByte (decimal 2 n) rest (digits-only (decimal 2 n) (decimal-field 2 n .digits))
+field-bytes n rest h = every-append isLabelByte (decimal 2 n) rest (digits-only (decimal 2 n) (decimal-field 2 n .digits)) ∙ h
   where
     digits-only : (d : List ℕ) → allDigits d ≡ true → every isLabelByte d ≡ true
     digits-only [] a = refl
@@ -87,7 +83,7 @@ unfolding labelText sectionsText fieldsText
 label-bytes rate count =
     let s = labelSections rate count in
     every-append isLabelByte (signText (s .negative)) (fieldsText (framesMark rate) s) (sign-bytes (s .negative))
-    (field-bytes (s .hours) _ (field-bytes (s .minutes) _ (field-bytes (s .seconds) _ (last-bytes (isDrop rate) (s .frames)))))
+    ∙ (field-bytes (s .hours) _ (field-bytes (s .minutes) _ (field-bytes (s .seconds) _ (last-bytes (isDrop rate) (s .frames)))))
 
 -- ---- written
 pub label-written : LabelWritten

@@ -8,18 +8,16 @@ use Rattle.digits.specs.Digits.{isDigit, IsField}
 use Rattle.answers.specs.Refusals.{noShape}
 use Rattle.scanner.specs.Scan.{isDivider}
 use Rattle.scanner.specs.Then.{signBy, signThen, keepAll}
-use Rattle.scanner.specs.Shapes.{last}
+use Rattle.scanner.specs.Shapes.{signed, last}
 use Rattle.scanner.proofs.Signed.{field-begins}
-use Rattle.scanner.proofs.Fields.{fields-complete}
-use Rattle.label_text.specs.Shape.{signed}
+use Rattle.scanner.proofs.Fields.{apart-divider, fields-complete}
 use Rattle.label_text.specs.Label.{refused, nothing, keep, ended, fieldsScan, labelScan}
 use Rattle.label_text.proofs.Steps.{ended-more}
-use Rattle.label_text.proofs.Shape.{divider-no-digit}
 
 module _ (d : List ℕ) (c : ℕ) (r : List ℕ) (is : IsField d) (digit : isDigit c ≡ false) (divider : isDivider c ≡ false) where
   fields-other : (m : Bool) → fieldsScan m (d ++ c ∷ r) ≡ refused noShape
   fields-other m =
-      fields-complete isDivider (refused noShape) keep (ended m) divider-no-digit (c ∷ r) digit divider 4 nothing d (d ∷ []) (last is)
+      fields-complete isDivider (refused noShape) keep (ended m) apart-divider (c ∷ r) digit divider 4 nothing d (d ∷ []) (last is)
       ∙ ended-more m (keepAll keep nothing (d ∷ [])) (c ∷ r) refl
 
   pub no-label : (m : Bool) → labelScan (signed m (d ++ c ∷ r)) ≡ refused noShape

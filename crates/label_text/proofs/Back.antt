@@ -1,33 +1,21 @@
 -- A label that is written is read back: its four fields are fields, of at most 9 digits.
 -- Assumes nothing.
-use Prim.Native.Nat.{ℕ, _^_, _≤_, _<_}
+use Prim.Native.Nat.{ℕ, _^_, _<_}
 use mathlib.Core.Path.{_≡_, _∙_}
 use mathlib.Core.List.{List, [], _∷_, _++_}
 use mathlib.Core.Bool.{Bool, true, false}
 use native.Mathlib.Omega.{arith}
-use lib.ListN.{length}
-use borrow.Author.Tests.{le-ltb}
-use Rattle.digits.specs.Digits.{IsField, valueOf, decimal}
-use Rattle.digits.proofs.Width.{width-at-most, decimal-length, decimal-back, decimal-field}
+use Rattle.digits.specs.Digits.{valueOf, decimal}
+use Rattle.digits.proofs.Width.{decimal-back}
 use Rattle.scanner.specs.Scan.{isDivider}
-use Rattle.scanner.specs.Shapes.{plain, minus, Fields, last, more}
-use Rattle.label_text.specs.Shape.{label, LabelShape, signed, isLong, someLong}
+use Rattle.scanner.specs.Shapes.{signed, Fields, last, more}
+use Rattle.scanner.specs.Long.{fieldsLong, ShortField}
+use Rattle.scanner.proofs.Signed.{signed-shape}
+use Rattle.scanner.proofs.Long.{not-long, written-short}
+use Rattle.label_text.specs.Shape.{LabelFields, label, someLong}
 use Rattle.label_text.specs.Label.{fits, labelScan}
 use Rattle.label_text.specs.Statements.{LabelBack}
 use Rattle.label_text.proofs.Short.{short-read}
-
--- one to four fields, with a sign or without
-pub signed-shape : (m : Bool) (l : List ℕ) (fields : List (List ℕ)) → Fields isDivider 4 l fields → LabelShape (signed m l) m fields
-signed-shape true l fields t = minus (label t)
-signed-shape false l fields t = plain (label t)
-
--- a field of at most 9 digits
-pub record ShortField (d : List ℕ) : Type 0 where
-  pub is : IsField d
-  pub short : length d ≤ 9
-
-not-long : (d : List ℕ) → ShortField d → isLong (length d) ≡ false
-not-long d f = le-ltb 9 (length d) (f .short)
 
 -- four fields of at most 9 digits each, with a sign or without, read as their values
 module _ (h m s f : List ℕ) (hours : ShortField h) (minutes : ShortField m) (seconds : ShortField s) (frames : ShortField f)
@@ -39,15 +27,15 @@ module _ (h m s f : List ℕ) (hours : ShortField h) (minutes : ShortField m) (s
   four-shape = more (hours .is) first (more (minutes .is) second (more (seconds .is) third (last (frames .is))))
 
   four-short : someLong (h ∷ m ∷ s ∷ f ∷ []) ≡ false
-  unfolding someLong
+  unfolding fieldsLong
   four-short = rw (not-long h hours, not-long m minutes, not-long s seconds, not-long f frames)
 
   pub four-read : (sign : Bool) → labelScan (signed sign fourText) ≡ fits sign (valueOf h ∷ valueOf m ∷ valueOf s ∷ valueOf f ∷ [])
-  four-read sign = short-read (signed sign fourText) sign (h ∷ m ∷ s ∷ f ∷ []) (signed-shape sign fourText (h ∷ m ∷ s ∷ f ∷ []) four-shape) four-short
+  four-read sign = short-read (signed sign fourText) sign (h ∷ m ∷ s ∷ f ∷ []) (signed-shape LabelFields sign fourText (sign, h ∷ m ∷ s ∷ f ∷ []) (label four-shape)) four-short
 
 -- a number below 10^9 in two digits at least
 pub two-digits : (n : ℕ) → n < 10 ^ 9 → ShortField (decimal 2 n)
-two-digits n l = record { is = decimal-field 2 n; short = omega (arith, decimal-length 2 n, width-at-most n 9 (omega arith) l) }
+two-digits n l = written-short 2 n (omega arith) l
 
 pub back : LabelBack
 back sign h m s f a b c i j k l p q r =

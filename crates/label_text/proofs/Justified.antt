@@ -1,40 +1,21 @@
 -- What is kept of the fields is whether one is too long, and their values, right-justified.
 -- Assumes nothing.
-use Prim.Native.Nat.{ℕ, suc, _+_, _<_}
-use mathlib.Core.Path.{_≡_, sym, ap, ap₂, _∙_}
-use mathlib.Core.List.{List, [], _∷_, _++_, map, append-nil, append-assoc}
-use mathlib.Core.Bool.{_||_, or-false, or-assoc}
+use Prim.Native.Nat.{ℕ}
+use mathlib.Core.Path.{_≡_, refl}
+use mathlib.Core.List.{List, map}
+use mathlib.Core.Bool.{Bool, false}
 use native.Mathlib.Omega.{arith}
-use lib.ListN.{length, drop, length-append}
 use Rattle.digits.specs.Digits.{fieldValue}
 use Rattle.scanner.specs.Then.{keepAll}
+use Rattle.scanner.specs.Justified.{zeros}
+use Rattle.scanner.proofs.Justified.{keep-all}
 use Rattle.label_text.specs.declared.Kept.{Kept}
-use Rattle.label_text.specs.Shape.{rightJustified, isLong, someLong}
-use Rattle.label_text.specs.Label.{nothing, shift, keep}
+use Rattle.label_text.specs.Shape.{rightJustified, someLong}
+use Rattle.label_text.specs.Label.{nothing, keep}
 
--- the values moved in one after the other: of the places and then the values, the last ones
-abbrev pub after : (kept : Kept) (fields : List (List ℕ)) → Kept
-after kept fields =
-    let values = map fieldValue fields in
-    record { long = kept .long || someLong fields; fields = drop (length values) (kept .fields ++ values) }
-
-shift-first : (places values : List ℕ) (v : ℕ) → 0 < length places
-    → drop (length values) (shift places v ++ values) ≡ drop (suc (length values)) (places ++ v ∷ values)
-shift-first [] values v h = absurd (omega arith)
-shift-first (p ∷ places) values v h = ap (drop (length values)) (append-assoc places (v ∷ []) values)
-
-shift-some : (places : List ℕ) (v : ℕ) → 0 < length (shift places v)
-shift-some places v = omega (arith, length-append (drop 1 places) (v ∷ []))
-
-pub keep-all : (kept : Kept) (fields : List (List ℕ)) → 0 < length (kept .fields) → keepAll keep kept fields ≡ after kept fields
-unfolding keepAll someLong
-keep-all kept [] h = ap₂ (λ t l. record { long = t; fields = l }) (sym (or-false (kept .long))) (sym (append-nil (kept .fields)))
-keep-all kept (d ∷ ds) h =
-    keep-all (keep kept (fieldValue d) (length d)) ds (shift-some (kept .fields) (fieldValue d))
-    ∙ ap₂ (λ t l. record { long = t; fields = l })
-    (or-assoc (kept .long) (isLong (length d)) (someLong ds))
-    (shift-first (kept .fields) (map fieldValue ds) (fieldValue d) h)
+abbrev both : (long : Bool) (fields : List ℕ) → Kept
+both long fields = record { long = long; fields = fields }
 
 pub keep-nothing : (fields : List (List ℕ))
     → keepAll keep nothing fields ≡ record { long = someLong fields; fields = rightJustified (map fieldValue fields) }
-keep-nothing fields = keep-all nothing fields (omega arith)
+keep-nothing fields = keep-all both keep (λ long places value count. refl) false (zeros 4) fields (omega arith)

@@ -2,7 +2,6 @@ pub mod Steps
 pub mod Justified
 pub mod Shape
 pub mod Short
-pub mod OneShape
 pub mod Back
 pub mod Scanned
 pub mod Apart

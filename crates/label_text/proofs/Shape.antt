@@ -4,16 +4,14 @@ use Prim.Native.Nat.{ℕ}
 use mathlib.Core.Path.{_≡_, refl, sym, ap, _∙_, subst}
 use mathlib.Core.Logic.{_⊎_, inl, inr, ⊎-elim}
 use mathlib.Core.List.{List, [], _∷_, _++_, map, append-nil}
-use mathlib.Core.Bool.{Bool, true, false, _||_}
-use lib.Dec.{eqb}
-use borrow.Author.Tests.{eqb-true}
-use Rattle.digits.specs.Digits.{isDigit, fieldValue, firstIs}
+use mathlib.Core.Bool.{Bool, true, false}
+use Rattle.digits.specs.Digits.{fieldValue, firstIs}
 use Rattle.answers.specs.Refusals.{noShape}
 use Rattle.scanner.specs.Scan.{isByte, isDivider}
 use Rattle.scanner.specs.Then.{keepAll}
-use Rattle.scanner.specs.Shapes.{Signed, plain, minus, Fields, last, more}
-use Rattle.scanner.proofs.Signed.{field-begins, signed-complete, signed-sound}
-use Rattle.scanner.proofs.Fields.{fields-complete, divided}
+use Rattle.scanner.specs.Shapes.{Signed, plain, minus, Fields}
+use Rattle.scanner.proofs.Signed.{signed-complete, signed-sound}
+use Rattle.scanner.proofs.Fields.{apart-divider, fields-begin, fields-complete, divided}
 use Rattle.label_text.specs.declared.LabelScan.{LabelScan}
 use Rattle.label_text.specs.Shape.{label, LabelShape, rightJustified, someLong}
 use Rattle.label_text.specs.Label.{fits, refused, unlessLong, nothing, keep, judged, ended, fieldsScan, labelScan}
@@ -26,13 +24,6 @@ abbrev pub readAs : (m : Bool) (fields : List (List ℕ)) → LabelScan
 readAs m fields = unlessLong (someLong fields) (fits m (rightJustified (map fieldValue fields)))
 
 -- ---- the fields
-divider-by : (c : ℕ) (t : Bool) → eqb c 58 ≡ t → (t || eqb c 59) ≡ true → isDigit c ≡ false
-divider-by c true p e = rw (eqb-true c 58 p)
-divider-by c false p e = rw (eqb-true c 59 e)
-
-pub divider-no-digit : (c : ℕ) → isDivider c ≡ true → isDigit c ≡ false
-divider-no-digit c e = divider-by c (eqb c 58) refl e
-
 module _ (m : Bool) where
   judged-as : (fields : List (List ℕ)) → judged m (keepAll keep nothing fields) ≡ readAs m fields
   judged-as fields = ap (judged m) (keep-nothing fields)
@@ -40,7 +31,7 @@ module _ (m : Bool) where
   fields-read : (l : List ℕ) (fields : List (List ℕ)) → Fields isDivider 4 l fields → fieldsScan m l ≡ readAs m fields
   fields-read l fields shape =
       ap (fieldsScan m) (sym (append-nil l))
-      ∙ fields-complete isDivider (refused noShape) keep (ended m) divider-no-digit [] refl refl 4 nothing l fields shape
+      ∙ fields-complete isDivider (refused noShape) keep (ended m) apart-divider [] refl refl 4 nothing l fields shape
       ∙ ended-whole m (keepAll keep nothing fields) [] refl
       ∙ judged-as fields
 
@@ -69,8 +60,7 @@ fields-found m l =
 
 -- ---- the sign
 pub no-sign : (k : ℕ) (l : List ℕ) (fields : List (List ℕ)) → Fields isDivider k l fields → firstIs (isByte 45) l ≡ false
-no-sign k l fields (last {d = d} f) = ap (firstIs (isByte 45)) (sym (append-nil d)) ∙ field-begins 45 d [] refl f
-no-sign k l fields (more {c = c} {d = d} {l = r} f e t) = field-begins 45 d (c ∷ r) refl f
+no-sign k l fields t = ap (firstIs (isByte 45)) (sym (append-nil l)) ∙ fields-begin isDivider 45 k l [] fields refl t
 
 signed-reads : (l : List ℕ) (m : Bool) (fields : List (List ℕ)) → LabelShape l m fields → Signed Reads l (readAs m fields)
 signed-reads l m fields (plain (label t)) = plain record { fields = fields; shape = t; gives = refl }

@@ -3,19 +3,20 @@
 use Prim.Native.Nat.{ℕ}
 use mathlib.Core.Path.{_≡_, refl, sym, ap, _∙_}
 use mathlib.Core.Logic.{⊎-elim}
-use mathlib.Core.List.{List, map}
+use mathlib.Core.List.{List, [], _++_, map}
 use mathlib.Core.Bool.{Bool, true, false}
 use native.Mathlib.Omega.{arith}
 use Rattle.digits.specs.Digits.{fieldValue, firstIs}
 use Rattle.answers.specs.Refusals.{noShape}
 use Rattle.scanner.specs.Scan.{isByte, isDivider}
+use Rattle.scanner.proofs.Fields.{apart-divider}
+use Rattle.scanner.proofs.OneShape.{fields-one, signed-one}
 use Rattle.label_text.specs.declared.LabelScan.{LabelScan}
 use Rattle.label_text.specs.Shape.{LabelFields, label, LabelShape, rightJustified, someLong}
 use Rattle.label_text.specs.Label.{fits, refused, verdictNumber, numberOf, unlessLong, labelScan}
 use Rattle.label_text.specs.Statements.{LabelReads, HasLabelShape, LabelFits, LabelTooLong, LabelNoShape, OneLabelShape, LabelBack}
-use Rattle.label_text.proofs.Shape.{readAs, divider-no-digit, no-sign, label-given, label-found}
+use Rattle.label_text.proofs.Shape.{readAs, no-sign, label-given, label-found}
 use Rattle.label_text.proofs.Short.{short-read}
-use Rattle.label_text.proofs.OneShape.{fields-one, signed-one}
 use Rattle.label_text.proofs.Back.{back}
 
 pub label-reads : LabelReads
@@ -87,9 +88,10 @@ label-no-shape l = (
 fields-first : (l : List ℕ) (g : Bool × List (List ℕ)) → LabelFields false l g → firstIs (isByte 45) l ≡ false
 fields-first l g (label {fields = ds} t) = no-sign 4 l ds t
 
-one-fields : (m : Bool) (l : List ℕ) (g h : Bool × List (List ℕ)) → LabelFields m l g → LabelFields m l h → g ≡ h
-one-fields m l g h (label {fields = ds} t) (label {fields = es} u) =
-    ap (λ (x : List (List ℕ)). (m, x)) (fields-one isDivider divider-no-digit 4 4 l l ds es t u refl)
+one-fields : (m : Bool) (l k : List ℕ) (g h : Bool × List (List ℕ)) → LabelFields m l g → LabelFields m k h → l ≡ k → g ≡ h
+one-fields m l k g h (label {fields = ds} t) (label {fields = es} u) p =
+    let o = fields-one isDivider apart-divider [] [] refl refl refl refl 4 4 l k ds es t u (ap (λ (x : List ℕ). x ++ []) p) in
+    ap (λ (x : List (List ℕ)). (m, x)) (o .0)
 
 pub one-label-shape : OneLabelShape
 one-label-shape l m n ds es s t =

@@ -12,10 +12,11 @@ use Rattle.scanner.specs.declared.Field.the-variants.{Digits}
 use Rattle.scanner.specs.declared.Passed.the-variants.{Next, Other}
 use Rattle.scanner.specs.Scan.{cursor, fieldOf, pastIf, isByte, isDivider, isEnd}
 use Rattle.scanner.specs.Then.{afterField, signThen}
+use Rattle.scanner.specs.Justified.{shift}
 use Rattle.scanner.proofs.Fields.{fields-some}
 use Rattle.scanner.proofs.Then.{byte-other, byte-next, end-yes, end-no, sign-minus, sign-plain}
 use Rattle.label_text.specs.declared.Kept.{Kept}
-use Rattle.label_text.specs.Label.{refused, shift, keep, judged, ended, fieldsFrom, fieldsScan, labelScan}
+use Rattle.label_text.specs.Label.{refused, keep, judged, ended, fieldsFrom, fieldsScan, labelScan}
 
 -- ---- the sign: at the start it was asked for
 module _ (text : List ℕ) (start : Cursor) (at-start : start ≡ cursor 0) where

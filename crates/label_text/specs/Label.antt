@@ -1,18 +1,18 @@
 -- Text shapes, label: what any text gives, read in steps. What that comes to is said in Statements.antt.
 -- Assumes nothing.
 use Prim.Native.Nat.{ℕ}
-use mathlib.Core.List.{List, [], _∷_, _++_}
+use mathlib.Core.List.{List, [], _∷_}
 use mathlib.Core.Bool.{Bool, true, false, _||_}
-use lib.ListN.{drop}
 use Rattle.answers.specs.declared.Refusal.{Refusal}
 use Rattle.answers.specs.Refusals.{noShape, tooLong}
 use Rattle.scanner.specs.Scan.{isDivider}
 use Rattle.scanner.specs.Then.{endOr, signThen, fieldsThen}
+use Rattle.scanner.specs.Long.{isLong}
+use Rattle.scanner.specs.Justified.{shift}
 use Rattle.label_text.specs.declared.Verdict.{Verdict}
 use Rattle.label_text.specs.declared.Verdict.the-variants.{Fits, Refused}
 use Rattle.label_text.specs.declared.LabelScan.{LabelScan}
 use Rattle.label_text.specs.declared.Kept.{Kept}
-use Rattle.label_text.specs.Shape.{isLong}
 
 -- a label, with its sign and four fields
 abbrev pub fits : (minus : Bool) (fields : List ℕ) → LabelScan
@@ -38,9 +38,6 @@ unlessLong false answer = answer
 -- the fields taken so far: at first none, and each next one is the last, the others moved one place left
 abbrev pub nothing : Kept
 nothing = record { long = false; fields = 0 ∷ 0 ∷ 0 ∷ 0 ∷ [] }
-
-abbrev pub shift : (fields : List ℕ) (value : ℕ) → List ℕ
-shift fields value = drop 1 fields ++ (value ∷ [])
 
 abbrev pub keep : Kept → (value count : ℕ) → Kept
 keep kept value count = record { long = kept .long || isLong count; fields = shift (kept .fields) value }

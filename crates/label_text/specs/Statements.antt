@@ -8,8 +8,9 @@ use mathlib.Core.Bool.{Bool, true, false}
 use Rattle.digits.specs.Digits.{valueOf, decimal}
 use Rattle.answers.specs.Refusals.{noShape, tooLong}
 use Rattle.scanner.specs.Scan.{isDivider}
+use Rattle.scanner.specs.Shapes.{signed}
 use Rattle.label_text.specs.declared.Verdict.the-variants.{Fits}
-use Rattle.label_text.specs.Shape.{LabelShape, signed, rightJustified, someLong}
+use Rattle.label_text.specs.Shape.{LabelShape, rightJustified, someLong}
 use Rattle.label_text.specs.Label.{fits, refused, labelScan}
 
 -- a text of the shape, no field of over 9 digits, reads as its sign and the values of its fields, right-justified, absent ones zero

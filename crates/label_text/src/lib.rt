@@ -2,8 +2,9 @@
 ghost use mathlib.Core.Path.{_≡_};
 ghost use mathlib.Core.Bool.{_||_};
 ghost use lib.ListN.{drop};
-ghost use Rattle.label_text.specs.Label.{shift, refused, nothing, keep, judged, ended, fieldsScan, labelScan};
-ghost use Rattle.label_text.specs.Shape.{isLong};
+ghost use Rattle.label_text.specs.Label.{refused, nothing, keep, judged, ended, fieldsScan, labelScan};
+ghost use Rattle.scanner.specs.Long.{isLong};
+ghost use Rattle.scanner.specs.Justified.{shift};
 use answers::Refusal;
 use scanner::Cursor;
 use scanner::Field;

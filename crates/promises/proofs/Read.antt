@@ -19,7 +19,7 @@ use Rattle.label_text.specs.Label as label
 use Rattle.answers.specs.Refusals.{noShape}
 use Rattle.footage_text.specs.declared.FootageScan.{FootageScan}
 use Rattle.footage_text.specs.declared.FootageScan.the-variants as scan
-use Rattle.footage_text.specs.Shape.{signed}
+use Rattle.scanner.specs.Shapes.{signed}
 use Rattle.footage_text.specs.Footage.{footageScan}
 use Rattle.reading.specs.declared.Stated.the-variants.{Nothing, Format}
 use Rattle.reading.specs.Shaped.{formatIn, formatFor, footageShaped, labelOr}

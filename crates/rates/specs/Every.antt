@@ -1,8 +1,8 @@
 -- A rule of a table of any type, tested once over the whole table by computation, holds at each index.
 -- Assumes nothing.
-use mathlib.Core.Path.{_≡_}
+use mathlib.Core.Path.{_≡_, refl}
 use mathlib.Core.Bool.{Bool, true, _&&_, and-eq-true-iff}
-use mathlib.Core.List.{List, [], _∷_}
+use mathlib.Core.List.{List, [], _∷_, _++_}
 use Prim.Native.Nat.{ℕ, zero, suc, _<_}
 use native.Mathlib.Omega.{arith}
 use lib.ListN.{length, getD}
@@ -18,3 +18,10 @@ pub at-every :
 at-every f [] d e i h = absurd (omega arith)
 at-every f (x ∷ xs) d e zero h = and-eq-true-iff (f x) (every f xs) .0 e .0
 at-every f (x ∷ xs) d e (suc i) h = at-every f xs d (and-eq-true-iff (f x) (every f xs) .0 e .1) i (omega arith)
+
+-- after rows that pass it, it passes at every row of a table if it does so at the rest
+pub every-append : {A : Type 0} (f : A → Bool) (l m : List A) → every f l ≡ true → every f (l ++ m) ≡ every f m
+every-append f [] m e = refl
+every-append f (x ∷ xs) m e =
+    let s = and-eq-true-iff (f x) (every f xs) .0 e in
+    rw (s .0) (every-append f xs m (s .1))

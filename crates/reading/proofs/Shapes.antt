@@ -7,8 +7,7 @@ use mathlib.Core.List.{List, _∷_, _++_}
 use mathlib.Core.Bool.{Bool, true, false}
 use Rattle.digits.specs.Digits.{valueOf}
 use Rattle.answers.specs.Refusals.{noShape, tooLong}
-use Rattle.scanner.specs.Shapes.{plain, minus}
-use Rattle.label_text.specs.Shape.{signed}
+use Rattle.scanner.specs.Shapes.{plain, minus, signed}
 use Rattle.label_text.specs.Label.{refused, labelScan}
 use Rattle.label_text.specs.Statements.{HasLabelShape}
 use Rattle.label_text.proofs.Apart.{no-label}

@@ -1,67 +1,37 @@
--- A text has the shape in one way only: its digits in front are the first field, and a byte that is no `:` ends the fields.
+-- A text has the shape in one way only: its fields end at the first byte that is no digit and no `:`.
 -- Assumes nothing.
-use Prim.Native.Nat.{ℕ, zero, suc}
-use mathlib.Core.Path.{_≡_, refl, sym, ap, _∙_}
-use mathlib.Core.List.{List, [], _∷_, _++_, append-nil, append-assoc}
-use mathlib.Core.Bool.{Bool, false, cond}
-use lib.ListN.{drop}
-use Rattle.digits.specs.Digits.{firstIs, digitFirst, span, leading}
-use Rattle.digits.proofs.Runs.{leading-run, after-run}
+use Prim.Native.Nat.{ℕ}
+use mathlib.Core.Path.{_≡_, refl, sym, ap, ap₂, _∙_}
+use mathlib.Core.List.{List, [], _∷_, _++_, append-nil}
+use mathlib.Core.Bool.{Bool, false}
+use native.Mathlib.Omega.{arith}
 use Rattle.scanner.specs.Scan.{isByte}
-use Rattle.scanner.specs.Then.{signThen}
-use Rattle.scanner.specs.Shapes.{Fields, last, more}
-use Rattle.scanner.proofs.Signed.{signed-complete}
+use Rattle.scanner.specs.Shapes.{Fields}
 use Rattle.scanner.proofs.Fields.{apart-byte}
-use Rattle.runtime_text.specs.Shape.{Fraction, absent, present, RuntimeParts, parts, RuntimeFields, whole, pointed, RuntimeShape}
+use Rattle.scanner.proofs.OneShape.{fields-one, signed-one}
+use Rattle.runtime_text.specs.Shape.{absent, present, RuntimeParts, parts, RuntimeFields, whole, pointed}
 use Rattle.runtime_text.specs.Statements.{OneRuntimeShape}
 use Rattle.runtime_text.proofs.Shape.{fields-first}
 
--- ---- the fields in front of a text, and what follows them
-abbrev Front : Type 0
-Front = List (List ℕ) × List ℕ
+-- fields up to the end are not fields and a fraction
+not-pointed : (l k f : List ℕ) (ds es : List (List ℕ)) → Fields (isByte 58) 3 l ds → Fields (isByte 58) 3 k es → l ≡ k ++ 46 ∷ f → ⊥
+not-pointed l k f ds es t u w =
+    let o = fields-one (isByte 58) (apart-byte 58 refl) [] (46 ∷ f) refl refl refl refl 3 3 l k ds es t u (append-nil l ∙ w) .1 in
+    let z : _≡_ {A = ℕ} 0 1 = cc in
+    omega arith
 
-abbrev goingOn : (next : List ℕ → Front) (d : List ℕ) → List ℕ → Front
-goingOn next d [] = (d ∷ [], [])
-goingOn next d (c ∷ r) = cond (isByte 58 c) (d ∷ next r .0, next r .1) (d ∷ [], c ∷ r)
-
--- at most k of them
-frontOf : (k : ℕ) → List ℕ → Front
-frontOf zero l = ([], l)
-frontOf (suc k) l = goingOn (frontOf k) (leading l) (drop (span l) l)
-
-stops-here : (next : List ℕ → Front) (d r : List ℕ) → firstIs (isByte 58) r ≡ false → goingOn next d r ≡ (d ∷ [], r)
-stops-here next d [] e = refl
-stops-here next d (c ∷ r) e = rw e
-
-module _ (r : List ℕ) (stops : digitFirst r ≡ false) (ends : firstIs (isByte 58) r ≡ false) where
-  fields-front : (k : ℕ) (l : List ℕ) (ds : List (List ℕ)) → Fields (isByte 58) k l ds → frontOf k (l ++ r) ≡ (ds, r)
-  unfolding frontOf
-  fields-front k l ds (last {k = j} {d = d} f) =
-      rw (leading-run d r (f .digits) stops, after-run d r (f .digits) stops) (stops-here (frontOf j) d r ends)
-  fields-front k l ds (more {k = j} {c = c} {d = d} {l = m} {ds = es} f e t) =
-      let a = apart-byte 58 refl c e in
-      ap (frontOf (suc j)) (append-assoc d (c ∷ m) r)
-      ∙ rw (leading-run d (c ∷ (m ++ r)) (f .digits) a, after-run d (c ∷ (m ++ r)) (f .digits) a, e)
-      (ap (λ (x : Front). (d ∷ x .0, x .1)) (fields-front j m es t))
-
--- ---- the parts that a text can have, and those that a text of the shape has
-abbrev fractionFrom : List ℕ → Fraction
-fractionFrom [] = absent
-fractionFrom (c ∷ l) = present l
-
-abbrev partsFrom : (minus : Bool) → List ℕ → RuntimeParts
-partsFrom minus l = parts minus (frontOf 3 l .0) (fractionFrom (frontOf 3 l .1))
-
-parts-front : (m : Bool) (l r : List ℕ) (ds : List (List ℕ)) → frontOf 3 (l ++ r) ≡ (ds, r) → partsFrom m (l ++ r) ≡ parts m ds (fractionFrom r)
-parts-front m l r ds e = ap (λ (x : Front). parts m (x .0) (fractionFrom (x .1))) e
-
-parts-from : (m : Bool) (l : List ℕ) (p : RuntimeParts) → RuntimeFields m l p → partsFrom m l ≡ p
-parts-from m l p (whole {fields = ds} t) =
-    ap (partsFrom m) (sym (append-nil l)) ∙ parts-front m l [] ds (fields-front [] refl refl 3 l ds t)
-parts-from m l p (pointed {l = k} {fraction = f} {fields = ds} t i) = parts-front m k (46 ∷ f) ds (fields-front (46 ∷ f) refl refl 3 k ds t)
-
-shape-from : (l : List ℕ) (p : RuntimeParts) → RuntimeShape l p → signThen partsFrom l ≡ p
-shape-from l p shape = signed-complete RuntimeFields partsFrom (fields-first false) parts-from l p shape
+parts-one : (m : Bool) (l k : List ℕ) (p q : RuntimeParts) → RuntimeFields m l p → RuntimeFields m k q → l ≡ k → p ≡ q
+parts-one m l k p q (whole {fields = ds} t) (whole {fields = es} u) w =
+    let o = fields-one (isByte 58) (apart-byte 58 refl) [] [] refl refl refl refl 3 3 l k ds es t u (ap (λ (x : List ℕ). x ++ []) w) in
+    ap (λ (x : List (List ℕ)). parts m x absent) (o .0)
+parts-one m l k p q (whole {fields = ds} t) (pointed {l = b} {fraction = g} {fields = es} u j) w =
+    absurd (not-pointed l b g ds es t u w)
+parts-one m l k p q (pointed {l = a} {fraction = f} {fields = ds} t i) (whole {fields = es} u) w =
+    absurd (not-pointed k a f es ds u t (sym w))
+parts-one m l k p q (pointed {l = a} {fraction = f} {fields = ds} t i) (pointed {l = b} {fraction = g} {fields = es} u j) w =
+    let o = fields-one (isByte 58) (apart-byte 58 refl) (46 ∷ f) (46 ∷ g) refl refl refl refl 3 3 a b ds es t u w in
+    let fraction : f ≡ g = let h = o .1 in cc in
+    ap₂ (λ (x : List (List ℕ)) (y : List ℕ). parts m x (present y)) (o .0) fraction
 
 pub one-shape : OneRuntimeShape
-one-shape l p q s t = sym (shape-from l p s) ∙ shape-from l q t
+one-shape l p q s t = signed-one RuntimeFields (fields-first false) parts-one l p q s t

@@ -3,21 +3,21 @@
 use Prim.Native.Nat.{ℕ}
 use mathlib.Core.Path.{_≡_, refl, sym, ap, _∙_, subst}
 use mathlib.Core.Logic.{_⊎_, inl, inr, ⊎-elim}
-use mathlib.Core.List.{List, [], _∷_, _++_, map, append-nil, append-assoc}
-use mathlib.Core.Bool.{Bool, true, false, or-false}
+use mathlib.Core.List.{List, [], _∷_, _++_, map, append-nil}
+use mathlib.Core.Bool.{Bool, true, false, _||_, or-false}
 use lib.ListN.{length}
-use borrow.Author.Tests.{eqb-true}
 use Rattle.digits.specs.Digits.{IsField, fieldValue, firstIs, digitFirst}
 use Rattle.answers.specs.Refusals.{noShape}
 use Rattle.scanner.specs.Scan.{isByte}
 use Rattle.scanner.specs.Then.{byteThen, endOr, keepAll}
-use Rattle.scanner.specs.Shapes.{Signed, plain, minus, Fields, last, more}
-use Rattle.scanner.proofs.Then.{field-last, begun, passing, byte-not}
-use Rattle.scanner.proofs.Signed.{field-begins, signed-complete, signed-sound}
-use Rattle.scanner.proofs.Fields.{apart-byte, fields-complete, divided}
+use Rattle.scanner.specs.Shapes.{Signed, plain, minus, Fields}
+use Rattle.scanner.specs.Long.{isOver, fieldsLong}
+use Rattle.scanner.proofs.Then.{field-last, passing, byte-not, at-byte, to-end, last-found}
+use Rattle.scanner.proofs.Signed.{signed-complete, signed-sound}
+use Rattle.scanner.proofs.Fields.{apart-byte, fields-begin, fields-complete, divided}
 use Rattle.runtime_text.specs.declared.RuntimeScan.{RuntimeScan}
 use Rattle.runtime_text.specs.declared.Kept.{Kept}
-use Rattle.runtime_text.specs.Shape.{Fraction, absent, present, RuntimeParts, parts, RuntimeFields, whole, pointed, RuntimeShape, rightJustified, inMillionths, fieldsLong, someLong}
+use Rattle.runtime_text.specs.Shape.{Fraction, absent, present, RuntimeParts, parts, RuntimeFields, whole, pointed, RuntimeShape, rightJustified, inMillionths, someLong}
 use Rattle.runtime_text.specs.Runtime.{fits, refused, unlessLong, nothing, keep, ended, afterFraction, fractionScan, afterFields, fieldsScan, runtimeScan}
 use Rattle.runtime_text.proofs.Justified.{keptOf, keep-nothing}
 
@@ -50,27 +50,16 @@ fields-read m l p (pointed {l = k} {fraction = f} {fields = ds} t i) =
     fields-then m k (46 ∷ f) ds refl refl t ∙ field-last (refused noShape) (afterFraction m (keptOf ds)) f i
 
 -- fields do not begin with `-`
-no-sign : (k : ℕ) (l r : List ℕ) (ds : List (List ℕ)) → Fields (isByte 58) k l ds → firstIs (isByte 45) (l ++ r) ≡ false
-no-sign k l r ds (last {d = d} f) = field-begins 45 d r refl f
-no-sign k l r ds (more {c = c} {d = d} {l = m} f e t) =
-    ap (firstIs (isByte 45)) (append-assoc d (c ∷ m) r) ∙ field-begins 45 d (c ∷ (m ++ r)) refl f
-
 pub fields-first : (m : Bool) (l : List ℕ) (p : RuntimeParts) → RuntimeFields m l p → firstIs (isByte 45) l ≡ false
-fields-first m l p (whole {fields = ds} t) = ap (firstIs (isByte 45)) (sym (append-nil l)) ∙ no-sign 3 l [] ds t
-fields-first m l p (pointed {l = k} {fraction = f} {fields = ds} t i) = no-sign 3 k (46 ∷ f) ds t
+fields-first m l p (whole {fields = ds} t) = ap (firstIs (isByte 45)) (sym (append-nil l)) ∙ fields-begin (isByte 58) 45 3 l [] ds refl t
+fields-first m l p (pointed {l = k} {fraction = f} {fields = ds} t i) = fields-begin (isByte 58) 45 3 k (46 ∷ f) ds refl t
 
 -- ---- a text that is not refused 1
 -- after `.` digits up to the end
-module _ (m : Bool) (kept : Kept) where
-  fraction-by : (l d r : List ℕ) → IsField d → d ++ r ≡ l → fractionScan m kept l ≡ afterFraction m kept (fieldValue d) (length d) r
-      → (fractionScan m kept l ≡ refused noShape) ⊎ IsField l
-  unfolding endOr
-  fraction-by l d [] i w g = inr (subst IsField (sym (append-nil d) ∙ w) i)
-  fraction-by l d (c ∷ r) i w g = inl g
-
-  fraction-found : (l : List ℕ) → (fractionScan m kept l ≡ refused noShape) ⊎ IsField l
-  fraction-found l =
-      ⊎-elim inl (λ b. fraction-by l (b .field) (b .rest) (b .is) (b .all) (b .gives)) (begun (refused noShape) (afterFraction m kept) l)
+fraction-found : (m : Bool) (kept : Kept) (l : List ℕ) → (fractionScan m kept l ≡ refused noShape) ⊎ IsField l
+fraction-found m kept l =
+    last-found (refused noShape)
+    (λ value count. unlessLong (kept .long || isOver 6 count) (fits m (kept .fields) (inMillionths value count))) l
 
 -- the text l begins with the fields ds
 module _ (m : Bool) (l k : List ℕ) (ds : List (List ℕ)) (t : Fields (isByte 58) 3 k ds) (kept : Kept) where
@@ -81,13 +70,13 @@ module _ (m : Bool) (l k : List ℕ) (ds : List (List ℕ)) (t : Fields (isByte 
   found-whole : (r : List ℕ) → k ++ r ≡ l → fieldsScan m l ≡ ended (kept .long) (fits m (kept .fields) 0) r → Found
   unfolding endOr
   found-whole [] w g =
-      inr (parts m ds absent, subst (λ (x : List ℕ). RuntimeFields m x (parts m ds absent)) (sym (append-nil k) ∙ w) (whole t))
+      inr (parts m ds absent, subst (λ (x : List ℕ). RuntimeFields m x (parts m ds absent)) (to-end k l w) (whole t))
   found-whole (c ∷ r) w g = inl g
 
   -- with one
   found-pointed : (c : ℕ) (q r : List ℕ) → isByte 46 c ≡ true → c ∷ q ≡ r → k ++ r ≡ l → fieldsScan m l ≡ fractionScan m kept q → Found
   found-pointed c q r e p w g =
-      let a : k ++ 46 ∷ q ≡ l = ap (λ (x : ℕ). k ++ x ∷ q) (sym (eqb-true c 46 e)) ∙ ap (λ (x : List ℕ). k ++ x) p ∙ w in
+      let a = at-byte 46 c k q r l e p w in
       let s = parts m ds (present q) in
       ⊎-elim (λ z. inl (g ∙ z)) (λ i. inr (s, subst (λ (x : List ℕ). RuntimeFields m x s) a (pointed t i))) (fraction-found m kept q)
 

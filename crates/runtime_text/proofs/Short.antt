@@ -2,31 +2,20 @@
 -- Assumes nothing.
 use Prim.Native.Nat.{ℕ}
 use mathlib.Core.Path.{_≡_, refl, ap, ap₂, _∙_}
-use mathlib.Core.List.{List, [], _∷_, map}
-use mathlib.Core.Bool.{Bool, true, false, _||_}
+use mathlib.Core.List.{List}
+use mathlib.Core.Bool.{Bool, false}
 use native.Mathlib.Omega.{arith}
 use lib.ListN.{length}
 use borrow.Author.Tests.{ltb-false}
-use Rattle.digits.specs.Digits.{valueOf, fieldValue}
 use Rattle.digits.proofs.Runs.{field-value}
-use Rattle.runtime_text.specs.Shape.{Fraction, absent, present, rightJustified, inMillionths, millionthsOf, isOver, fieldsLong, fractionLong}
+use Rattle.scanner.specs.Long.{fieldsLong}
+use Rattle.scanner.proofs.Long.{neither, values-short}
+use Rattle.runtime_text.specs.Shape.{Fraction, absent, present, rightJustified, inMillionths, millionthsOf, fractionLong}
 use Rattle.runtime_text.specs.Runtime.{fits, unlessLong}
 use Rattle.runtime_text.specs.Statements.{RuntimeReads}
 use Rattle.runtime_text.proofs.Shape.{fractionRead, scanned, runtime-given}
 
-pub neither : (p q : Bool) → (p || q) ≡ false → (p ≡ false) × (q ≡ false)
-neither true q e = (e, cc)
-neither false q e = (refl, e)
-
--- fields of at most 9 digits are read as their values
-values-short : (fields : List (List ℕ)) → fieldsLong fields ≡ false → map fieldValue fields ≡ map valueOf fields
-unfolding fieldsLong
-values-short [] e = refl
-values-short (d ∷ ds) e =
-    let s = neither (isOver 9 (length d)) (fieldsLong ds) e in
-    ap₂ (λ (x : ℕ) (y : List ℕ). x ∷ y) (field-value d (ltb-false 9 (length d) (s .0))) (values-short ds (s .1))
-
--- and so is a fraction of at most 6
+-- a fraction of at most 6 digits is read as its value
 pub fraction-short : (f : Fraction) → fractionLong f ≡ false → fractionRead f ≡ millionthsOf f
 fraction-short absent e = refl
 fraction-short (present d) e =

@@ -12,11 +12,12 @@ use Rattle.scanner.specs.declared.Field.the-variants.{Digits}
 use Rattle.scanner.specs.declared.Passed.the-variants.{Next, Other}
 use Rattle.scanner.specs.Scan.{cursor, fieldOf, pastIf, isByte, isEnd}
 use Rattle.scanner.specs.Then.{afterField, signThen}
+use Rattle.scanner.specs.Justified.{shift}
 use Rattle.scanner.proofs.Then.{byte-other, byte-next, end-yes, end-no, sign-minus, sign-plain}
 use Rattle.scanner.proofs.Fields.{fields-some}
 use Rattle.runtime_text.specs.declared.Kept.{Kept}
 use Rattle.runtime_text.specs.declared.RuntimeScan.{RuntimeScan}
-use Rattle.runtime_text.specs.Runtime.{refused, unlessLong, shift, keep, ended, afterFields, fieldsFrom, fieldsScan, runtimeScan}
+use Rattle.runtime_text.specs.Runtime.{refused, unlessLong, keep, ended, afterFields, fieldsFrom, fieldsScan, runtimeScan}
 
 -- ---- the sign: at the start it was asked for
 module _ (text : List ℕ) (start : Cursor) (at-start : start ≡ cursor 0) where

@@ -1,18 +1,19 @@
 -- Text shapes, runtime: what any text gives, read in steps. What that comes to is said in Statements.antt.
 -- Assumes nothing.
 use Prim.Native.Nat.{ℕ}
-use mathlib.Core.List.{List, [], _∷_, _++_}
+use mathlib.Core.List.{List, [], _∷_}
 use mathlib.Core.Bool.{Bool, true, false, _||_}
-use lib.ListN.{drop}
 use Rattle.answers.specs.declared.Refusal.{Refusal}
 use Rattle.answers.specs.Refusals.{noShape, tooLong}
 use Rattle.scanner.specs.Scan.{isByte}
 use Rattle.scanner.specs.Then.{fieldThen, byteThen, endOr, signThen, fieldsThen}
+use Rattle.scanner.specs.Long.{isOver, isLong}
+use Rattle.scanner.specs.Justified.{shift}
 use Rattle.runtime_text.specs.declared.Verdict.{Verdict}
 use Rattle.runtime_text.specs.declared.Verdict.the-variants.{Fits, Refused}
 use Rattle.runtime_text.specs.declared.RuntimeScan.{RuntimeScan}
 use Rattle.runtime_text.specs.declared.Kept.{Kept}
-use Rattle.runtime_text.specs.Shape.{inMillionths, isOver}
+use Rattle.runtime_text.specs.Shape.{inMillionths}
 
 -- a runtime, with its sign, three fields and its fraction
 abbrev pub fits : (minus : Bool) (fields : List ℕ) (millionths : ℕ) → RuntimeScan
@@ -39,11 +40,8 @@ unlessLong false answer = answer
 abbrev pub nothing : Kept
 nothing = record { long = false; fields = 0 ∷ 0 ∷ 0 ∷ [] }
 
-abbrev pub shift : (fields : List ℕ) (value : ℕ) → List ℕ
-shift fields value = drop 1 fields ++ (value ∷ [])
-
 abbrev pub keep : Kept → (value count : ℕ) → Kept
-keep kept value count = record { long = kept .long || isOver 9 count; fields = shift (kept .fields) value }
+keep kept value count = record { long = kept .long || isLong count; fields = shift (kept .fields) value }
 
 -- the whole text: at the end nothing is left
 abbrev pub ended : (long : Bool) → RuntimeScan → List ℕ → RuntimeScan

@@ -1,13 +1,14 @@
 -- Text shapes, runtime: the shape as a grammar, and what its fields and its fraction come to. No reader stands here.
 -- Assumes nothing.
 use Prim.Native.Nat.{ℕ, _-_, _*_, _^_}
-use mathlib.Core.List.{List, [], _∷_, _++_}
+use mathlib.Core.List.{List, _∷_, _++_}
 use mathlib.Core.Bool.{Bool, false, _||_}
-use lib.ListN.{length, drop}
-use lib.Dec.{ltb}
+use lib.ListN.{length}
 use Rattle.digits.specs.Digits.{IsField, valueOf}
 use Rattle.scanner.specs.Scan.{isByte}
 use Rattle.scanner.specs.Shapes.{Signed, Fields}
+use Rattle.scanner.specs.Long.{isOver, fieldsLong}
+use Rattle.scanner.specs.Justified.{justified}
 
 -- the digits of a fraction, where it is present
 pub data Fraction : Type 0 where
@@ -34,10 +35,9 @@ pub data RuntimeFields (minus : Bool) : List ℕ → RuntimeParts → Type 0 whe
 abbrev pub RuntimeShape : (l : List ℕ) → RuntimeParts → Type 0
 RuntimeShape l runtime = Signed RuntimeFields l runtime
 
--- the last field is seconds, then leftward minutes, hours: right-justified, absent ones zero.
--- Of three zeros and then the values, the last three.
+-- the last field is seconds, then leftward minutes, hours: right-justified, absent ones zero
 abbrev pub rightJustified : (values : List ℕ) → List ℕ
-rightJustified values = drop (length values) ((0 ∷ 0 ∷ 0 ∷ []) ++ values)
+rightJustified values = justified 3 values
 
 -- the value of a fraction of so many digits, in millionths
 abbrev pub inMillionths : (value count : ℕ) → ℕ
@@ -46,15 +46,6 @@ inMillionths value count = value * 10 ^ (6 - count)
 abbrev pub millionthsOf : Fraction → ℕ
 millionthsOf absent = 0
 millionthsOf (present d) = inMillionths (valueOf d) (length d)
-
--- so many digits are over the most allowed
-abbrev pub isOver : (most count : ℕ) → Bool
-isOver most count = ltb most count
-
--- some field has over 9 digits
-unfoldable pub fieldsLong : (fields : List (List ℕ)) → Bool
-fieldsLong [] = false
-fieldsLong (d ∷ ds) = isOver 9 (length d) || fieldsLong ds
 
 -- the fraction has over 6
 abbrev pub fractionLong : Fraction → Bool

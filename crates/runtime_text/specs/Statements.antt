@@ -5,9 +5,10 @@ use mathlib.Core.Path.{_≡_}
 use mathlib.Core.Logic.{_↔_}
 use mathlib.Core.List.{List, map}
 use mathlib.Core.Bool.{Bool, true, false}
-use lib.ListN.{length, getD}
+use lib.ListN.{length}
 use Rattle.digits.specs.Digits.{valueOf}
 use Rattle.answers.specs.Refusals.{noShape, tooLong}
+use Rattle.scanner.specs.Justified.{Below}
 use Rattle.runtime_text.specs.declared.Verdict.the-variants.{Fits}
 use Rattle.runtime_text.specs.Shape.{RuntimeParts, RuntimeShape, rightJustified, millionthsOf, someLong}
 use Rattle.runtime_text.specs.Runtime.{fits, refused, runtimeScan}
@@ -44,7 +45,7 @@ OneRuntimeShape = (l : List ℕ) (p q : RuntimeParts) → RuntimeShape l p → R
 -- whatever the text, the answer has three fields, each below 10^9, and fewer than 10^6 millionths
 pub record Bounded (fields : List ℕ) (millionths : ℕ) : Type 0 where
   pub three : length fields ≡ 3
-  pub below : (i : ℕ) → getD fields i 0 < 10 ^ 9
+  pub below : Below fields
   pub fraction : millionths < 10 ^ 6
 
 abbrev pub RuntimeBounded : Type 0

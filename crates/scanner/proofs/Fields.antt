@@ -15,6 +15,7 @@ use Rattle.scanner.specs.declared.Field.the-variants.{Digits, Missing}
 use Rattle.scanner.specs.Scan.{fieldOf, isByte, isDivider}
 use Rattle.scanner.specs.Then.{fieldThen, afterField, fieldsThen, keepAll}
 use Rattle.scanner.specs.Shapes.{Fields, last, more}
+use Rattle.scanner.proofs.Signed.{field-begins}
 use Rattle.scanner.proofs.Then.{begun, field-run, Passing, passing, byte-first, byte-not, field-none, field-some}
 
 -- a divider is no digit, and neither is a byte that is none
@@ -27,6 +28,13 @@ apart-by c false e h = apart-byte 59 refl c h
 
 pub apart-divider : (c : ℕ) → isDivider c ≡ true → isDigit c ≡ false
 apart-divider c e = apart-by c (eqb c 58) refl e
+
+-- fields do not begin with a byte that is no digit
+pub fields-begin : (divides : ℕ → Bool) (b k : ℕ) (l r : List ℕ) (ds : List (List ℕ)) → isDigit b ≡ false → Fields divides k l ds
+    → firstIs (isByte b) (l ++ r) ≡ false
+fields-begin divides b k l r ds h (last {d = d} f) = field-begins b d r h f
+fields-begin divides b k l r ds h (more {c = c} {d = d} {l = m} f e t) =
+    ap (firstIs (isByte b)) (append-assoc d (c ∷ m) r) ∙ field-begins b d (c ∷ (m ++ r)) h f
 
 module _ {S A : Type 0} (divides : ℕ → Bool) (none : A) (keep : S → (value count : ℕ) → S) (then : S → List ℕ → A) where
   -- what comes after a field, with k more allowed

@@ -11,7 +11,7 @@ use Rattle.digits.specs.Digits.{isDigit, IsField, firstIs}
 use Rattle.digits.proofs.Values.{all-head}
 use Rattle.scanner.specs.Scan.{isByte}
 use Rattle.scanner.specs.Then.{signBy, signThen}
-use Rattle.scanner.specs.Shapes.{Signed, plain, minus}
+use Rattle.scanner.specs.Shapes.{Signed, plain, minus, signed}
 
 -- a field does not begin with a byte that is no digit
 pub field-begins : (b : ℕ) (d r : List ℕ) → isDigit b ≡ false → IsField d → firstIs (isByte b) (d ++ r) ≡ false
@@ -22,6 +22,11 @@ field-begins b (c ∷ d) r e f =
     let z : true ≡ false = sym (all-head c d (f .digits)) ∙ ap isDigit p ∙ e in
     let y : _≡_ {A = ℕ} 0 1 = cc in
     omega arith)
+
+-- a shape with a sign or without
+pub signed-shape : {A : Type 0} (P : (minus : Bool) → List ℕ → A → Type 0) (m : Bool) (l : List ℕ) (g : A) → P m l g → Signed P (signed m l) g
+signed-shape P true l g t = minus t
+signed-shape P false l g t = plain t
 
 module _ {A : Type 0} (P : (minus : Bool) → List ℕ → A → Type 0) (then : (minus : Bool) → List ℕ → A) where
   -- a text of the shape reads as the shape says, if that without a sign does not begin with `-`

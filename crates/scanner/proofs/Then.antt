@@ -1,13 +1,14 @@
 -- Each step of a reading: from what the scanner answered, on a text that is known, and back to what the text was.
 -- Assumes nothing.
 use Prim.Native.Nat.{ℕ, zero, suc, _-_}
-use mathlib.Core.Path.{_≡_, refl, sym, ap, _∙_}
-use mathlib.Core.Logic.{_⊎_, inl, inr}
+use mathlib.Core.Path.{_≡_, refl, sym, ap, _∙_, subst}
+use mathlib.Core.Logic.{_⊎_, inl, inr, ⊎-elim}
 use mathlib.Core.List.{List, [], _∷_, _++_, append-nil}
 use mathlib.Core.Bool.{Bool, true, false}
 use native.Mathlib.Omega.{arith}
 use lib.ListN.{length, drop}
 use lib.Seq.{drop-drop}
+use borrow.Author.Tests.{eqb-true}
 use Rattle.digits.specs.Digits.{IsField, fieldValue, firstIs, digitFirst, span, leading}
 use Rattle.digits.proofs.Runs.{span-run, leading-run, after-run, span-stops, leading-rest, leading-length, leading-field}
 use Rattle.scanner.specs.declared.Cursor.{Cursor}
@@ -120,7 +121,15 @@ module _ {A : Type 0} (test : ℕ → Bool) (other : A) (then : List ℕ → A) 
   passing [] = inl refl
   passing (c ∷ l) = passing-by c l (test c) refl
 
+-- the byte b after a text
+pub at-byte : (b c : ℕ) (d q r l : List ℕ) → isByte b c ≡ true → c ∷ q ≡ r → d ++ r ≡ l → d ++ b ∷ q ≡ l
+at-byte b c d q r l e p w = ap (λ (x : ℕ). d ++ x ∷ q) (sym (eqb-true c b e)) ∙ ap (λ (x : List ℕ). d ++ x) p ∙ w
+
 -- ---- the end
+-- with nothing left, the text is what was in front
+pub to-end : (d l : List ℕ) → d ++ [] ≡ l → d ≡ l
+to-end d l w = sym (append-nil d) ∙ w
+
 module _ {A : Type 0} (ended : A) (more : List ℕ → A) where
   pub end-yes : (l : List ℕ) → isEnd l ≡ true → endOr ended more l ≡ ended
   unfolding endOr
@@ -129,6 +138,23 @@ module _ {A : Type 0} (ended : A) (more : List ℕ → A) where
   pub end-no : (l : List ℕ) → isEnd l ≡ false → endOr ended more l ≡ more l
   unfolding endOr
   end-no l e = rw e
+
+-- a field up to the end: it gave `none`, or the text is a field
+module _ {A : Type 0} (none : A) (then : (value count : ℕ) → A) where
+  abbrev pub lastThen : List ℕ → A
+  lastThen l = fieldThen none (λ value count rest. endOr (then value count) (λ left. none) rest) l
+
+  last-by : (l d r : List ℕ) → IsField d → d ++ r ≡ l → lastThen l ≡ endOr (then (fieldValue d) (length d)) (λ left. none) r
+      → (lastThen l ≡ none) ⊎ IsField l
+  unfolding endOr
+  last-by l d [] i w g = inr (subst IsField (to-end d l w) i)
+  last-by l d (c ∷ r) i w g = inl g
+
+  pub last-found : (l : List ℕ) → (lastThen l ≡ none) ⊎ IsField l
+  last-found l =
+      ⊎-elim inl
+      (λ b. last-by l (b .field) (b .rest) (b .is) (b .all) (b .gives))
+      (begun none (λ value count rest. endOr (then value count) (λ left. none) rest) l)
 
 -- ---- the sign
 module _ {A : Type 0} (then : (minus : Bool) → List ℕ → A) where

@@ -1,3 +1,5 @@
 pub mod Scan
 pub mod Then
 pub mod Shapes
+pub mod Long
+pub mod Justified

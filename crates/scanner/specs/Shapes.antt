@@ -11,6 +11,11 @@ pub data Signed {A : Type 0} (P : (minus : Bool) → List ℕ → A → Type 0) 
   plain : {l : List ℕ} {g : A} → P false l g → Signed P l g
   minus : {l : List ℕ} {g : A} → P true l g → Signed P (45 ∷ l) g
 
+-- a text with `-` in front, or without
+abbrev pub signed : (minus : Bool) → List ℕ → List ℕ
+signed true l = 45 ∷ l
+signed false l = l
+
 -- one to k fields, each two divided by a byte that passes the test; with the list of them
 pub data Fields (divides : ℕ → Bool) : (k : ℕ) → List ℕ → (fields : List (List ℕ)) → Type 0 where
   last : {k : ℕ} {d : List ℕ} → IsField d → Fields divides (suc k) d (d ∷ [])

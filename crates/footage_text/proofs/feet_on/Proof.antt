@@ -6,7 +6,7 @@ use mathlib.Core.Bool.{Bool}
 use lib.ListN.{drop}
 use Rattle.scanner.specs.Scan.{isByte}
 use Rattle.scanner.proofs.Then.{field-none, field-some, byte-other, byte-next}
-use Rattle.footage_text.specs.Shape.{isLong}
+use Rattle.scanner.specs.Long.{isLong}
 use Rattle.footage_text.specs.Footage.{shapeless, framesScan, afterFeet, feetScan}
 use Rattle.footage_text.proofs.feet_on.Statement.{statement}
 use Rattle.footage_text.proofs.feet_on.Tie as tie

@@ -7,10 +7,10 @@ use Prim.Native.Nat.{ℕ, _*_}
 use mathlib.Core.Bool.{Bool, _||_}
 use lib.ListN.{drop}
 use Rattle.answers.specs.Refusals.{noShape}
+use Rattle.scanner.specs.Long.{isOver}
 use Rattle.scanner.proofs.Answers.{was-digits}
 use Rattle.scanner.proofs.Then.{field-none, field-some}
 use Rattle.runtime_text.specs.declared.RuntimeScan.{RuntimeScan}
-use Rattle.runtime_text.specs.Shape.{isOver}
 use Rattle.runtime_text.specs.Runtime.{fits, refused, ended, afterFraction}
 use Rattle.runtime_text.proofs.Millionths.{scaled-fits}
 use Rattle.runtime_text.proofs.fraction.Statement.{statement}
