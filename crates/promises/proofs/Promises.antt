@@ -20,6 +20,8 @@ use Rattle.runtime_line.proofs.Statements as runtime-line
 use Rattle.time.proofs.Statements as time
 use Rattle.arithmetic.proofs.Statements as arithmetic
 use Rattle.chains.proofs.Demand3 as chains
+use Rattle.streams.proofs.Statements as streams
+use Rattle.lines.proofs.Statements as lines
 use Rattle.promises.proofs.Demand1.{refused-zero, refused-keeps-line}
 use Rattle.promises.proofs.Calls.{one-answer}
 use Rattle.promises.proofs.When.{refused-when}
@@ -145,4 +147,9 @@ promises = record {
   quotient-floor = arithmetic.quotient-floor;
   remainder-nearest = arithmetic.remainder-nearest;
   compare-is-order = arithmetic.compare-is-order;
+  line-kept = streams.line-kept;
+  line-over = streams.line-over;
+  read-at-rate = lines.read-at-rate;
+  not-begun = lines.not-begun;
+  short-answer = lines.short-answer;
 }

@@ -22,7 +22,7 @@ use Rattle.arithmetic.specs.Flooring.{divqOf}
 use Rattle.arithmetic.specs.Sum.{addOf}
 use Rattle.chains.specs.declared.Converted.the-variants.{At}
 use Rattle.chains.specs.Chain.{timecode, convertOf}
-use Rattle.promises.specs.Bytes.{bytesOf}
+use Rattle.lines.specs.Output.{bytesOf}
 
 -- what a row says, in the document's words
 pub data Case : Type 0 where

@@ -1,4 +1,3 @@
-pub mod Bytes
 pub mod Calls
 pub mod Demand1
 pub mod When

@@ -19,6 +19,8 @@ use Rattle.runtime_line.specs.Statements as runtime-line
 use Rattle.time.specs.Statements as time
 use Rattle.arithmetic.specs.Statements as arithmetic
 use Rattle.chains.specs.Demand3 as chains
+use Rattle.streams.specs.Statements as streams
+use Rattle.lines.specs.Statements as lines
 use Rattle.promises.specs.Demand1.{RefusedZero, RefusedKeepsLine}
 use Rattle.promises.specs.Calls.{OneAnswer}
 use Rattle.promises.specs.When.{RefusedWhen}
@@ -153,3 +155,9 @@ pub record Promises : Type 0 where
   pub quotient-floor : arithmetic.QuotientFloor
   pub remainder-nearest : arithmetic.RemainderNearest
   pub compare-is-order : arithmetic.CompareIsOrder
+  -- the line program
+  pub line-kept : streams.LineKept
+  pub line-over : streams.LineOver
+  pub read-at-rate : lines.ReadAtRate
+  pub not-begun : lines.NotBegun
+  pub short-answer : lines.ShortAnswer

@@ -1,0 +1,29 @@
+-- `streams::Gathered::take` meets its contract: each return is the definition's case that the test of room chose.
+-- Assumes nothing.
+use mathlib.Core.Path.{refl}
+use borrow.Author.Needs.{needs}
+use Rattle.streams.proofs.Gathering.{taken-room, taken-over}
+use Rattle.streams.proofs.gathered.Gathered.take.Statement.{statement}
+use Rattle.streams.proofs.gathered.Gathered.take.Tie as tie
+
+slice-write-line : tie.Need-slice-write-line
+slice-write-line c = search needs
+
+add-t8 : tie.Need-add-t8
+add-t8 c = search needs
+
+same-length : tie.Need-same-length
+same-length c = search needs
+
+returns : tie.Need-returns
+returns c =
+    let a = c .before .args in
+    (taken-room (a .line .now) (a .self) (a .b) (c .if1 .taken), refl)
+
+returns-2 : tie.Need-returns-2
+returns-2 c =
+    let a = c .before .args in
+    taken-over (a .line .now) (a .self) (a .b) (c .if1 .left)
+
+pub take-spec : {M : Type 1} → statement M
+take-spec = tie.close (tie.spec slice-write-line add-t8 same-length returns returns-2)
