@@ -1,0 +1,142 @@
+/* The same rules, refusals and answers as tzq_write_label and tzq_read, written as one would write them in C without proofs. */
+#include "plain.h"
+
+#include <string.h>
+
+static const uint8_t TIMEBASE[13] = {0, 24, 24, 25, 30, 30, 30, 48, 48, 50, 60, 60, 60};
+static const uint8_t DROP[13] = {0, 0, 0, 0, 0, 2, 0, 0, 0, 0, 0, 4, 0};
+
+/* ---- writing ---- */
+
+static uint8_t *two(uint8_t *p, uint64_t n) {
+    p[0] = (uint8_t)('0' + n / 10);
+    p[1] = (uint8_t)('0' + n % 10);
+    return p + 2;
+}
+
+/* the label's number among all labels, dropped ones counted in */
+static uint64_t with_dropped(uint64_t f, uint64_t timebase, uint64_t d) {
+    if (d == 0)
+        return f;
+    uint64_t minute = 60 * timebase - d, ten = 600 * timebase - 9 * d;
+    uint64_t tens = f / ten, rest = f % ten;
+    uint64_t dropped = 9 * d * tens;
+    if (rest >= 60 * timebase)
+        dropped += d * ((rest - 60 * timebase) / minute + 1);
+    return f + dropped;
+}
+
+tzq_length plain_write_label(tzq_timecode tc, uint8_t *line, size_t length, size_t place) {
+    tzq_length no = {0, 0};
+    if (tc.rate < 1 || tc.rate > 12) {
+        no.refused = TZQ_NO_SUCH;
+        return no;
+    }
+    if (tc.count < -TZQ_MOST || tc.count > TZQ_MOST) {
+        no.refused = TZQ_OUT_OF_BOUNDS;
+        return no;
+    }
+    uint64_t timebase = TIMEBASE[tc.rate], d = DROP[tc.rate];
+    uint64_t n = with_dropped((uint64_t)(tc.count < 0 ? -tc.count : tc.count), timebase, d);
+    uint8_t text[TZQ_ROOM], *p = text;
+    uint64_t frames = n % timebase, s = n / timebase, hours = s / 3600;
+    if (tc.count < 0)
+        *p++ = '-';
+    if (hours >= 1000)
+        *p++ = (uint8_t)('0' + hours / 1000);
+    if (hours >= 100)
+        *p++ = (uint8_t)('0' + hours / 100 % 10);
+    p = two(p, hours % 100);
+    *p++ = ':';
+    p = two(p, s / 60 % 60);
+    *p++ = ':';
+    p = two(p, s % 60);
+    *p++ = d ? ';' : ':';
+    p = two(p, frames);
+    size_t need = (size_t)(p - text);
+    if (place > length || need > length - place) {
+        no.refused = TZQ_NO_ROOM;
+        return no;
+    }
+    memcpy(line + place, text, need);
+    tzq_length yes = {0, need};
+    return yes;
+}
+
+/* ---- reading ---- */
+
+typedef struct { uint64_t value; size_t digits, next; } run;
+
+static run digits_at(const uint8_t *text, size_t length, size_t at) {
+    run r = {0, 0, at};
+    while (r.next < length && text[r.next] >= '0' && text[r.next] <= '9') {
+        if (r.digits < 9)
+            r.value = 10 * r.value + (text[r.next] - '0');
+        r.digits++;
+        r.next++;
+    }
+    return r;
+}
+
+static tzq_read_count refused(uint64_t number) {
+    tzq_read_count a = {number, 0, 0};
+    return a;
+}
+
+static tzq_read_count held(bool minus, uint64_t count, uint64_t format) {
+    if (count > TZQ_MOST)
+        return refused(TZQ_OUT_OF_BOUNDS);
+    tzq_read_count a = {0, minus ? -(int64_t)count : (int64_t)count, format};
+    return a;
+}
+
+static tzq_read_count read_footage(const uint8_t *text, size_t length, bool minus, run feet) {
+    run frames = digits_at(text, length, feet.next + 1);
+    bool over = feet.digits > 9 || frames.digits > 9, perf = false;
+    if (frames.digits == 0)
+        return refused(TZQ_NO_SHAPE);
+    size_t end = frames.next;
+    if (end < length && text[end] == '.') {
+        run p = digits_at(text, length, end + 1);
+        if (p.digits == 0)
+            return refused(TZQ_NO_SHAPE);
+        over |= p.digits > 9;
+        perf = true;
+        end = p.next;
+    }
+    if (end != length)
+        return refused(TZQ_NO_SHAPE);
+    if (over)
+        return refused(TZQ_TOO_LONG);
+    if (perf)
+        return held(minus, 64 * (feet.value / 3) + 21 * (feet.value % 3) + frames.value, 2);
+    return held(minus, 16 * feet.value + frames.value, 1);
+}
+
+tzq_read_count plain_read(const uint8_t *text, size_t length, uint64_t rate) {
+    if (rate < 1 || rate > 12)
+        return refused(TZQ_NO_SUCH);
+    bool minus = length > 0 && text[0] == '-', over = false;
+    size_t at = minus ? 1 : 0;
+    uint64_t kept[4] = {0, 0, 0, 0};
+    for (int fields = 1;; fields++) {
+        run r = digits_at(text, length, at);
+        if (r.digits == 0 || fields > 4)
+            return refused(TZQ_NO_SHAPE);
+        if (fields == 1 && r.next < length && text[r.next] == '+')
+            return read_footage(text, length, minus, r);
+        over |= r.digits > 9;
+        kept[0] = kept[1], kept[1] = kept[2], kept[2] = kept[3], kept[3] = r.value;
+        if (r.next == length)
+            break;
+        if (text[r.next] != ':' && text[r.next] != ';')
+            return refused(TZQ_NO_SHAPE);
+        at = r.next + 1;
+    }
+    if (over)
+        return refused(TZQ_TOO_LONG);
+    uint64_t d = DROP[rate], minutes = 60 * kept[0] + kept[1];
+    if (kept[2] == 0 && kept[3] < d && kept[1] % 10 != 0)
+        return refused(TZQ_DROPPED_LABEL);
+    return held(minus, (60 * minutes + kept[2]) * TIMEBASE[rate] + kept[3] - d * (minutes - minutes / 10), 0);
+}

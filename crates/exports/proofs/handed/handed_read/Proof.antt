@@ -1,0 +1,55 @@
+-- `exports::handed_read` meets its contract: each arm gives the numbers of its case.
+-- Assumes nothing.
+use mathlib.Core.Path.{_≡_}
+use mir.Syntax.{w64}
+use mir.Val.{toZ, ofZ}
+use Rattle.exports.specs.Handed.{handedRead}
+use borrow.Author.Needs.{needs}
+use Rattle.exports.proofs.handed.handed_read.Statement.{statement}
+use Rattle.exports.proofs.handed.handed_read.Tie as tie
+
+enum-known-a : tie.Need-enum-known-a
+enum-known-a c = search needs
+
+enum-known-a-2 : tie.Need-enum-known-a-2
+enum-known-a-2 c = search needs
+
+number-requires : tie.Need-number-requires
+number-requires c κs = search needs
+
+enum-known-a-3 : tie.Need-enum-known-a-3
+enum-known-a-3 c = search needs
+
+wide-requires : tie.Need-wide-requires
+wide-requires c κs = search needs
+
+returns : tie.Need-returns
+unfolding handedRead
+returns c =
+    let z = c .before .a .given .0 .0 in
+    let back : toZ w64 (ofZ w64 z) ≡ z = search needs in
+    simp (back, c .before .a .given .1)
+
+returns-2 : tie.Need-returns-2
+unfolding handedRead
+returns-2 c =
+    let z = c .before .before .a2 .given .0 .0 in
+    let back : toZ w64 (ofZ w64 z) ≡ z = search needs in
+    simp (back, c .number .ensures, c .before .before .a2 .given .1)
+
+returns-3 : tie.Need-returns-3
+unfolding handedRead
+returns-3 c = simp (c .wide .ensures, c .before .before .a3 .given .1)
+
+pub handed-read-spec : {M : Type 1} → statement M
+handed-read-spec =
+    tie.close
+    (tie.spec
+    enum-known-a
+    enum-known-a-2
+    number-requires
+    enum-known-a-3
+    wide-requires
+    returns
+    returns-2
+    returns-3)

@@ -1,0 +1,31 @@
+-- `exports::tzq_divq` meets its contract: the answer of `arithmetic::divq`, handed over.
+-- Assumes nothing.
+use mathlib.Core.Path.{_≡_, ap, ap₂, _∙_}
+use lib.IntN.{ℤ}
+use mir.Syntax.{w64}
+use mir.Val.{toZ, ofZ}
+use Rattle.rates.specs.declared.Timecode.{Timecode}
+use Rattle.arithmetic.specs.Flooring.{divqOf}
+use Rattle.exports.specs.Handed.{handedCount}
+use borrow.Author.Needs.{needs}
+use Rattle.exports.proofs.sums.tzq_divq.Statement.{statement}
+use Rattle.exports.proofs.sums.tzq_divq.Tie as tie
+
+timecode-requires : tie.Need-timecode-requires
+timecode-requires c κs = search needs
+
+divq-requires : tie.Need-divq-requires
+divq-requires c κs = search needs
+
+handed-count-requires : tie.Need-handed-count-requires
+handed-count-requires c κs = search needs
+
+returns : tie.Need-returns
+returns c =
+    let a = c .before .before .before .args in
+    let back : toZ w64 (ofZ w64 (a .p)) ≡ a .p = search needs in
+    c .handed-count .ensures
+    ∙ ap handedCount (c .before .divq .ensures ∙ ap₂ (λ (t : Timecode) (z : ℤ). divqOf t z (a .q)) (c .before .before .timecode .ensures) back)
+
+pub tzq-divq-spec : {M : Type 1} → statement M
+tzq-divq-spec = tie.close (tie.spec timecode-requires divq-requires handed-count-requires returns)

@@ -1,0 +1,19 @@
+-- `exports::tzq_minute_start` meets its contract: the answer of `minutes::minute_start`, handed over.
+-- Assumes nothing.
+use mathlib.Core.Path.{ap, _∙_}
+use Rattle.exports.specs.Handed.{handedCount}
+use borrow.Author.Needs.{needs}
+use Rattle.exports.proofs.tables.tzq_minute_start.Statement.{statement}
+use Rattle.exports.proofs.tables.tzq_minute_start.Tie as tie
+
+minute-start-requires : tie.Need-minute-start-requires
+minute-start-requires c κs = search needs
+
+handed-count-requires : tie.Need-handed-count-requires
+handed-count-requires c κs = search needs
+
+returns : tie.Need-returns
+returns c = c .handed-count .ensures ∙ ap handedCount (c .before .minute-start .ensures)
+
+pub tzq-minute-start-spec : {M : Type 1} → statement M
+tzq-minute-start-spec = tie.close (tie.spec minute-start-requires handed-count-requires returns)

@@ -1,0 +1,24 @@
+-- `exports::tzq_sections` meets its contract: the answer of `label_line::sections`, handed over.
+-- Assumes nothing.
+use mathlib.Core.Path.{ap, _∙_}
+use Rattle.label_line.specs.Sections.{sectioned}
+use Rattle.exports.specs.Handed.{handedSections}
+use borrow.Author.Needs.{needs}
+use Rattle.exports.proofs.writes.tzq_sections.Statement.{statement}
+use Rattle.exports.proofs.writes.tzq_sections.Tie as tie
+
+timecode-requires : tie.Need-timecode-requires
+timecode-requires c κs = search needs
+
+sections-requires : tie.Need-sections-requires
+sections-requires c κs = search needs
+
+handed-sections-requires : tie.Need-handed-sections-requires
+handed-sections-requires c κs = search needs
+
+returns : tie.Need-returns
+returns c = c .handed-sections .ensures ∙ ap handedSections (c .before .sections .ensures ∙ ap sectioned (c .before .before .timecode .ensures))
+
+pub tzq-sections-spec : {M : Type 1} → statement M
+tzq-sections-spec =
+    tie.close (tie.spec timecode-requires sections-requires handed-sections-requires returns)

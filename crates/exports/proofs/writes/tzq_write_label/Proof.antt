@@ -1,0 +1,36 @@
+-- `exports::tzq_write_label` meets its contract: the answer and the line of `label_line::write_label`, handed over.
+-- Assumes nothing.
+use mathlib.Core.Path.{ap, _∙_}
+use Rattle.rates.specs.declared.Timecode.{Timecode}
+use Rattle.written.specs.Written.{answerTo, lineTo}
+use Rattle.label_line.specs.LabelText.{labelDraft}
+use Rattle.exports.specs.Handed.{handedLength}
+use borrow.Author.Needs.{needs}
+use Rattle.exports.proofs.writes.tzq_write_label.Statement.{statement}
+use Rattle.exports.proofs.writes.tzq_write_label.Tie as tie
+
+timecode-requires : tie.Need-timecode-requires
+timecode-requires c κs = search needs
+
+write-label-requires : tie.Need-write-label-requires
+write-label-requires c κs = search needs
+
+handed-length-requires : tie.Need-handed-length-requires
+handed-length-requires c κs = search needs
+
+same-length : tie.Need-same-length
+same-length c = search needs
+
+returns : tie.Need-returns
+returns c =
+    let a = c .before .before .before .before .before .before .before .args in
+    let w = c .before .before .before .write-label .ensures in
+    let same = c .before .before .before .before .before .timecode .ensures in (
+      c .handed-length .ensures ∙ ap handedLength (w .0 ∙ ap (λ (t : Timecode). answerTo (a .line .now) (a .place) (labelDraft t)) same),
+      w .1 ∙ ap (λ (t : Timecode). lineTo (a .line .now) (a .place) (labelDraft t)) same,
+    )
+
+pub tzq-write-label-spec : {M : Type 1} → statement M
+tzq-write-label-spec =
+    tie.close
+    (tie.spec timecode-requires write-label-requires handed-length-requires same-length returns)

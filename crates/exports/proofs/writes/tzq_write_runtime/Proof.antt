@@ -1,0 +1,36 @@
+-- `exports::tzq_write_runtime` meets its contract: the answer and the line of `runtime_line::write_runtime`, handed over.
+-- Assumes nothing.
+use mathlib.Core.Path.{ap, _∙_}
+use Rattle.rates.specs.declared.Timecode.{Timecode}
+use Rattle.written.specs.Written.{answerTo, lineTo}
+use Rattle.runtime_line.specs.RuntimeText.{runtimeDraft}
+use Rattle.exports.specs.Handed.{handedLength}
+use borrow.Author.Needs.{needs}
+use Rattle.exports.proofs.writes.tzq_write_runtime.Statement.{statement}
+use Rattle.exports.proofs.writes.tzq_write_runtime.Tie as tie
+
+timecode-requires : tie.Need-timecode-requires
+timecode-requires c κs = search needs
+
+write-runtime-requires : tie.Need-write-runtime-requires
+write-runtime-requires c κs = search needs
+
+handed-length-requires : tie.Need-handed-length-requires
+handed-length-requires c κs = search needs
+
+same-length : tie.Need-same-length
+same-length c = search needs
+
+returns : tie.Need-returns
+returns c =
+    let a = c .before .before .before .before .before .before .before .args in
+    let w = c .before .before .before .write-runtime .ensures in
+    let same = c .before .before .before .before .before .timecode .ensures in (
+      c .handed-length .ensures ∙ ap handedLength (w .0 ∙ ap (λ (t : Timecode). answerTo (a .line .now) (a .place) (runtimeDraft t (a .precision))) same),
+      w .1 ∙ ap (λ (t : Timecode). lineTo (a .line .now) (a .place) (runtimeDraft t (a .precision))) same,
+    )
+
+pub tzq-write-runtime-spec : {M : Type 1} → statement M
+tzq-write-runtime-spec =
+    tie.close
+    (tie.spec timecode-requires write-runtime-requires handed-length-requires same-length returns)

@@ -1,0 +1,113 @@
+-- What is handed to C: the numbers of each answer, its refusal's number among them (0: not refused).
+-- Assumes nothing.
+use mathlib.Core.Path.{_≡_}
+use mathlib.Core.Bool.{false}
+use Rattle.answers.specs.declared.Counted.{Counted}
+use Rattle.answers.specs.Refusals as answers
+use Rattle.rates.specs.declared.Timecode.{Timecode}
+use Rattle.rates.specs.declared.Rated.{Rated}
+use Rattle.rates.specs.Rates as rates
+use Rattle.film.specs.declared.Filmed.{Filmed}
+use Rattle.film.specs.declared.Filmed.the-variants as filmed
+use Rattle.film.specs.Film.{perfsPerFrame, perfsPerFoot, allowsPerfField}
+use Rattle.time.specs.declared.Ticked.{Ticked}
+use Rattle.time.specs.declared.Timed.{Timed}
+use Rattle.time.specs.Ticks as ticks
+use Rattle.time.specs.Seconds as seconds
+use Rattle.reading.specs.declared.Read.{Read}
+use Rattle.reading.specs.Answer as reading
+use Rattle.arithmetic.specs.declared.Compared.{Compared}
+use Rattle.arithmetic.specs.Compare as compare
+use Rattle.chains.specs.declared.Converted.{Converted}
+use Rattle.chains.specs.Chain as chains
+use Rattle.label_line.specs.declared.Sectioned.{Sectioned}
+use Rattle.label_line.specs.Sections as sections
+use Rattle.written.specs.declared.Written.{Written}
+use Rattle.written.specs.Written as written
+use Rattle.exports.specs.declared.handed.TzqTimecode.{TzqTimecode}
+use Rattle.exports.specs.declared.handed.TzqCount.{TzqCount}
+use Rattle.exports.specs.declared.handed.TzqRead.{TzqRead}
+use Rattle.exports.specs.declared.handed.TzqOrder.{TzqOrder}
+use Rattle.exports.specs.declared.handed.TzqTicks.{TzqTicks}
+use Rattle.exports.specs.declared.handed.TzqSeconds.{TzqSeconds}
+use Rattle.exports.specs.declared.handed.TzqConverted.{TzqConverted}
+use Rattle.exports.specs.declared.handed.TzqSections.{TzqSections}
+use Rattle.exports.specs.declared.handed.TzqLength.{TzqLength}
+use Rattle.exports.specs.declared.handed.TzqRate.{TzqRate}
+use Rattle.exports.specs.declared.handed.TzqFormat.{TzqFormat}
+
+-- a timecode is a count and a rate
+abbrev pub timecode : TzqTimecode → Timecode
+timecode t = record { count = t .count; rate = t .rate }
+
+-- a refusal returns its number with count 0
+unfoldable pub handedCount : Counted → TzqCount
+handedCount a = record { refused = answers.numberOf a; count = answers.countOf a }
+
+-- a footage answer carries the count together with the film format chosen
+unfoldable pub handedRead : Read → TzqRead
+handedRead a = record { refused = reading.numberOf a; count = reading.countOf a; format = reading.formatOf a }
+
+-- a refused comparison has order 0
+unfoldable pub handedOrder : Compared → TzqOrder
+handedOrder a = record { refused = compare.numberOf a; order = compare.valueOf a }
+
+-- any other number in the answer is 0
+unfoldable pub handedTicks : Ticked → TzqTicks
+handedTicks a = record { refused = ticks.numberOf a; ticks = ticks.valueOf a }
+
+-- a fraction 0/1
+unfoldable pub handedSeconds : Timed → TzqSeconds
+handedSeconds a =
+    record { refused = seconds.numberOf a; numerator = seconds.numeratorOf a; denominator = seconds.denominatorOf a }
+
+-- a timecode is a count and a rate; of a refusal both are 0
+unfoldable pub handedTimecode : Converted → TzqConverted
+handedTimecode a =
+    record { refused = chains.numberOf a; count = chains.timecodeOf a .count; rate = chains.timecodeOf a .rate }
+
+-- the fields of the label, by name; of a refusal all are 0
+unfoldable pub handedSections : Sectioned → TzqSections
+handedSections a =
+    let s = sections.sectionsIn a in
+    record {
+      refused = sections.numberOf a;
+      negative = s .negative;
+      hours = s .hours;
+      minutes = s .minutes;
+      seconds = s .seconds;
+      frames = s .frames;
+    }
+
+-- and length 0
+unfoldable pub handedLength : Written → TzqLength
+handedLength a = record { refused = written.numberOf a; length = written.lengthOf a }
+
+-- the row of the table; of a refusal all numbers are 0
+unfoldable pub handedRate : Rated → TzqRate
+handedRate a =
+    let row = rates.rowOf a in
+    record {
+      refused = rates.numberOf a;
+      numerator = row .numerator;
+      denominator = row .denominator;
+      timebase = row .timebase;
+      ticks = row .ticks;
+    }
+
+-- the perfs a frame and a foot, and whether there is a perf field; of a refusal 0 and no
+unfoldable pub handedFormat : Filmed → TzqFormat
+handedFormat (filmed.Format format) =
+    record {
+      refused = 0;
+      «perfs_per_frame» = perfsPerFrame format;
+      «perfs_per_foot» = perfsPerFoot format;
+      «perf_field» = allowsPerfField format;
+    }
+handedFormat (filmed.Refused e) = record { refused = e .number; «perfs_per_frame» = 0; «perfs_per_foot» = 0; «perf_field» = false }
+
+-- the numbers of an answer that is right: the seconds of the timecode, or the first refusal
+pub record SecondsHanded (tc : Timecode) (r : TzqSeconds) : Type 0 where
+  pub answer : Timed
+  pub right : seconds.SecondsOf tc answer
+  pub handed : r ≡ handedSeconds answer

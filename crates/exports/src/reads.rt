@@ -1,0 +1,36 @@
+// Texts read as a count.
+ghost use mathlib.Core.Path.{_≡_};
+ghost use Rattle.reading.specs.Reading.{readText};
+ghost use Rattle.runtime_reading.specs.Reading.{readRuntime};
+ghost use Rattle.exports.specs.Handed.{handedCount, handedRead};
+use crate::handed;
+use crate::handed::TzqCount;
+use crate::handed::TzqRead;
+use reading::Stated;
+
+// What a text reads as at a rate, with no film format stated: a label or a footage. Refuses 6: no such rate; 1: no shape; 2: a field of
+// over 9 digits; 3: a dropped label; 5: the count is out of bounds.
+#[no_mangle]
+pub extern "C" fn tzq_read(text: &[u8], rate: u64) -> TzqRead
+    ensures answer { λ r. ⌜ r ≡ handedRead (readText (now (text .entry)) Stated.Nothing rate) ⌝ }
+{
+    handed::handed_read(reading::read_text(text, Stated::Nothing, rate))
+}
+
+// What a text reads as at a rate, with a film format stated: a footage only. Refuses 6: no such rate or film format; 1: no shape; 2: a
+// field of over 9 digits; 4: a perf field with a format that has none; 5: the count is out of bounds.
+#[no_mangle]
+pub extern "C" fn tzq_read_as(text: &[u8], format: u64, rate: u64) -> TzqRead
+    ensures answer { λ r. ⌜ r ≡ handedRead (readText (now (text .entry)) (Stated.Format format) rate) ⌝ }
+{
+    handed::handed_read(reading::read_text(text, Stated::Format(format), rate))
+}
+
+// What a runtime's text reads as at a rate. Refuses 6: no such rate; 1: no shape; 2: a field of over 9 digits or a fraction of over 6;
+// 5: the count is out of bounds.
+#[no_mangle]
+pub extern "C" fn tzq_read_runtime(text: &[u8], rate: u64) -> TzqCount
+    ensures answer { λ r. ⌜ r ≡ handedCount (readRuntime (now (text .entry)) rate) ⌝ }
+{
+    handed::handed_count(runtime_reading::read_runtime(text, rate))
+}

@@ -1,0 +1,59 @@
+// Texts laid into the caller's line, and the sections of a label.
+ghost use mathlib.Core.Path.{_≡_};
+ghost use Rattle.written.specs.Written.{answerTo, lineTo};
+ghost use Rattle.label_line.specs.Sections.{sectioned};
+ghost use Rattle.label_line.specs.LabelText.{labelDraft};
+ghost use Rattle.footage_line.specs.FootageText.{footageDraft};
+ghost use Rattle.runtime_line.specs.RuntimeText.{runtimeDraft};
+ghost use Rattle.exports.specs.Handed.{timecode, handedSections, handedLength};
+use crate::handed;
+use crate::handed::TzqLength;
+use crate::handed::TzqSections;
+use crate::handed::TzqTimecode;
+
+// The sections of a timecode's label. Refuses 6: no such rate; 5: the count is out of bounds.
+#[no_mangle]
+pub extern "C" fn tzq_sections(tc: TzqTimecode) -> TzqSections
+    ensures answer { λ r. ⌜ r ≡ handedSections (sectioned (timecode tc)) ⌝ }
+{
+    handed::handed_sections(label_line::sections(handed::timecode(tc)))
+}
+
+// The label of a timecode, laid down from `place` on. Refuses 6: no such rate; 5: the count is out of bounds; 8: no room.
+#[no_mangle]
+pub extern "C" fn tzq_write_label(tc: TzqTimecode, line: &mut [u8], place: usize) -> TzqLength
+    ensures answer { λ r. ⌜ r ≡ handedLength (answerTo (now (line .entry)) place (labelDraft (timecode tc))) ⌝ }
+    ensures line { λ r. ⌜ now (line .exit) ≡ lineTo (now (line .entry)) place (labelDraft (timecode tc)) ⌝ }
+{
+    handed::handed_length(label_line::write_label(handed::timecode(tc), line, place))
+}
+
+// The footage of a timecode in a film format, laid down from `place` on. Refuses 6: no such rate, or no such film format; 5: the
+// count is out of bounds; 8: no room.
+#[no_mangle]
+pub extern "C" fn tzq_write_footage(
+    tc: TzqTimecode,
+    format: u64,
+    line: &mut [u8],
+    place: usize,
+) -> TzqLength
+    ensures answer { λ r. ⌜ r ≡ handedLength (answerTo (now (line .entry)) place (footageDraft (timecode tc) format)) ⌝ }
+    ensures line { λ r. ⌜ now (line .exit) ≡ lineTo (now (line .entry)) place (footageDraft (timecode tc) format) ⌝ }
+{
+    handed::handed_length(footage_line::write_footage(handed::timecode(tc), format, line, place))
+}
+
+// The runtime of a timecode to a precision, laid down from `place` on. Refuses 6: no such rate; 5: the count is out of bounds, or
+// the precision is above 6; 8: no room.
+#[no_mangle]
+pub extern "C" fn tzq_write_runtime(
+    tc: TzqTimecode,
+    precision: u64,
+    line: &mut [u8],
+    place: usize,
+) -> TzqLength
+    ensures answer { λ r. ⌜ r ≡ handedLength (answerTo (now (line .entry)) place (runtimeDraft (timecode tc) precision)) ⌝ }
+    ensures line { λ r. ⌜ now (line .exit) ≡ lineTo (now (line .entry)) place (runtimeDraft (timecode tc) precision) ⌝ }
+{
+    handed::handed_length(runtime_line::write_runtime(handed::timecode(tc), precision, line, place))
+}

@@ -1,0 +1,192 @@
+/* Tzaquedda for C: timecode, feet and frames, runtimes, ticks and seconds as frame counts at twelve rates.
+ *
+ * Link with the static library that `rt staticlib exports` writes (target/staticlib/libexports.a, x86-64 Linux):
+ *
+ *     cc -I include your.c target/staticlib/libexports.a
+ *
+ * examples/c/demo.c calls every function once or more; bin/c-demo builds and runs it.
+ *
+ * Every function is total: it answers for all arguments, keeps nothing between calls, allocates nothing, and may be called from any
+ * number of threads at once. A pointer must not be null and must point at as many elements as the length behind it says (a pointer to
+ * anything will do where that is 0); a line that is written must not overlap anything else that is passed.
+ *
+ * Each answer begins with `refused`: 0, or one of the numbers below, and then every other number of the answer is 0, a fraction 0/1,
+ * and no byte of the line has changed. Of several refusals the first is given in the order 6, 5 (of an input), 7, 1, 2, 4, 3, 5 (of
+ * the resulting count), 8.
+ */
+#ifndef TZAQUEDDA_H
+#define TZAQUEDDA_H
+
+#include <stdbool.h>
+#include <stddef.h>
+#include <stdint.h>
+
+#ifdef __cplusplus
+extern "C" {
+#endif
+
+/* ---- Refusals ---- */
+
+enum {
+    TZQ_NO_SHAPE = 1,      /* the text has no shape */
+    TZQ_TOO_LONG = 2,      /* the shape fits, but a field has over 9 digits or a fraction over 6 */
+    TZQ_DROPPED_LABEL = 3, /* a dropped label at rate 5 or 11 */
+    TZQ_NO_PERF_FIELD = 4, /* a perf field with a stated format that has none */
+    TZQ_OUT_OF_BOUNDS = 5, /* an input number or the resulting count is outside its bounds */
+    TZQ_NO_SUCH = 6,       /* no such rate (1 to 12) or film format (1 to 4) */
+    TZQ_ZERO_DIVISOR = 7,  /* the divisor is zero */
+    TZQ_NO_ROOM = 8        /* place plus text length exceeds the line's length */
+};
+
+/* ---- Numbers that are passed and answered ---- */
+
+/* The most that a count may be, either side of zero. */
+#define TZQ_MOST 400000000
+
+/* Room enough for any label (14 bytes at most), footage (14) or runtime (18). */
+#define TZQ_ROOM 18
+
+/* Rates 1 to 12: 23.98, 24, 25, 29.97, 29.97 drop, 30, 47.95, 48, 50, 59.94, 59.94 drop, 60.
+ * Film formats 1 to 4: 4-perf, 3-perf, 2-perf on 35 mm; 16 mm. */
+
+/* A timecode: a count from -400,000,000 to 400,000,000 and a rate. Nothing is assumed of the two numbers: what takes a timecode
+ * refuses a rate that is none (6), then a count out of its bounds (5). */
+typedef struct { int64_t count; uint64_t rate; } tzq_timecode;
+
+typedef struct { uint64_t refused; int64_t count; } tzq_count;
+typedef struct { uint64_t refused; int64_t count; uint64_t format; } tzq_read_count; /* format 0: a label; 1 to 4: a footage's */
+typedef struct { uint64_t refused; int64_t order; } tzq_order;                       /* -1, 0 or 1 */
+typedef struct { uint64_t refused; int64_t ticks; } tzq_ticks;
+typedef struct { uint64_t refused; int64_t numerator; uint64_t denominator; } tzq_fraction;
+typedef struct { uint64_t refused; int64_t count; uint64_t rate; } tzq_converted;
+typedef struct { uint64_t refused; size_t length; } tzq_length;
+
+typedef struct {
+    uint64_t refused;
+    bool negative;
+    uint64_t hours, minutes, seconds, frames; /* minutes and seconds under 60, frames under the timebase; hours run on past 23 */
+} tzq_label;
+
+typedef struct {
+    uint64_t refused;
+    uint64_t numerator, denominator; /* frames a second, in lowest terms */
+    uint64_t timebase;               /* frames a second of the labels */
+    uint64_t ticks;                  /* ticks a frame; a second has 254016000000 */
+} tzq_rate_row;
+
+typedef struct {
+    uint64_t refused;
+    uint64_t perfs_per_frame, perfs_per_foot;
+    bool perf_field; /* whether a footage of this format may have a perf field */
+} tzq_format_facts;
+
+/* ---- Reading ---- */
+
+/* What the `length` bytes of text read as at a rate, with no film format stated.
+ * A label: optional `-`, one to four fields of digits divided by `:` or `;`, the last is frames, then leftward seconds, minutes, hours.
+ * A footage: optional `-`, feet, `+`, frames, optionally `.` and a perf field; with a perf field it is 3-perf, without 4-perf.
+ * The whole text counts, nothing around it. Refuses 6: no such rate; 1, 2, 3, 5. */
+tzq_read_count tzq_read(const uint8_t *text, size_t length, uint64_t rate);
+
+/* The same with a stated film format, 1 to 4: then only a footage is taken.
+ * Refuses 6: no such rate or film format; 1, 2; 4: a perf field with a format other than 3-perf; 5. */
+tzq_read_count tzq_read_as(const uint8_t *text, size_t length, uint64_t format, uint64_t rate);
+
+/* The frame nearest to the time that a runtime gives, halves away from zero.
+ * A runtime: optional `-`, one to three fields divided by `:`, optionally `.` and a fraction; the last field is seconds, then leftward
+ * minutes, hours. Refuses 6: no such rate; 1; 2: a field of over 9 digits or a fraction of over 6; 5: the resulting count. */
+tzq_count tzq_read_runtime(const uint8_t *text, size_t length, uint64_t rate);
+
+/* ---- Writing: each text is laid down in the line from `place` on; only its own bytes change, and nothing ends it ---- */
+
+/* The label of a timecode: `-` for counts below 0, two digits at least for each field, `:` throughout but `;` before frames at rates
+ * 5 and 11. The fields are those of the one allowed label whose count is the absolute count.
+ * Answers the text's length. Refuses 6, 5, and 8: place plus text length exceeds `length`. */
+tzq_length tzq_write_label(tzq_timecode tc, uint8_t *line, size_t length, size_t place);
+
+/* The footage of a timecode in a film format: `-` for counts below 0, feet unpadded, `+`, frames of two digits at least; 3-perf adds
+ * `.` and feet modulo 3. The rate is not used, but must be one.
+ * Answers the text's length. Refuses 6: no such rate or film format; 5; 8. */
+tzq_length tzq_write_footage(tzq_timecode tc, uint64_t format, uint8_t *line, size_t length, size_t place);
+
+/* The runtime of a timecode: the absolute time rounded to `precision` decimals (0 to 6), halves away from zero, carried into seconds,
+ * minutes and hours of two digits at least, trailing zeros dropped but one digit kept; `-` for counts below 0.
+ * Answers the text's length. Refuses 6; 5: the count or the precision is out of bounds; 8. */
+tzq_length tzq_write_runtime(tzq_timecode tc, uint64_t precision, uint8_t *line, size_t length, size_t place);
+
+/* The fields of the label that tzq_write_label writes. Refuses 6, 5. */
+tzq_label tzq_sections(tzq_timecode tc);
+
+/* ---- Counts, ticks and seconds ---- */
+
+/* A count at a rate: the count itself. Refuses 6: no such rate; 5: the count is out of bounds. */
+tzq_count tzq_with_frames(int64_t count, uint64_t rate);
+
+/* The frame nearest to a number of ticks, halves away from zero; any number of ticks is taken.
+ * Refuses 6: no such rate; 5: the resulting count is out of bounds. */
+tzq_count tzq_with_premiere_ticks(int64_t ticks, uint64_t rate);
+
+/* The frame nearest to p/q seconds, halves away from zero: |p| at most 10^12, q from 1 to 1,000,000.
+ * Refuses 6: no such rate; 5: p or q, or then the resulting count, is out of bounds. */
+tzq_count tzq_with_seconds(int64_t p, uint64_t q, uint64_t rate);
+
+/* The ticks of a timecode, exactly: count times the rate's ticks a frame. Refuses 6, 5. */
+tzq_ticks tzq_premiere_ticks(tzq_timecode tc);
+
+/* The seconds of a timecode, exactly: a fraction in lowest terms, its denominator above 0. Refuses 6, 5. */
+tzq_fraction tzq_seconds(tzq_timecode tc);
+
+/* The timecode's instant through a list of `length` rates, the nearest frame taken at each in turn, halves away from zero; an empty
+ * list gives back the start. Refuses 6: its own rate or any listed number is no rate; 5: its own count, or that after any step. */
+tzq_converted tzq_convert(tzq_timecode tc, const uint64_t *rates, size_t length);
+
+/* ---- Arithmetic ---- */
+
+/* The sum and the difference of two timecodes: the exact instant, rounded once at a's rate, halves away from zero.
+ * Refuses 6: either rate; 5: either count, or then the resulting count. */
+tzq_count tzq_add(tzq_timecode a, tzq_timecode b);
+tzq_count tzq_sub(tzq_timecode a, tzq_timecode b);
+
+/* How two timecodes compare, by instant: -1, 0 or 1. Refuses 6: either rate; 5: either count. */
+tzq_order tzq_cmp(tzq_timecode a, tzq_timecode b);
+
+/* The product with p/q, rounded, halves away from zero: |p| at most 1,000,000, q from 1 to 1,000,000; a whole factor is p/1.
+ * Refuses 6; 5: the count, p or q, or then the resulting count. */
+tzq_count tzq_mul(tzq_timecode tc, int64_t p, uint64_t q);
+
+/* The quotient by a whole number, truncated, and its remainder, which takes the dividend's sign; any divisor is taken but 0.
+ * Refuses 6; 5: the count; 7: n is 0. */
+tzq_count tzq_div(tzq_timecode tc, int64_t n);
+tzq_count tzq_rem(tzq_timecode tc, int64_t n);
+
+/* The quotient by p/q, floored, and the remainder (count x q rem p)/q, with the dividend's sign, rounded: |p| at most 1,000,000,
+ * q from 1 to 1,000,000. Refuses 6; 5: the count, p or q; 7: p is 0; 5: the resulting count. */
+tzq_count tzq_divq(tzq_timecode tc, int64_t p, uint64_t q);
+tzq_count tzq_remq(tzq_timecode tc, int64_t p, uint64_t q);
+
+/* The negated count, and the absolute count. Refuses 6, 5. */
+tzq_count tzq_neg(tzq_timecode tc);
+tzq_count tzq_abs(tzq_timecode tc);
+
+/* The same count, taken at another rate. Refuses 6: either rate; 5: the count. */
+tzq_count tzq_rebase(tzq_timecode tc, uint64_t rate);
+
+/* ---- The constant tables ---- */
+
+/* The row of a rate. Refuses 6: no such rate. */
+tzq_rate_row tzq_rate(uint64_t rate);
+
+/* How many labels a minute drops, but each tenth: 2 at rate 5, 4 at rate 11, and 0 for every other number. */
+uint64_t tzq_drop_frames_per_minute(uint64_t rate);
+
+/* What is known of a film format. Refuses 6: no such film format. */
+tzq_format_facts tzq_format(uint64_t format);
+
+/* The first frame number of a minute of a 29.97 drop day, 0 to 1439. Refuses 5: any other minute. */
+tzq_count tzq_minute_start(uint64_t minute);
+
+#ifdef __cplusplus
+}
+#endif
+
+#endif
