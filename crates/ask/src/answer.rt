@@ -15,7 +15,10 @@ use scanner::Cursor;
 fn to_numbers(command: Command, v: [i64; 5], out: &mut [u8], used: usize) -> usize {
     match command {
         Command::Write(writer) => write::answer(writer, v, out, used),
-        Command::Work(op) => show::show(out, used, work::worked(op, v)),
+        Command::Make(maker) => show::show(out, used, work::made(maker, v)),
+        Command::Single(op) => show::show(out, used, work::single(op, v)),
+        Command::Pair(op) => show::show(out, used, work::paired(op, v)),
+        Command::Scale(op) => show::show(out, used, work::scaled(op, v)),
         _ => help::answer(out, used),
     }
 }

@@ -1,5 +1,5 @@
 // The commands: each one's word, what it asks, and how many numbers stand behind it.
-ghost use Prim.Native.Nat.{_≤_};
+ghost use Prim.Native.Nat.{_≤_, _<_};
 ghost use lib.ListN.{length};
 use scanner::Cursor;
 
@@ -17,38 +17,55 @@ pub(crate) enum Writer {
     Runtime,
 }
 
-// Numbers become a number or two.
-pub(crate) enum Operation {
+// Another number becomes a count.
+pub(crate) enum Maker {
     Frames,
     FromTicks,
     FromSeconds,
+    Minute,
+}
+
+// A count becomes another number or count.
+pub(crate) enum Single {
     Ticks,
     Seconds,
+    Neg,
+    Abs,
+    Rebase,
+}
+
+// Two counts, each at its rate.
+pub(crate) enum Pair {
     Add,
     Sub,
     Cmp,
+}
+
+// A count, and a factor or a divisor.
+pub(crate) enum Scale {
     Mul,
     Div,
     Rem,
     Divq,
     Remq,
-    Neg,
-    Abs,
-    Rebase,
-    Minute,
 }
 
+// What a line asks.
 pub(crate) enum Command {
     Help,
     Read(Reader),
     Write(Writer),
-    Work(Operation),
+    Make(Maker),
+    Single(Single),
+    Pair(Pair),
+    Scale(Scale),
     Convert,
 }
 
 // A command's word, filled up with spaces; the command; how many numbers it has, before a text, rates or the end.
 struct Row([u8; 12], Command, usize);
 
+// The table of commands.
 const ROWS: [Row; 25] = [
     Row(*b"help        ", Command::Help, 0),
     Row(*b"read        ", Command::Read(Reader::Text), 1),
@@ -57,23 +74,23 @@ const ROWS: [Row; 25] = [
     Row(*b"label       ", Command::Write(Writer::Label), 4),
     Row(*b"footage     ", Command::Write(Writer::Footage), 5),
     Row(*b"runtime     ", Command::Write(Writer::Runtime), 5),
-    Row(*b"count       ", Command::Work(Operation::Frames), 2),
-    Row(*b"from_ticks  ", Command::Work(Operation::FromTicks), 2),
-    Row(*b"from_seconds", Command::Work(Operation::FromSeconds), 3),
-    Row(*b"ticks       ", Command::Work(Operation::Ticks), 2),
-    Row(*b"seconds     ", Command::Work(Operation::Seconds), 2),
-    Row(*b"add         ", Command::Work(Operation::Add), 4),
-    Row(*b"sub         ", Command::Work(Operation::Sub), 4),
-    Row(*b"cmp         ", Command::Work(Operation::Cmp), 4),
-    Row(*b"mul         ", Command::Work(Operation::Mul), 4),
-    Row(*b"div         ", Command::Work(Operation::Div), 3),
-    Row(*b"rem         ", Command::Work(Operation::Rem), 3),
-    Row(*b"divq        ", Command::Work(Operation::Divq), 4),
-    Row(*b"remq        ", Command::Work(Operation::Remq), 4),
-    Row(*b"neg         ", Command::Work(Operation::Neg), 2),
-    Row(*b"abs         ", Command::Work(Operation::Abs), 2),
-    Row(*b"rebase      ", Command::Work(Operation::Rebase), 3),
-    Row(*b"minute      ", Command::Work(Operation::Minute), 1),
+    Row(*b"count       ", Command::Make(Maker::Frames), 2),
+    Row(*b"from_ticks  ", Command::Make(Maker::FromTicks), 2),
+    Row(*b"from_seconds", Command::Make(Maker::FromSeconds), 3),
+    Row(*b"minute      ", Command::Make(Maker::Minute), 1),
+    Row(*b"ticks       ", Command::Single(Single::Ticks), 2),
+    Row(*b"seconds     ", Command::Single(Single::Seconds), 2),
+    Row(*b"neg         ", Command::Single(Single::Neg), 2),
+    Row(*b"abs         ", Command::Single(Single::Abs), 2),
+    Row(*b"rebase      ", Command::Single(Single::Rebase), 3),
+    Row(*b"add         ", Command::Pair(Pair::Add), 4),
+    Row(*b"sub         ", Command::Pair(Pair::Sub), 4),
+    Row(*b"cmp         ", Command::Pair(Pair::Cmp), 4),
+    Row(*b"mul         ", Command::Scale(Scale::Mul), 4),
+    Row(*b"div         ", Command::Scale(Scale::Div), 3),
+    Row(*b"rem         ", Command::Scale(Scale::Rem), 3),
+    Row(*b"divq        ", Command::Scale(Scale::Divq), 4),
+    Row(*b"remq        ", Command::Scale(Scale::Remq), 4),
     Row(*b"convert     ", Command::Convert, 2),
 ];
 
@@ -120,14 +137,21 @@ fn word_end(line: &[u8]) -> usize
     i
 }
 
-// The row of a word, by its number; 25 where there is none.
-fn row_of(word: &[u8]) -> usize
+// A row of the table.
+fn row_at(i: usize) -> Row
+    requires row { ⌜ i < 25 ⌝ }
+{
+    ROWS[i]
+}
+
+// Which row has a word; 25 where none has.
+fn row_named(word: &[u8]) -> usize
     ensures bound { λ r. ⌜ r ≤ 25 ⌝ }
 {
     let mut i = 0;
     while i < 25 {
-        let row = ROWS[i];
-        let name = row.0;
+        let r = row_at(i);
+        let name = r.0;
         if is_named(word, name) {
             return i;
         }
@@ -139,11 +163,11 @@ fn row_of(word: &[u8]) -> usize
 // The command that a line begins with.
 pub(crate) fn command_of(line: &[u8]) -> Asked {
     let end = word_end(line);
-    let i = row_of(&line[0..end]);
+    let i = row_named(&line[0..end]);
     if i < 25 {
-        let row = ROWS[i];
-        let command = row.1;
-        return Asked::Is(command, row.2, Cursor { at: end });
+        let r = row_at(i);
+        let command = r.1;
+        return Asked::Is(command, r.2, Cursor { at: end });
     }
     Asked::Unknown
 }

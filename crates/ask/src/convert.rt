@@ -13,7 +13,7 @@ struct Listed {
     count: usize,
 }
 
-// The numbers from a place to the end of the line.
+// The numbers from a place to the end of the line, no more than the list has room for.
 fn take_rates(line: &[u8], from: Cursor, list: &mut [u64]) -> Listed
     ensures bound { λ r. ⌜ r .count ≤ length (now (list .exit)) ⌝ }
 {
@@ -40,6 +40,7 @@ fn take_rates(line: &[u8], from: Cursor, list: &mut [u64]) -> Listed
     }
 }
 
+// The answer to RATE COUNT and the rates from `from` on.
 pub(crate) fn answer(v: [i64; 5], line: &[u8], from: Cursor, out: &mut [u8], used: usize) -> usize {
     let mut list = [0u64; 64];
     let l = take_rates(line, from, &mut list);

@@ -1,6 +1,7 @@
 // The command `help`: the commands in short.
 use streams::put_text;
 
+// What reads and writes texts.
 fn texts(out: &mut [u8], used: usize) -> usize {
     let a = put_text(
         out,
@@ -22,6 +23,7 @@ fn texts(out: &mut [u8], used: usize) -> usize {
     )
 }
 
+// What makes a count, and what a count is.
 fn times(out: &mut [u8], used: usize) -> usize {
     let a = put_text(out, used, b"count RATE COUNT: COUNT\n");
     let b = put_text(out, a, b"from_ticks RATE TICKS: COUNT\n");
@@ -31,6 +33,7 @@ fn times(out: &mut [u8], used: usize) -> usize {
     put_text(out, e, b"minute M: FRAME\n")
 }
 
+// What works with counts.
 fn operations(out: &mut [u8], used: usize) -> usize {
     let a = put_text(out, used, b"add, sub RATE COUNT RATE COUNT: COUNT\n");
     let b = put_text(out, a, b"cmp RATE COUNT RATE COUNT: -1, 0 or 1\n");
@@ -41,6 +44,7 @@ fn operations(out: &mut [u8], used: usize) -> usize {
     put_text(out, f, b"convert RATE COUNT RATE ..: COUNT RATE\n")
 }
 
+// A line for each command, or for those that are alike.
 pub(crate) fn answer(out: &mut [u8], used: usize) -> usize {
     let a = texts(out, used);
     let b = times(out, a);

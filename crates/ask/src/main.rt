@@ -1,4 +1,4 @@
-// A calculator over every public operation: reads commands, one a line, and writes an answer for each. `help` lists them.
+// A calculator over every public operation: reads commands, one a line, and writes an answer for each (docs/ASK.md).
 // Input of any size goes through fixed buffers; a line over 4096 bytes is not understood.
 use streams::Gathered;
 
@@ -18,7 +18,7 @@ struct State {
     used: usize,
 }
 
-// The answer to a whole line.
+// The answer to a whole line. (That more is kept than the buffer holds cannot be.)
 fn answered(g: Gathered, line: &[u8], out: &mut [u8], used: usize) -> usize {
     let len = g.len;
     if g.over {
@@ -57,6 +57,7 @@ fn feed(chunk: &[u8], line: &mut [u8], out: &mut [u8], s: State) -> State {
     t
 }
 
+// A read, and whether there may be more.
 struct Turn {
     more: bool,
     state: State,

@@ -8,6 +8,7 @@ use reading::Stated;
 use scanner::Cursor;
 use scanner::Passed;
 
+// `label COUNT` or `footage COUNT FORMAT`.
 fn of_read(a: Read) -> Shown {
     match a {
         Read::Label(count) => Shown::Label(count),
@@ -29,6 +30,7 @@ fn read(reader: Reader, v: [i64; 5], text: &[u8]) -> Shown {
     }
 }
 
+// The answer to a reader's command; `from` is past its numbers.
 pub(crate) fn answer(
     reader: Reader,
     v: [i64; 5],

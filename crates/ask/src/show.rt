@@ -1,4 +1,4 @@
-// How an answer is shown: a line each.
+// How an answer is shown: one line. What an operation answered is first turned into what is shown of it.
 use answers::Counted;
 use arithmetic::Compared;
 use chains::Converted;
@@ -18,6 +18,7 @@ pub(crate) enum Shown {
     Refused(u8),
 }
 
+// A count.
 pub(crate) fn of_count(a: Counted) -> Shown {
     match a {
         Counted::Count(z) => Shown::Number(z),
@@ -25,6 +26,7 @@ pub(crate) fn of_count(a: Counted) -> Shown {
     }
 }
 
+// Ticks.
 pub(crate) fn of_ticks(a: Ticked) -> Shown {
     match a {
         Ticked::Ticks(z) => Shown::Number(z),
@@ -32,6 +34,7 @@ pub(crate) fn of_ticks(a: Ticked) -> Shown {
     }
 }
 
+// Seconds, as `P/Q`.
 pub(crate) fn of_seconds(a: Timed) -> Shown {
     match a {
         Timed::Seconds { p, q } => Shown::Fraction(p, q),
@@ -39,6 +42,7 @@ pub(crate) fn of_seconds(a: Timed) -> Shown {
     }
 }
 
+// -1, 0 or 1.
 pub(crate) fn of_order(a: Compared) -> Shown {
     match a {
         Compared::Order(z) => Shown::Number(z),
@@ -46,6 +50,7 @@ pub(crate) fn of_order(a: Compared) -> Shown {
     }
 }
 
+// `COUNT RATE`.
 pub(crate) fn of_converted(a: Converted) -> Shown {
     match a {
         Converted::At(tc) => Shown::At(tc),
@@ -89,11 +94,13 @@ fn put_shown(out: &mut [u8], used: usize, a: Shown) -> usize {
     }
 }
 
+// The answer as a line.
 pub(crate) fn show(out: &mut [u8], used: usize, a: Shown) -> usize {
     let u = put_shown(out, used, a);
     put_text(out, u, b"\n")
 }
 
+// The answer to a line that is no command.
 pub(crate) fn not_understood(out: &mut [u8], used: usize) -> usize {
     put_text(out, used, b"not understood\n")
 }

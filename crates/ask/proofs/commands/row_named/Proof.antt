@@ -1,10 +1,10 @@
--- `ask::commands::row_of` meets its contract: the index stays below the number of rows.
+-- `ask::commands::row_named` meets its contract: the index stays below the number of rows.
 -- Assumes nothing.
 use Prim.Native.Nat.{_-_, _≤_}
 use native.Mathlib.Omega.{arith}
 use borrow.Author.Needs.{needs}
-use Rattle.ask.proofs.commands.row_of.Statement.{statement}
-use Rattle.ask.proofs.commands.row_of.Tie as tie
+use Rattle.ask.proofs.commands.row_named.Statement.{statement}
+use Rattle.ask.proofs.commands.row_named.Tie as tie
 
 abbrev Inv-loop : tie.InvT-loop
 Inv-loop word i₀ i = i ≤ 25
@@ -15,11 +15,8 @@ abbrev μ-loop : tie.MeasureT-loop
 loop-holds : tie.Need-loop-holds Inv-loop μ-loop
 loop-holds c = search needs
 
-mul-row : tie.Need-mul-row Inv-loop μ-loop
-mul-row c = search needs
-
-array-copy-out-row : tie.Need-array-copy-out-row Inv-loop μ-loop
-array-copy-out-row c = search needs
+row-at-requires : tie.Need-row-at-requires Inv-loop μ-loop
+row-at-requires c κs = search needs
 
 is-named-requires : tie.Need-is-named-requires Inv-loop μ-loop
 is-named-requires c κs = search needs
@@ -39,15 +36,14 @@ loop-again c = search needs
 returns-2 : tie.Need-returns-2 Inv-loop μ-loop
 returns-2 c = search needs
 
-pub row-of-spec : {M : Type 1} → statement M
-row-of-spec =
+pub row-named-spec : {M : Type 1} → statement M
+row-named-spec =
     tie.close
     (tie.spec
     Inv-loop
     μ-loop
     loop-holds
-    mul-row
-    array-copy-out-row
+    row-at-requires
     is-named-requires
     returns
     add-i
