@@ -56,7 +56,7 @@ def some_fields(random, most, dividers):
 # -- Shapes --
 
 
-def label_text(random, rate):
+def label_scan(random, rate):
     """A label; three in ten near a dropped one or near a bound."""
     chance = random.random()
     if chance < 0.2:
@@ -70,7 +70,7 @@ def label_text(random, rate):
     return sign(random) + some_fields(random, 4, random.choice([b":", b":;", b":;|"]))
 
 
-def footage_text(random, rate):
+def footage_scan(random, rate):
     """A footage, with a perf field or none; one in ten near a bound."""
     chance = random.random()
     if chance < 0.1:
@@ -81,7 +81,7 @@ def footage_text(random, rate):
     return sign(random) + field(random) + b"+" + field(random) + perf
 
 
-def runtime_text(random, rate):
+def runtime_scan(random, rate):
     """A runtime; one in five near half a frame or near a bound."""
     n, d, _, _ = model.RATES[rate]
     chance = random.random()
@@ -114,7 +114,7 @@ def damaged(random, text):
     )
 
 
-OWN = {b"read": [label_text, label_text, footage_text], b"read_as": [footage_text], b"read_runtime": [runtime_text]}
+OWN = {b"read": [label_scan, label_scan, footage_scan], b"read_as": [footage_scan], b"read_runtime": [runtime_scan]}
 
 
 def random_texts(word, seed, many):
@@ -123,7 +123,7 @@ def random_texts(word, seed, many):
     commands = []
     for _ in range(many):
         rate = random.choice([*RATES, *model.DROPPED])
-        shape = random.choice(OWN[word] if random.random() < 0.9 else [label_text, footage_text, runtime_text])
+        shape = random.choice(OWN[word] if random.random() < 0.9 else [label_scan, footage_scan, runtime_scan])
         text = shape(random, rate)
         if random.random() < 0.3:
             text = damaged(random, text)

@@ -10,14 +10,14 @@ use written::Written;
 // The text of the numbers before PLACE, laid into the line.
 fn laid(writer: Writer, v: [i64; 5], line: &mut [u8], place: usize) -> Written {
     match writer {
-        Writer::Label => label_line::write_label(timecode(v[0], v[1]), line, place),
-        Writer::Footage => footage_line::write_footage(
+        Writer::Label => label_writer::write_label(timecode(v[0], v[1]), line, place),
+        Writer::Footage => footage_writer::write_footage(
             timecode(v[1], v[2]),
             unsigned(v[0]),
             line,
             place,
         ),
-        Writer::Runtime => runtime_line::write_runtime(
+        Writer::Runtime => runtime_writer::write_runtime(
             timecode(v[0], v[1]),
             unsigned(v[2]),
             line,

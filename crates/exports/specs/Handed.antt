@@ -20,8 +20,8 @@ use Rattle.arithmetic.specs.declared.Compared.{Compared}
 use Rattle.arithmetic.specs.Compare as compare
 use Rattle.chains.specs.declared.Converted.{Converted}
 use Rattle.chains.specs.Chain as chains
-use Rattle.label_line.specs.declared.Sectioned.{Sectioned}
-use Rattle.label_line.specs.Sections as sections
+use Rattle.label_writer.specs.declared.Sectioned.{Sectioned}
+use Rattle.label_writer.specs.Sections as sections
 use Rattle.written.specs.declared.Written.{Written}
 use Rattle.written.specs.Written as written
 use Rattle.exports.specs.declared.handed.TzqTimecode.{TzqTimecode}

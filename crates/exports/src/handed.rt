@@ -5,7 +5,7 @@ use answers::Counted;
 use arithmetic::Compared;
 use chains::Converted;
 use film::Filmed;
-use label_line::Sectioned;
+use label_writer::Sectioned;
 use rates::Rated;
 use rates::Timecode;
 use reading::Read;

@@ -1,10 +1,10 @@
 // Texts laid into the caller's line, and the sections of a label.
 ghost use mathlib.Core.Path.{_≡_};
 ghost use Rattle.written.specs.Written.{answerTo, lineTo};
-ghost use Rattle.label_line.specs.Sections.{sectioned};
-ghost use Rattle.label_line.specs.LabelText.{labelDraft};
-ghost use Rattle.footage_line.specs.FootageText.{footageDraft};
-ghost use Rattle.runtime_line.specs.RuntimeText.{runtimeDraft};
+ghost use Rattle.label_writer.specs.Sections.{sectioned};
+ghost use Rattle.label_writer.specs.LabelText.{labelDraft};
+ghost use Rattle.footage_writer.specs.FootageText.{footageDraft};
+ghost use Rattle.runtime_writer.specs.RuntimeText.{runtimeDraft};
 ghost use Rattle.exports.specs.Handed.{timecode, handedSections, handedLength};
 use crate::handed;
 use crate::handed::TzqLength;
@@ -16,7 +16,7 @@ use crate::handed::TzqTimecode;
 pub extern "C" fn tzq_sections(tc: TzqTimecode) -> TzqSections
     ensures answer { λ r. ⌜ r ≡ handedSections (sectioned (timecode tc)) ⌝ }
 {
-    handed::handed_sections(label_line::sections(handed::timecode(tc)))
+    handed::handed_sections(label_writer::sections(handed::timecode(tc)))
 }
 
 // The label of a timecode, laid down from `place` on. Refuses 6: no such rate; 5: the count is out of bounds; 8: no room.
@@ -25,7 +25,7 @@ pub extern "C" fn tzq_write_label(tc: TzqTimecode, line: &mut [u8], place: usize
     ensures answer { λ r. ⌜ r ≡ handedLength (answerTo (now (line .entry)) place (labelDraft (timecode tc))) ⌝ }
     ensures line { λ r. ⌜ now (line .exit) ≡ lineTo (now (line .entry)) place (labelDraft (timecode tc)) ⌝ }
 {
-    handed::handed_length(label_line::write_label(handed::timecode(tc), line, place))
+    handed::handed_length(label_writer::write_label(handed::timecode(tc), line, place))
 }
 
 // The footage of a timecode in a film format, laid down from `place` on. Refuses 6: no such rate, or no such film format; 5: the
@@ -40,7 +40,7 @@ pub extern "C" fn tzq_write_footage(
     ensures answer { λ r. ⌜ r ≡ handedLength (answerTo (now (line .entry)) place (footageDraft (timecode tc) format)) ⌝ }
     ensures line { λ r. ⌜ now (line .exit) ≡ lineTo (now (line .entry)) place (footageDraft (timecode tc) format) ⌝ }
 {
-    handed::handed_length(footage_line::write_footage(handed::timecode(tc), format, line, place))
+    handed::handed_length(footage_writer::write_footage(handed::timecode(tc), format, line, place))
 }
 
 // The runtime of a timecode to a precision, laid down from `place` on. Refuses 6: no such rate; 5: the count is out of bounds, or
@@ -55,5 +55,10 @@ pub extern "C" fn tzq_write_runtime(
     ensures answer { λ r. ⌜ r ≡ handedLength (answerTo (now (line .entry)) place (runtimeDraft (timecode tc) precision)) ⌝ }
     ensures line { λ r. ⌜ now (line .exit) ≡ lineTo (now (line .entry)) place (runtimeDraft (timecode tc) precision) ⌝ }
 {
-    handed::handed_length(runtime_line::write_runtime(handed::timecode(tc), precision, line, place))
+    handed::handed_length(runtime_writer::write_runtime(
+        handed::timecode(tc),
+        precision,
+        line,
+        place,
+    ))
 }

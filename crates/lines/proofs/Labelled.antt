@@ -14,12 +14,12 @@ use Rattle.time.specs.Instant.{Bounded}
 use Rattle.written.specs.Parts.{signText}
 use Rattle.written.specs.Written.{lineTo}
 use Rattle.written.proofs.Laws.{text-written}
-use Rattle.label_line.specs.declared.TimecodeSections.{TimecodeSections}
-use Rattle.label_line.specs.declared.Sectioned.the-variants.{Sections, Refused}
-use Rattle.label_line.specs.Sections.{sectioned}
-use Rattle.label_line.specs.LabelText.{framesMark, sectionsText, labelText, labelDraft}
-use Rattle.label_line.proofs.Texts.{sections-length}
-use Rattle.label_line.proofs.Answers.{passed, short-of, both, draft-text}
+use Rattle.label_writer.specs.declared.TimecodeSections.{TimecodeSections}
+use Rattle.label_writer.specs.declared.Sectioned.the-variants.{Sections, Refused}
+use Rattle.label_writer.specs.Sections.{sectioned}
+use Rattle.label_writer.specs.LabelText.{framesMark, sectionsText, labelText, labelDraft}
+use Rattle.label_writer.proofs.Texts.{sections-length}
+use Rattle.label_writer.proofs.Answers.{passed, short-of, both, draft-text}
 
 module _ (tc : Timecode) where
   pub label-long : (s : TimecodeSections) → sectioned tc ≡ Sections s

@@ -14,7 +14,7 @@ use Rattle.answers.specs.declared.Refusal.{Refusal}
 use Rattle.rates.specs.declared.Timecode.{Timecode}
 use Rattle.time.specs.Instant.{instant, Bounded}
 use Rattle.time.specs.InstantLaws.{instant-most}
-use Rattle.label_line.proofs.Statements.{label-bounds}
+use Rattle.label_writer.proofs.Statements.{label-bounds}
 use Rattle.lines.specs.declared.Line.{Line}
 use Rattle.lines.specs.declared.Line.the-variants.{Holds, Refused}
 use Rattle.lines.specs.Input.{lineOf}

@@ -9,7 +9,7 @@ use lib.ListN.{length, length-append}
 use Rattle.digits.specs.Digits.{digitsOf, width, decimal}
 use Rattle.digits.proofs.Width.{decimal-length, width-at-most}
 use Rattle.rates.specs.declared.Timecode.{Timecode}
-use Rattle.label_line.specs.LabelText.{labelText}
+use Rattle.label_writer.specs.LabelText.{labelText}
 use Rattle.written.specs.Parts.{signText}
 use Rattle.written.proofs.Parts.{sign-most, decimal-wide}
 use Rattle.lines.specs.Output.{bytesOf, signedText, numberText, lastText, columnsText, refusedText}

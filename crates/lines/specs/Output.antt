@@ -10,7 +10,7 @@ use Rattle.numbers.specs.Sign.{isNeg}
 use Rattle.digits.specs.Digits.{decimal}
 use Rattle.rates.specs.declared.Timecode.{Timecode}
 use Rattle.time.specs.Instant.{instant}
-use Rattle.label_line.specs.LabelText.{labelText}
+use Rattle.label_writer.specs.LabelText.{labelText}
 use Rattle.written.specs.Parts.{signText}
 use Rattle.lines.specs.declared.Line.{Line}
 use Rattle.lines.specs.declared.Line.the-variants.{Holds, Refused}

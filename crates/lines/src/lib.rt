@@ -7,12 +7,12 @@ ghost use Prim.Native.Nat.{_+_, _≤_};
 ghost use lib.ListN.{length};
 ghost use Rattle.lent.specs.Line.{front};
 ghost use Rattle.time.specs.Instant.{Bounded};
-ghost use Rattle.label_line.specs.LabelText.{labelText};
+ghost use Rattle.label_writer.specs.LabelText.{labelText};
 ghost use Rattle.written.specs.Written.{Text, answerTo, lineTo};
 ghost use Rattle.lines.specs.Input.{isLine, rateIn, timecode, lineOf};
 ghost use Rattle.lines.specs.Output.{signedText, lastText, columnsText, timecodeText, refusedText, answerText};
 use answers::Refusal;
-use label_line::Sectioned;
+use label_writer::Sectioned;
 use rates::Timecode;
 use reading::Read;
 use reading::Stated;
@@ -122,7 +122,7 @@ fn label_length(tc: Timecode) -> usize
     requires bounded { ⌜ Bounded tc ⌝ }
     ensures answer { λ r. ⌜ r ≡ length (labelText (tc .rate) (tc .count)) ⌝ }
 {
-    match label_line::sections(tc) {
+    match label_writer::sections(tc) {
         Sectioned::Sections(s) => written::sign_length(s.negative)
             + digits::width_of(2, s.hours)
             + 9,
@@ -170,7 +170,7 @@ fn put_label(part: &mut [u8], tc: Timecode)
     ensures line { λ _. ⌜ now (part .exit) ≡ front (now (part .entry)) (32 ∷ labelText (tc .rate) (tc .count)) ⌝ }
 {
     lent::put_byte(part, b' ');
-    label_line::write_label(tc, part, 1);
+    label_writer::write_label(tc, part, 1);
 }
 
 // A space, the ticks and the newline at the front of a part; every other byte stays. Asks their room.

@@ -26,8 +26,8 @@ use Rattle.chains.specs.Chain as converted
 use Rattle.written.specs.declared.Written.the-variants.{Length, Refused}
 use Rattle.written.specs.Written.{Draft, Text, answerTo}
 use Rattle.written.specs.Written as written
-use Rattle.label_line.specs.declared.Sectioned.{Sectioned}
-use Rattle.label_line.specs.Sections as fields
+use Rattle.label_writer.specs.declared.Sectioned.{Sectioned}
+use Rattle.label_writer.specs.Sections as fields
 use Rattle.promises.specs.When.{leaves, givenBy}
 
 -- ---- behind a test, for each kind of answer

@@ -2,9 +2,9 @@
 -- Assumes nothing.
 use Rattle.reading.proofs.Determined as reading
 use Rattle.runtime_reading.proofs.Determined as runtime-reading
-use Rattle.label_line.proofs.Determined as label-line
-use Rattle.footage_line.proofs.Determined as footage-line
-use Rattle.runtime_line.proofs.Determined as runtime-line
+use Rattle.label_writer.proofs.Determined as label-line
+use Rattle.footage_writer.proofs.Determined as footage-line
+use Rattle.runtime_writer.proofs.Determined as runtime-line
 use Rattle.time.proofs.Determined as time
 use Rattle.arithmetic.proofs.Determined as arithmetic
 use Rattle.chains.proofs.Determined as chains

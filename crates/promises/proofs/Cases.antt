@@ -10,12 +10,12 @@ use Rattle.film.specs.Footage.{footageCount, footageOf}
 use Rattle.labels.specs.Label.{labelCount, isDropped}
 use Rattle.labels.specs.Sections.{fieldsAt, droppedBefore, sectionsOf}
 use Rattle.scanner.specs.Then.{fieldThen, byteThen, endOr, signThen, fieldsThen}
-use Rattle.label_text.specs.Label.{labelScan}
-use Rattle.footage_text.specs.Footage.{footageScan}
+use Rattle.label_scan.specs.Label.{labelScan}
+use Rattle.footage_scan.specs.Footage.{footageScan}
 use Rattle.reading.specs.Reading.{labelRead, footageRead, readText}
-use Rattle.label_line.specs.Sections.{labelFields, labelSections}
-use Rattle.label_line.specs.LabelText.{fieldsText, sectionsText, labelText}
-use Rattle.footage_line.specs.FootageText.{feetText, footageText}
+use Rattle.label_writer.specs.Sections.{labelFields, labelSections}
+use Rattle.label_writer.specs.LabelText.{fieldsText, sectionsText, labelText}
+use Rattle.footage_writer.specs.FootageText.{feetText, footageText}
 use Rattle.time.specs.Bounds.{isFraction}
 use Rattle.time.specs.Instant.{instant}
 use Rattle.arithmetic.specs.Pair.{instantsOf}

@@ -33,12 +33,12 @@ use Rattle.written.specs.declared.Written.{Written}
 use Rattle.written.specs.declared.Written.the-variants.{Length, Refused}
 use Rattle.written.specs.Written.{Draft, answerTo, lineTo, numberOf, lengthOf}
 use Rattle.written.proofs.Statements.{refused-keeps}
-use Rattle.label_line.specs.declared.Sectioned.{Sectioned}
-use Rattle.label_line.specs.declared.Sectioned.the-variants as sectioned
-use Rattle.label_line.specs.Sections as fields
-use Rattle.label_line.specs.LabelText.{labelDraft}
-use Rattle.footage_line.specs.FootageText.{footageDraft}
-use Rattle.runtime_line.specs.RuntimeText.{runtimeDraft}
+use Rattle.label_writer.specs.declared.Sectioned.{Sectioned}
+use Rattle.label_writer.specs.declared.Sectioned.the-variants as sectioned
+use Rattle.label_writer.specs.Sections as fields
+use Rattle.label_writer.specs.LabelText.{labelDraft}
+use Rattle.footage_writer.specs.FootageText.{footageDraft}
+use Rattle.runtime_writer.specs.RuntimeText.{runtimeDraft}
 use Rattle.promises.specs.Demand1.{noSections, RefusedZero, KeepsLine, RefusedKeepsLine}
 
 -- ---- numbers

@@ -23,9 +23,9 @@ use Rattle.reading.specs.ReadingLaws.{label-dropped, label-within}
 use Rattle.written.specs.declared.Written.the-variants.{Length}
 use Rattle.written.specs.Written.{Text, answerTo, lineTo}
 use Rattle.written.proofs.Laws.{text-written}
-use Rattle.label_line.specs.Sections.{labelFields}
-use Rattle.label_line.specs.LabelText.{labelText, labelDraft}
-use Rattle.label_line.proofs.Answers.{label-of, label-parts, draft-text}
+use Rattle.label_writer.specs.Sections.{labelFields}
+use Rattle.label_writer.specs.LabelText.{labelText, labelDraft}
+use Rattle.label_writer.proofs.Answers.{label-of, label-parts, draft-text}
 use Rattle.chains.specs.Chain.{timecode}
 use Rattle.promises.specs.Demand2.{twoDigitText, StrictText, readAt, ReadAs, CountUnder, Demand2, Demand2At5, Demand2At11}
 use Rattle.promises.proofs.Read.{read-label}

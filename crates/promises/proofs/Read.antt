@@ -13,14 +13,14 @@ use Rattle.film.specs.declared.Filmed.{Filmed}
 use Rattle.film.specs.Film.{formatNumber, isFormat}
 use Rattle.film.specs.FormatLaws.{at-number}
 use Rattle.labels.specs.Label.{hoursIn, minutesIn, secondsIn, framesIn}
-use Rattle.label_text.specs.declared.LabelScan.{LabelScan}
-use Rattle.label_text.specs.Label.{fits, labelScan}
-use Rattle.label_text.specs.Label as label
+use Rattle.label_scan.specs.declared.LabelScan.{LabelScan}
+use Rattle.label_scan.specs.Label.{fits, labelScan}
+use Rattle.label_scan.specs.Label as label
 use Rattle.answers.specs.Refusals.{noShape}
-use Rattle.footage_text.specs.declared.FootageScan.{FootageScan}
-use Rattle.footage_text.specs.declared.FootageScan.the-variants as scan
+use Rattle.footage_scan.specs.declared.FootageScan.{FootageScan}
+use Rattle.footage_scan.specs.declared.FootageScan.the-variants as scan
 use Rattle.scanner.specs.Shapes.{signed}
-use Rattle.footage_text.specs.Footage.{footageScan}
+use Rattle.footage_scan.specs.Footage.{footageScan}
 use Rattle.reading.specs.declared.Stated.the-variants.{Nothing, Format}
 use Rattle.reading.specs.Shaped.{formatIn, formatFor, footageShaped, labelOr}
 use Rattle.reading.specs.Reading.{labelRead, footageRead, readShaped, readText}

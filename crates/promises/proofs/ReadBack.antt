@@ -23,23 +23,23 @@ use Rattle.film.specs.FootageLaws.{feet-le, frames-le, perf-lt}
 use Rattle.film.proofs.Statements as film
 use Rattle.labels.specs.Label.{hoursIn, minutesIn, secondsIn, framesIn, countIn}
 use Rattle.scanner.specs.Scan.{isDivider}
-use Rattle.label_text.specs.Label.{fits, labelScan}
-use Rattle.label_text.specs.Label as label
-use Rattle.label_text.proofs.Statements.{label-back}
-use Rattle.label_text.proofs.Apart.{no-label}
-use Rattle.footage_text.specs.declared.FootageScan.the-variants as scan
-use Rattle.footage_text.specs.Footage.{footageScan}
-use Rattle.footage_text.proofs.Statements.{footage-back}
+use Rattle.label_scan.specs.Label.{fits, labelScan}
+use Rattle.label_scan.specs.Label as label
+use Rattle.label_scan.proofs.Statements.{label-back}
+use Rattle.label_scan.proofs.Apart.{no-label}
+use Rattle.footage_scan.specs.declared.FootageScan.the-variants as scan
+use Rattle.footage_scan.specs.Footage.{footageScan}
+use Rattle.footage_scan.proofs.Statements.{footage-back}
 use Rattle.reading.specs.declared.Read.the-variants as read
 use Rattle.reading.specs.declared.Stated.the-variants.{Nothing}
 use Rattle.reading.specs.Shaped.{formatFor}
 use Rattle.reading.specs.Reading.{takesPerf, footageRead, readText}
 use Rattle.reading.specs.ReadingLaws.{label-within, footage-within}
 use Rattle.written.specs.Parts.{signText}
-use Rattle.label_line.specs.Sections.{labelFields}
-use Rattle.label_line.specs.LabelText.{framesMark, labelText}
-use Rattle.label_line.proofs.Answers.{label-of, label-small, label-parts}
-use Rattle.footage_line.specs.FootageText.{perfText, feetText, footageText}
+use Rattle.label_writer.specs.Sections.{labelFields}
+use Rattle.label_writer.specs.LabelText.{framesMark, labelText}
+use Rattle.label_writer.proofs.Answers.{label-of, label-small, label-parts}
+use Rattle.footage_writer.specs.FootageText.{perfText, feetText, footageText}
 use Rattle.promises.specs.ReadBack.{LabelsReadBack, FootageReadBack, UnstatedReadBack}
 use Rattle.promises.proofs.Read.{sign-is, four-fields, read-label, read-stated, read-unstated}
 

@@ -9,8 +9,8 @@ use lib.ListN.{length, length-append}
 use Rattle.digits.specs.Digits.{decimal}
 use Rattle.digits.proofs.Values.{digits-length}
 use Rattle.labels.specs.Label.{hoursIn, minutesIn, secondsIn, framesIn}
-use Rattle.label_text.specs.Label.{fits, labelScan}
-use Rattle.label_text.proofs.Statements.{label-back}
+use Rattle.label_scan.specs.Label.{fits, labelScan}
+use Rattle.label_scan.proofs.Statements.{label-back}
 use Rattle.written.proofs.Parts.{decimal-short}
 use Rattle.promises.specs.Demand2.{twoDigitText, StrictText}
 use Rattle.promises.proofs.Read.{four-fields}

@@ -42,10 +42,10 @@ use Rattle.arithmetic.specs.Compare.{compareOf}
 use Rattle.arithmetic.specs.Count.{negOf, absOf, rebaseOf}
 use Rattle.chains.specs.Chain.{convertOf}
 use Rattle.written.specs.Written.{answerTo}
-use Rattle.label_line.specs.Sections.{sectioned}
-use Rattle.label_line.specs.LabelText.{labelDraft}
-use Rattle.footage_line.specs.FootageText.{countDraft, footageDraft, inFormat}
-use Rattle.runtime_line.specs.RuntimeText.{countDraft as runtimeCount, runtimeDraft}
+use Rattle.label_writer.specs.Sections.{sectioned}
+use Rattle.label_writer.specs.LabelText.{labelDraft}
+use Rattle.footage_writer.specs.FootageText.{countDraft, footageDraft, inFormat}
+use Rattle.runtime_writer.specs.RuntimeText.{countDraft as runtimeCount, runtimeDraft}
 use Rattle.promises.specs.When.{givenBy, RefusedWhen}
 use Rattle.promises.proofs.Behind.{counts, result, pairs, orders, ticks, sections, ends, drafts, room, steps}
 

@@ -15,8 +15,8 @@ use Rattle.reading.specs.declared.Stated.the-variants.{Nothing, Format}
 use Rattle.reading.specs.declared.Read.the-variants.{Label, Footage}
 use Rattle.reading.specs.Answer.{numberOf}
 use Rattle.reading.specs.Reading.{readText}
-use Rattle.label_line.specs.LabelText.{labelText}
-use Rattle.footage_line.specs.FootageText.{footageText}
+use Rattle.label_writer.specs.LabelText.{labelText}
+use Rattle.footage_writer.specs.FootageText.{footageText}
 use Rattle.arithmetic.specs.Truncating.{divOf}
 use Rattle.arithmetic.specs.Flooring.{divqOf}
 use Rattle.arithmetic.specs.Sum.{addOf}

@@ -25,12 +25,12 @@ use Rattle.chains.specs.declared.Converted.{Converted}
 use Rattle.chains.specs.Chain.{timecode}
 use Rattle.chains.specs.Chain as converted
 use Rattle.written.specs.Written.{Draft, answerTo, lineTo, numberOf, lengthOf}
-use Rattle.label_line.specs.declared.TimecodeSections.{TimecodeSections}
-use Rattle.label_line.specs.declared.Sectioned.{Sectioned}
-use Rattle.label_line.specs.Sections as sectioned
-use Rattle.label_line.specs.LabelText.{labelDraft}
-use Rattle.footage_line.specs.FootageText.{footageDraft}
-use Rattle.runtime_line.specs.RuntimeText.{runtimeDraft}
+use Rattle.label_writer.specs.declared.TimecodeSections.{TimecodeSections}
+use Rattle.label_writer.specs.declared.Sectioned.{Sectioned}
+use Rattle.label_writer.specs.Sections as sectioned
+use Rattle.label_writer.specs.LabelText.{labelDraft}
+use Rattle.footage_writer.specs.FootageText.{footageDraft}
+use Rattle.runtime_writer.specs.RuntimeText.{runtimeDraft}
 
 -- the sections of no label: all 0
 abbrev pub noSections : TimecodeSections

@@ -20,7 +20,7 @@ use Rattle.reading.specs.declared.Read.the-variants.{Label, Refused}
 use Rattle.reading.specs.Reading.{readText}
 use Rattle.written.specs.declared.Written.the-variants.{Length}
 use Rattle.written.specs.Written.{answerTo, lineTo}
-use Rattle.label_line.specs.LabelText.{labelText, labelDraft}
+use Rattle.label_writer.specs.LabelText.{labelText, labelDraft}
 use Rattle.chains.specs.Chain.{timecode}
 
 -- ---- strict two-digit labels

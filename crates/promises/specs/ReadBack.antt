@@ -12,8 +12,8 @@ use Rattle.film.specs.Film.{formatNumber}
 use Rattle.reading.specs.declared.Stated.the-variants.{Nothing, Format}
 use Rattle.reading.specs.declared.Read.the-variants.{Label, Footage}
 use Rattle.reading.specs.Reading.{readText}
-use Rattle.label_line.specs.LabelText.{labelText}
-use Rattle.footage_line.specs.FootageText.{footageText}
+use Rattle.label_writer.specs.LabelText.{labelText}
+use Rattle.footage_writer.specs.FootageText.{footageText}
 
 -- at every rate, the label of any count within its bounds is read as that count
 abbrev pub LabelsReadBack : Type 0

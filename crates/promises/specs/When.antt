@@ -40,11 +40,11 @@ use Rattle.chains.specs.Chain.{timecode, nearestFrame, convertOf}
 use Rattle.chains.specs.Chain as converted
 use Rattle.written.specs.Written.{Draft, answerTo}
 use Rattle.written.specs.Written as written
-use Rattle.label_line.specs.Sections.{sectioned}
-use Rattle.label_line.specs.Sections as fields
-use Rattle.label_line.specs.LabelText.{labelText, labelDraft}
-use Rattle.footage_line.specs.FootageText.{footageText, footageDraft}
-use Rattle.runtime_line.specs.RuntimeText.{runtimeText, runtimeDraft}
+use Rattle.label_writer.specs.Sections.{sectioned}
+use Rattle.label_writer.specs.Sections as fields
+use Rattle.label_writer.specs.LabelText.{labelText, labelDraft}
+use Rattle.footage_writer.specs.FootageText.{footageText, footageDraft}
+use Rattle.runtime_writer.specs.RuntimeText.{runtimeText, runtimeDraft}
 
 -- a refusal's number, and its condition
 abbrev pub Condition : Type 0

@@ -7,16 +7,16 @@ use mathlib.Core.List.{List, map}
 use mathlib.Core.Bool.{Bool, true, false}
 use Rattle.digits.specs.Digits.{valueOf}
 use Rattle.answers.specs.Refusals.{noShape, tooLong}
-use Rattle.label_text.specs.Shape.{rightJustified}
-use Rattle.label_text.specs.Label as scan
-use Rattle.label_text.specs.Statements.{HasLabelShape}
-use Rattle.label_text.proofs.Scanned.{scan-kinds}
-use Rattle.label_text.proofs.Statements.{label-fits, label-too-long, label-no-shape}
-use Rattle.footage_text.specs.Shape.{FootageParts, FootageShape, hasPerf, someLong}
-use Rattle.footage_text.specs.Footage.{shapeless, footageScan}
-use Rattle.footage_text.specs.Statements.{HasFootageShape}
-use Rattle.footage_text.proofs.Shape.{footage-found}
-use Rattle.footage_text.proofs.Statements.{footage-reads, footage-too-long, footage-no-shape}
+use Rattle.label_scan.specs.Shape.{rightJustified}
+use Rattle.label_scan.specs.Label as scan
+use Rattle.label_scan.specs.Statements.{HasLabelShape}
+use Rattle.label_scan.proofs.Scanned.{scan-kinds}
+use Rattle.label_scan.proofs.Statements.{label-fits, label-too-long, label-no-shape}
+use Rattle.footage_scan.specs.Shape.{FootageParts, FootageShape, hasPerf, someLong}
+use Rattle.footage_scan.specs.Footage.{shapeless, footageScan}
+use Rattle.footage_scan.specs.Statements.{HasFootageShape}
+use Rattle.footage_scan.proofs.Shape.{footage-found}
+use Rattle.footage_scan.proofs.Statements.{footage-reads, footage-too-long, footage-no-shape}
 use Rattle.reading.specs.declared.Stated.{Stated}
 use Rattle.reading.specs.declared.Stated.the-variants.{Nothing, Format}
 use Rattle.reading.specs.Shaped.{Shaped, label, footage, refused, footageShaped, shapeOf}

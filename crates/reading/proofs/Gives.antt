@@ -8,7 +8,7 @@ use lib.IntN.{ℤ}
 use Rattle.digits.specs.Digits.{valueOf}
 use Rattle.answers.specs.Refusals.{noShape, tooLong, droppedLabel, noPerfField, held}
 use Rattle.film.specs.declared.FilmFormat.{FilmFormat}
-use Rattle.footage_text.specs.Shape.{FootageParts, hasPerf}
+use Rattle.footage_scan.specs.Shape.{FootageParts, hasPerf}
 use Rattle.reading.specs.declared.Stated.{Stated}
 use Rattle.reading.specs.declared.Stated.the-variants.{Nothing}
 use Rattle.reading.specs.declared.Read.the-variants.{Refused}

@@ -7,11 +7,11 @@ use mathlib.Core.List.{List}
 use borrow.Author.Tests.{eq-eqb, ne-eqb}
 use Rattle.answers.specs.declared.Refusal.{Refusal}
 use Rattle.labels.specs.Label.{Short}
-use Rattle.label_text.specs.declared.Verdict.{Verdict}
-use Rattle.label_text.specs.declared.Verdict.the-variants.{Fits, Refused}
-use Rattle.label_text.specs.declared.LabelScan.{LabelScan}
-use Rattle.label_text.specs.Label.{labelScan}
-use Rattle.label_text.proofs.Scanned.{scan-below}
+use Rattle.label_scan.specs.declared.Verdict.{Verdict}
+use Rattle.label_scan.specs.declared.Verdict.the-variants.{Fits, Refused}
+use Rattle.label_scan.specs.declared.LabelScan.{LabelScan}
+use Rattle.label_scan.specs.Label.{labelScan}
+use Rattle.label_scan.proofs.Scanned.{scan-below}
 use Rattle.reading.specs.Shaped.{Shaped, label, refused, labelBy, labelOr}
 
 module _ (other : Shaped) (scan : LabelScan) where

@@ -8,14 +8,14 @@ use mathlib.Core.Bool.{Bool, true, false}
 use Rattle.digits.specs.Digits.{valueOf}
 use Rattle.answers.specs.Refusals.{noShape, tooLong}
 use Rattle.scanner.specs.Shapes.{plain, minus, signed}
-use Rattle.label_text.specs.Label.{refused, labelScan}
-use Rattle.label_text.specs.Statements.{HasLabelShape}
-use Rattle.label_text.proofs.Apart.{no-label}
-use Rattle.label_text.proofs.Statements.{label-reads, label-too-long, label-no-shape}
-use Rattle.footage_text.specs.Shape.{FootageParts, FootageFields, whole, marked, FootageShape, hasPerf}
-use Rattle.footage_text.specs.Footage.{footageScan}
-use Rattle.footage_text.specs.Statements.{HasFootageShape}
-use Rattle.footage_text.proofs.Statements.{footage-reads, footage-too-long}
+use Rattle.label_scan.specs.Label.{refused, labelScan}
+use Rattle.label_scan.specs.Statements.{HasLabelShape}
+use Rattle.label_scan.proofs.Apart.{no-label}
+use Rattle.label_scan.proofs.Statements.{label-reads, label-too-long, label-no-shape}
+use Rattle.footage_scan.specs.Shape.{FootageParts, FootageFields, whole, marked, FootageShape, hasPerf}
+use Rattle.footage_scan.specs.Footage.{footageScan}
+use Rattle.footage_scan.specs.Statements.{HasFootageShape}
+use Rattle.footage_scan.proofs.Statements.{footage-reads, footage-too-long}
 use Rattle.reading.specs.declared.Stated.{Stated}
 use Rattle.reading.specs.declared.Stated.the-variants.{Nothing, Format}
 use Rattle.reading.specs.Shaped.{label, footage, footageShaped, labelOr, shapeOf}

@@ -10,10 +10,10 @@ use Rattle.rates.specs.Rates.{isRate, rateRow, dropFrames}
 use Rattle.film.specs.declared.FilmFormat.{FilmFormat}
 use Rattle.film.specs.Footage.{footageCount}
 use Rattle.labels.specs.Label.{countIn, droppedIn}
-use Rattle.label_text.specs.Label.{fits, refused, labelScan}
-use Rattle.footage_text.specs.declared.FootageScan.the-variants as scan
-use Rattle.footage_text.specs.Footage.{numberOf, footageScan}
-use Rattle.footage_text.proofs.Statements.{footage-fits}
+use Rattle.label_scan.specs.Label.{fits, refused, labelScan}
+use Rattle.footage_scan.specs.declared.FootageScan.the-variants as scan
+use Rattle.footage_scan.specs.Footage.{numberOf, footageScan}
+use Rattle.footage_scan.proofs.Statements.{footage-fits}
 use Rattle.reading.specs.declared.Stated.{Stated}
 use Rattle.reading.specs.declared.Stated.the-variants.{Nothing}
 use Rattle.reading.specs.declared.Read.the-variants.{Label, Footage}

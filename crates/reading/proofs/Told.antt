@@ -16,7 +16,7 @@ use Rattle.film.specs.declared.FilmFormat.{FilmFormat}
 use Rattle.film.specs.Film.{allowsPerfField}
 use Rattle.film.specs.Footage.{footageCount}
 use Rattle.labels.specs.Label.{countIn, droppedIn}
-use Rattle.footage_text.specs.Shape.{FootageParts, hasPerf}
+use Rattle.footage_scan.specs.Shape.{FootageParts, hasPerf}
 use Rattle.reading.specs.declared.Stated.{Stated}
 use Rattle.reading.specs.declared.Stated.the-variants.{Nothing}
 use Rattle.reading.specs.declared.Read.{Read}

@@ -10,13 +10,13 @@ use Rattle.film.specs.declared.FilmFormat.the-variants.{FF35mm4perf, FF35mm3per
 use Rattle.film.specs.declared.Filmed.{Filmed}
 use Rattle.film.specs.declared.Filmed.the-variants as filmed
 use Rattle.film.specs.Film.{isFormat, formatAt}
-use Rattle.label_text.specs.declared.Verdict.{Verdict}
-use Rattle.label_text.specs.declared.Verdict.the-variants as verdict
-use Rattle.label_text.specs.declared.LabelScan.{LabelScan}
-use Rattle.label_text.specs.Label.{labelScan}
-use Rattle.footage_text.specs.declared.FootageScan.{FootageScan}
-use Rattle.footage_text.specs.declared.FootageScan.the-variants as scan
-use Rattle.footage_text.specs.Footage.{footageScan}
+use Rattle.label_scan.specs.declared.Verdict.{Verdict}
+use Rattle.label_scan.specs.declared.Verdict.the-variants as verdict
+use Rattle.label_scan.specs.declared.LabelScan.{LabelScan}
+use Rattle.label_scan.specs.Label.{labelScan}
+use Rattle.footage_scan.specs.declared.FootageScan.{FootageScan}
+use Rattle.footage_scan.specs.declared.FootageScan.the-variants as scan
+use Rattle.footage_scan.specs.Footage.{footageScan}
 use Rattle.reading.specs.declared.Stated.{Stated}
 use Rattle.reading.specs.declared.Stated.the-variants.{Nothing, Format}
 

@@ -14,12 +14,12 @@ use Rattle.film.specs.declared.FilmFormat.{FilmFormat}
 use Rattle.film.specs.Film.{allowsPerfField}
 use Rattle.film.specs.Footage.{footageCount}
 use Rattle.labels.specs.Label.{countIn, droppedIn}
-use Rattle.label_text.specs.Shape.{LabelShape, rightJustified}
-use Rattle.label_text.specs.Shape as label
-use Rattle.label_text.specs.Statements.{HasLabelShape}
-use Rattle.footage_text.specs.Shape.{FootageParts, FootageShape, hasPerf}
-use Rattle.footage_text.specs.Shape as footage
-use Rattle.footage_text.specs.Statements.{HasFootageShape}
+use Rattle.label_scan.specs.Shape.{LabelShape, rightJustified}
+use Rattle.label_scan.specs.Shape as label
+use Rattle.label_scan.specs.Statements.{HasLabelShape}
+use Rattle.footage_scan.specs.Shape.{FootageParts, FootageShape, hasPerf}
+use Rattle.footage_scan.specs.Shape as footage
+use Rattle.footage_scan.specs.Statements.{HasFootageShape}
 use Rattle.reading.specs.declared.Stated.{Stated}
 use Rattle.reading.specs.declared.Stated.the-variants.{Nothing, Format}
 use Rattle.reading.specs.declared.Read.the-variants.{Label, Footage}

@@ -6,7 +6,7 @@ ghost use mathlib.Core.Bool.{true};
 ghost use Prim.Native.Nat.{ℕ, _<_, _^_};
 ghost use Rattle.rates.specs.Rates.{isRate};
 ghost use Rattle.labels.specs.Label.{Short};
-ghost use Rattle.footage_text.specs.Footage.{footageScan};
+ghost use Rattle.footage_scan.specs.Footage.{footageScan};
 ghost use Rattle.reading.specs.Answer.{asLabel, asFootage};
 ghost use Rattle.reading.specs.Shaped.{isStated, formatFor, footageShaped, shapeOf};
 ghost use Rattle.reading.specs.Reading.{takesPerf, labelRead, footageRead, readShaped, readText};
@@ -14,8 +14,8 @@ use answers::Counted;
 use answers::Refusal;
 use film::FilmFormat;
 use film::Filmed;
-use footage_text::FootageScan;
-use label_text::Verdict;
+use footage_scan::FootageScan;
+use label_scan::Verdict;
 
 // The film format that is stated, by its number, or that none is.
 pub enum Stated {
@@ -122,7 +122,7 @@ fn read_footage(format: FilmFormat, minus: bool, feet: u64, frames: u64, perf: b
 fn only_footage(text: &[u8], stated: Stated) -> Read
     ensures answer { λ r. ⌜ ((rate : ℕ) → r ≡ readShaped rate stated (footageShaped (footageScan (now (text .entry))))) ⌝ }
 {
-    let scan = footage_text::scan_footage(text);
+    let scan = footage_scan::scan_footage(text);
     match scan {
         FootageScan::Footage {
             minus,
@@ -142,7 +142,7 @@ fn label_or_footage(text: &[u8], rate: u64) -> Read
     requires rate { ⌜ isRate rate ≡ true ⌝ }
     ensures answer { λ r. ⌜ r ≡ readShaped rate Stated.Nothing (shapeOf Stated.Nothing (now (text .entry))) ⌝ }
 {
-    let scan = label_text::scan_label(text);
+    let scan = label_scan::scan_label(text);
     let verdict = scan.verdict;
     let Verdict::Refused(e) = verdict else {
         let fields = scan.fields;

@@ -13,9 +13,9 @@ use Rattle.answers.specs.declared.Counted.the-variants.{Refused}
 use Rattle.answers.specs.Refusals.{noShape, tooLong, held}
 use Rattle.rates.specs.Rates.{isRate, rateRow}
 use Rattle.rates.specs.Rule.{sound}
-use Rattle.runtime_text.specs.Shape.{RuntimeParts, RuntimeShape, someLong}
-use Rattle.runtime_text.specs.Statements.{HasRuntimeShape}
-use Rattle.runtime_text.proofs.Statements.{runtime-reads, runtime-too-long, runtime-no-shape}
+use Rattle.runtime_scan.specs.Shape.{RuntimeParts, RuntimeShape, someLong}
+use Rattle.runtime_scan.specs.Statements.{HasRuntimeShape}
+use Rattle.runtime_scan.proofs.Statements.{runtime-reads, runtime-too-long, runtime-no-shape}
 use Rattle.runtime_reading.specs.Reading.{runtimeHeld, readScan, readRuntime}
 use Rattle.runtime_reading.specs.ReadingLaws.{read-scanned}
 use Rattle.runtime_reading.specs.Statements.{timeOf, RuntimeCount}

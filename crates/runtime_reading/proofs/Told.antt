@@ -12,10 +12,10 @@ use Rattle.answers.specs.declared.Counted.the-variants.{Count, Refused}
 use Rattle.answers.specs.Refusals.{isCount, held, numberOf}
 use Rattle.answers.specs.Laws.{held-in, held-out}
 use Rattle.rates.specs.Rates.{isRate}
-use Rattle.runtime_text.specs.Shape.{RuntimeParts, RuntimeShape, someLong}
-use Rattle.runtime_text.specs.Statements.{HasRuntimeShape}
-use Rattle.runtime_text.proofs.Shape.{runtime-found}
-use Rattle.runtime_text.proofs.Statements.{runtime-no-shape}
+use Rattle.runtime_scan.specs.Shape.{RuntimeParts, RuntimeShape, someLong}
+use Rattle.runtime_scan.specs.Statements.{HasRuntimeShape}
+use Rattle.runtime_scan.proofs.Shape.{runtime-found}
+use Rattle.runtime_scan.proofs.Statements.{runtime-no-shape}
 use Rattle.runtime_reading.specs.Reading.{readRuntime}
 use Rattle.runtime_reading.specs.ReadingLaws.{no-rate}
 use Rattle.runtime_reading.specs.Statements.{RuntimeCount, CountOut}

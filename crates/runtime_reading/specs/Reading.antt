@@ -10,10 +10,10 @@ use Rattle.answers.specs.declared.Counted.{Counted}
 use Rattle.answers.specs.declared.Counted.the-variants as counted
 use Rattle.answers.specs.Refusals.{noSuch, orElse, held}
 use Rattle.rates.specs.Rates.{isRate, rateRow}
-use Rattle.runtime_text.specs.declared.Verdict.{Verdict}
-use Rattle.runtime_text.specs.declared.Verdict.the-variants as verdict
-use Rattle.runtime_text.specs.declared.RuntimeScan.{RuntimeScan}
-use Rattle.runtime_text.specs.Runtime.{runtimeScan}
+use Rattle.runtime_scan.specs.declared.Verdict.{Verdict}
+use Rattle.runtime_scan.specs.declared.Verdict.the-variants as verdict
+use Rattle.runtime_scan.specs.declared.RuntimeScan.{RuntimeScan}
+use Rattle.runtime_scan.specs.Runtime.{runtimeScan}
 
 -- hours, minutes and seconds in seconds; values are not held under 60
 abbrev pub secondsIn : (fields : List ℕ) → ℕ

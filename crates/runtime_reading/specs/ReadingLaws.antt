@@ -18,8 +18,8 @@ use Rattle.answers.specs.Refusals.{noSuch, outOfBounds}
 use Rattle.answers.specs.Laws.{held-out}
 use Rattle.rates.specs.Rates.{isRate, rateRow}
 use Rattle.rates.specs.Rule.{sound}
-use Rattle.runtime_text.specs.Runtime.{runtimeScan}
-use Rattle.runtime_text.specs.Statements.{Bounded}
+use Rattle.runtime_scan.specs.Runtime.{runtimeScan}
+use Rattle.runtime_scan.specs.Statements.{Bounded}
 use Rattle.runtime_reading.specs.Reading.{secondsIn, timeIn, runtimeHeld, readScan, readRuntime}
 
 -- ---- a text

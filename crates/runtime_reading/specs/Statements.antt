@@ -12,8 +12,8 @@ use Rattle.digits.specs.Digits.{valueOf}
 use Rattle.answers.specs.declared.Counted.the-variants.{Count}
 use Rattle.answers.specs.Refusals.{isCount, numberOf, countOf}
 use Rattle.rates.specs.Rates.{isRate, rateRow}
-use Rattle.runtime_text.specs.Shape.{RuntimeParts, RuntimeShape, rightJustified, millionthsOf, someLong}
-use Rattle.runtime_text.specs.Statements.{HasRuntimeShape}
+use Rattle.runtime_scan.specs.Shape.{RuntimeParts, RuntimeShape, rightJustified, millionthsOf, someLong}
+use Rattle.runtime_scan.specs.Statements.{HasRuntimeShape}
 use Rattle.runtime_reading.specs.Reading.{timeIn, readRuntime}
 
 -- refusal 6 exactly when there is no such rate

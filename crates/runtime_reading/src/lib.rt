@@ -3,10 +3,10 @@
 ghost use mathlib.Core.Path.{_≡_};
 ghost use mathlib.Core.Bool.{true};
 ghost use Rattle.rates.specs.Rates.{isRate};
-ghost use Rattle.runtime_text.specs.Statements.{Bounded};
+ghost use Rattle.runtime_scan.specs.Statements.{Bounded};
 ghost use Rattle.runtime_reading.specs.Reading.{timeIn, runtimeHeld, readRuntime};
 use answers::Counted;
-use runtime_text::Verdict;
+use runtime_scan::Verdict;
 
 // The frame nearest to a time of three fields and millionths of a second. A time of over 20,000,000 seconds is beyond the bounds of a
 // count at every rate. Asks a rate, and what a runtime's scan gives: only this crate calls it.
@@ -32,7 +32,7 @@ pub fn read_runtime(text: &[u8], rate: u64) -> Counted
     if !rates::is_rate(rate) {
         return Counted::Refused(answers::NO_SUCH);
     }
-    let scan = runtime_text::scan_runtime(text);
+    let scan = runtime_scan::scan_runtime(text);
     let verdict = scan.verdict;
     let Verdict::Refused(e) = verdict else {
         let fields = scan.fields;

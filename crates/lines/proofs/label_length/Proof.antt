@@ -4,8 +4,8 @@ use native.Mathlib.Omega.{arith}
 use Prim.Native.Nat.{_+_, _≤_}
 use mathlib.Core.Path.{_≡_, sym, _∙_}
 use Rattle.written.proofs.Parts.{sign-most, wide-most}
-use Rattle.label_line.specs.Sections.{sectioned}
-use Rattle.label_line.specs.declared.Sectioned.the-variants.{Sections}
+use Rattle.label_writer.specs.Sections.{sectioned}
+use Rattle.label_writer.specs.declared.Sectioned.the-variants.{Sections}
 use Rattle.lines.proofs.Labelled.{label-long, never-refused}
 use borrow.Author.Needs.{needs}
 use Rattle.lines.proofs.label_length.Statement.{statement}

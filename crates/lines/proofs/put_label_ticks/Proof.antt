@@ -3,7 +3,7 @@
 use native.Mathlib.Omega.{arith}
 use mathlib.Core.List.{_∷_}
 use Rattle.lent.proofs.Laws.{front-lent}
-use Rattle.label_line.specs.LabelText.{labelText}
+use Rattle.label_writer.specs.LabelText.{labelText}
 use Rattle.lines.specs.Output.{lastText}
 use borrow.Author.Needs.{needs}
 use Rattle.lines.proofs.put_label_ticks.Statement.{statement}

@@ -11,7 +11,7 @@ use mir.Val.{toZ, ofZ}
 use Rattle.numbers.specs.Sign.{isNeg}
 use Rattle.lent.specs.Line.{front}
 use Rattle.lent.proofs.Laws.{front-lent}
-use Rattle.label_line.specs.LabelText.{labelText}
+use Rattle.label_writer.specs.LabelText.{labelText}
 use Rattle.lines.specs.Output.{signedText, numberText, lastText, columnsText}
 use Rattle.lines.proofs.Texts.{last-length, columns-length}
 use borrow.Author.Needs.{needs}

@@ -12,7 +12,7 @@ use Rattle.numbers.specs.Sign.{isNeg}
 use Rattle.lent.proofs.Laws.{part-length, fits-yes, fits-no}
 use Rattle.written.specs.Written.{Text}
 use Rattle.written.proofs.Laws.{laid, no-room}
-use Rattle.label_line.proofs.Statements.{label-bounds}
+use Rattle.label_writer.proofs.Statements.{label-bounds}
 use Rattle.lines.specs.Output.{signedText, numberText, columnsText}
 use Rattle.lines.proofs.Texts.{machine-most, columns-length}
 use borrow.Author.Needs.{needs}

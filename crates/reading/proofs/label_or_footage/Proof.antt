@@ -3,8 +3,8 @@
 use mathlib.Core.Path.{_≡_, sym, ap, _∙_, subst}
 use borrow.Author.Needs.{needs}
 use Rattle.labels.specs.Label.{Short}
-use Rattle.label_text.specs.declared.LabelScan.{LabelScan}
-use Rattle.footage_text.specs.Footage.{footageScan}
+use Rattle.label_scan.specs.declared.LabelScan.{LabelScan}
+use Rattle.footage_scan.specs.Footage.{footageScan}
 use Rattle.reading.specs.declared.Stated.the-variants.{Nothing}
 use Rattle.reading.specs.Shaped.{Shaped, footageShaped, labelOr, shapeOf}
 use Rattle.reading.specs.Reading.{readShaped}

@@ -3,8 +3,8 @@
 use mathlib.Core.Path.{sym, ap, _∙_}
 use borrow.Author.Needs.{needs}
 use Rattle.film.specs.declared.FilmFormat.{FilmFormat}
-use Rattle.footage_text.specs.declared.FootageScan.{FootageScan}
-use Rattle.footage_text.proofs.Statements.{taken-below}
+use Rattle.footage_scan.specs.declared.FootageScan.{FootageScan}
+use Rattle.footage_scan.proofs.Statements.{taken-below}
 use Rattle.reading.specs.Shaped.{footageShaped}
 use Rattle.reading.specs.Reading.{footageRead, readShaped}
 use Rattle.reading.proofs.only_footage.Statement.{statement}

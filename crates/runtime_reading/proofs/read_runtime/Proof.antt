@@ -5,10 +5,10 @@ use mathlib.Core.Bool.{true}
 use borrow.Author.Needs.{needs}
 use borrow.Author.Tests.{not-true, not-false}
 use Rattle.rates.specs.Rates.{isRate}
-use Rattle.runtime_text.specs.declared.Verdict.{Verdict}
-use Rattle.runtime_text.specs.declared.RuntimeScan.{RuntimeScan}
-use Rattle.runtime_text.specs.Statements.{Bounded}
-use Rattle.runtime_text.proofs.Statements.{runtime-bounded}
+use Rattle.runtime_scan.specs.declared.Verdict.{Verdict}
+use Rattle.runtime_scan.specs.declared.RuntimeScan.{RuntimeScan}
+use Rattle.runtime_scan.specs.Statements.{Bounded}
+use Rattle.runtime_scan.proofs.Statements.{runtime-bounded}
 use Rattle.runtime_reading.specs.Reading.{timeIn, runtimeHeld, verdictRead, readScan, readRuntime}
 use Rattle.runtime_reading.specs.ReadingLaws.{no-rate, read-scanned}
 use Rattle.runtime_reading.proofs.read_runtime.Statement.{statement}

@@ -1,7 +1,7 @@
--- `exports::tzq_sections` meets its contract: the answer of `label_line::sections`, handed over.
+-- `exports::tzq_sections` meets its contract: the answer of `label_writer::sections`, handed over.
 -- Assumes nothing.
 use mathlib.Core.Path.{ap, _∙_}
-use Rattle.label_line.specs.Sections.{sectioned}
+use Rattle.label_writer.specs.Sections.{sectioned}
 use Rattle.exports.specs.Handed.{handedSections}
 use borrow.Author.Needs.{needs}
 use Rattle.exports.proofs.writes.tzq_sections.Statement.{statement}

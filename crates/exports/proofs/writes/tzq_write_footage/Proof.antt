@@ -1,9 +1,9 @@
--- `exports::tzq_write_footage` meets its contract: the answer and the line of `footage_line::write_footage`, handed over.
+-- `exports::tzq_write_footage` meets its contract: the answer and the line of `footage_writer::write_footage`, handed over.
 -- Assumes nothing.
 use mathlib.Core.Path.{ap, _∙_}
 use Rattle.rates.specs.declared.Timecode.{Timecode}
 use Rattle.written.specs.Written.{answerTo, lineTo}
-use Rattle.footage_line.specs.FootageText.{footageDraft}
+use Rattle.footage_writer.specs.FootageText.{footageDraft}
 use Rattle.exports.specs.Handed.{handedLength}
 use borrow.Author.Needs.{needs}
 use Rattle.exports.proofs.writes.tzq_write_footage.Statement.{statement}

@@ -1,9 +1,9 @@
--- `exports::tzq_write_label` meets its contract: the answer and the line of `label_line::write_label`, handed over.
+-- `exports::tzq_write_label` meets its contract: the answer and the line of `label_writer::write_label`, handed over.
 -- Assumes nothing.
 use mathlib.Core.Path.{ap, _∙_}
 use Rattle.rates.specs.declared.Timecode.{Timecode}
 use Rattle.written.specs.Written.{answerTo, lineTo}
-use Rattle.label_line.specs.LabelText.{labelDraft}
+use Rattle.label_writer.specs.LabelText.{labelDraft}
 use Rattle.exports.specs.Handed.{handedLength}
 use borrow.Author.Needs.{needs}
 use Rattle.exports.proofs.writes.tzq_write_label.Statement.{statement}

@@ -1,9 +1,9 @@
--- `exports::tzq_write_runtime` meets its contract: the answer and the line of `runtime_line::write_runtime`, handed over.
+-- `exports::tzq_write_runtime` meets its contract: the answer and the line of `runtime_writer::write_runtime`, handed over.
 -- Assumes nothing.
 use mathlib.Core.Path.{ap, _∙_}
 use Rattle.rates.specs.declared.Timecode.{Timecode}
 use Rattle.written.specs.Written.{answerTo, lineTo}
-use Rattle.runtime_line.specs.RuntimeText.{runtimeDraft}
+use Rattle.runtime_writer.specs.RuntimeText.{runtimeDraft}
 use Rattle.exports.specs.Handed.{handedLength}
 use borrow.Author.Needs.{needs}
 use Rattle.exports.proofs.writes.tzq_write_runtime.Statement.{statement}
