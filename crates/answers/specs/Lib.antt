@@ -1,2 +1,4 @@
+pub mod Order
+pub mod OrderLaws
 pub mod Refusals
 pub mod Laws

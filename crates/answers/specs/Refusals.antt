@@ -1,12 +1,14 @@
--- Refusal numbers: the document's table, one name a number, and the answer that is a count or a refusal.
+-- Refusal numbers and bounds (BEHAVIOUR: Refusals): one name a number, the bounds of a count, and the answer that is a count or a refusal.
 -- Assumes nothing.
 use Prim.Native.Nat.{ℕ}
-use mathlib.Core.Bool.{Bool, true, false}
+use mathlib.Core.Bool.{Bool, not}
+use mathlib.Core.List.{[], _∷_}
 use lib.Dec.{leb}
 use lib.IntN.{ℤ, pos, natAbs}
 use Rattle.answers.specs.declared.Refusal.{Refusal}
 use Rattle.answers.specs.declared.Counted.{Counted}
 use Rattle.answers.specs.declared.Counted.the-variants.{Count, Refused}
+use Rattle.answers.specs.Order.{Condition, when, unless}
 
 abbrev pub refusal : ℕ → Refusal
 refusal n = record { number = n }
@@ -43,20 +45,22 @@ zeroDivisor = refusal 7
 abbrev pub noRoom : Refusal
 noRoom = refusal 8
 
--- a test, and the refusal that is given where it fails, before all that follows
-abbrev pub orElse : Bool → Refusal → Counted → Counted
-orElse true e rest = rest
-orElse false e rest = Refused e
-
 -- counts from -400,000,000 to 400,000,000
+abbrev pub mostCount : ℕ
+mostCount = 400000000
+
 abbrev pub isCount : ℤ → Bool
-isCount z = leb (natAbs z) 400000000
+isCount z = leb (natAbs z) mostCount
+
+-- 5: a count outside its bounds
+abbrev pub badCount : ℤ → Condition
+badCount z = when outOfBounds (not (isCount z))
 
 -- the resulting count, held to its bounds
 unfoldable pub held : ℤ → Counted
-held z = orElse (isCount z) outOfBounds (Count z)
+held z = unless Refused (badCount z ∷ []) (Count z)
 
--- the document's number of an answer (0: not refused), and its count (a refusal's is 0)
+-- the number of an answer (0: not refused), and its count (a refusal's is 0)
 abbrev pub numberOf : Counted → ℕ
 numberOf (Count z) = 0
 numberOf (Refused e) = e .number

@@ -1,11 +1,10 @@
 // Refusals by number, and the answer that is a count or a refusal: a number held to the bounds of a count, or refusal 5.
 ghost use mathlib.Core.Path.{_≡_};
-ghost use Prim.Native.Nat.{_<_};
 ghost use Rattle.numbers.specs.Sign.{signed};
 ghost use Rattle.numbers.specs.Nearest.{nearestZ};
 ghost use Rattle.answers.specs.Refusals.{isCount, held, numberOf, countOf};
 
-// Why a call was refused: document 01's number. Made only by the constants below, handed on whole.
+// Why a call was refused: the refusal's number. Made only by the constants below, handed on whole.
 pub struct Refusal {
     pub number: u8,
 }
@@ -40,31 +39,35 @@ pub enum Counted {
     Refused(Refusal),
 }
 
+// Whether a call goes on, or why it is refused.
+pub enum Verdict {
+    Passed,
+    Refused(Refusal),
+}
+
 // Counts run from -400,000,000 to this.
-pub const MOST: u64 = 400_000_000;
+pub const MOST_COUNT: u64 = 400_000_000;
 
 // Whether x is within the bounds of a count.
 pub fn is_count(x: i64) -> bool
     ensures answer { λ r. ⌜ r ≡ isCount x ⌝ }
 {
-    numbers::magnitude(x) <= MOST
+    numbers::magnitude(x) <= MOST_COUNT
 }
 
 // The count with this sign and magnitude. Refuses 5: it is outside its bounds.
 pub fn held(minus: bool, m: u64) -> Counted
     ensures answer { λ r. ⌜ r ≡ held (signed minus m) ⌝ }
 {
-    if m > MOST {
+    if m > MOST_COUNT {
         return Counted::Refused(OUT_OF_BOUNDS);
     }
     let z = numbers::with_sign(minus, m);
     Counted::Count(z)
 }
 
-// The nearest count of x/n, halves away from zero; x is any i64. Refuses 5: it is outside its bounds.
-// Asks that n is not 0: only crates above call it.
+// The nearest count of x/n, halves away from zero; x is any i64, and of n = 0 it is 0. Refuses 5: it is outside its bounds.
 pub fn nearest_count(x: i64, n: u64) -> Counted
-    requires nonzero { ⌜ 0 < n ⌝ }
     ensures answer { λ r. ⌜ r ≡ held (nearestZ x n) ⌝ }
 {
     let minus = numbers::below_zero(x);
@@ -73,7 +76,7 @@ pub fn nearest_count(x: i64, n: u64) -> Counted
     held(minus, k)
 }
 
-// The document's number of an answer; 0: not refused.
+// The number of an answer; 0: not refused.
 pub fn number(a: Counted) -> u8
     ensures answer { λ r. ⌜ r ≡ numberOf a ⌝ }
 {

@@ -1,31 +1,27 @@
--- What acts on the count alone: negation, absolute value, and `rebase`, which keeps it.
+-- What acts on the count alone (BEHAVIOUR: Arithmetic): negation, absolute value, and `rebase`, which keeps it.
 -- Assumes nothing.
 use Prim.Native.Nat.{ℕ}
+use mathlib.Core.List.{List, _∷_}
 use lib.IntN.{pos, negℤ, natAbs}
-use Rattle.answers.specs.declared.Counted.{Counted}
-use Rattle.answers.specs.declared.Counted.the-variants.{Count}
-use Rattle.answers.specs.Refusals.{noSuch, outOfBounds, orElse, isCount}
-use Rattle.rates.specs.declared.Timecode.{Timecode}
-use Rattle.rates.specs.Rates.{isRate}
+use Rattle.answers.specs.Order.{Condition, unless}
+use Rattle.timecodes.specs.declared.Timecode.{Timecode}
+use Rattle.timecodes.specs.declared.Answer.{Answer}
+use Rattle.timecodes.specs.declared.Answer.the-variants.{At, Refused}
+use Rattle.rates.specs.Rates.{badRate}
+use Rattle.timecodes.specs.Timecode.{moved, recounted}
+use Rattle.timecodes.specs.Admitted.{admits}
 
 -- negation acts on the count: 6, 5, else it negated
-unfoldable pub negOf : Timecode → Counted
-negOf tc =
-    orElse (isRate (tc .rate)) noSuch
-    (orElse (isCount (tc .count)) outOfBounds
-    (Count (negℤ (tc .count))))
+unfoldable pub negOf : Timecode → Answer
+negOf tc = unless Refused (admits tc) (At (recounted tc (negℤ (tc .count))))
 
 -- absolute value acts on the count: 6, 5, else its magnitude
-unfoldable pub absOf : Timecode → Counted
-absOf tc =
-    orElse (isRate (tc .rate)) noSuch
-    (orElse (isCount (tc .count)) outOfBounds
-    (Count (pos (natAbs (tc .count)))))
+unfoldable pub absOf : Timecode → Answer
+absOf tc = unless Refused (admits tc) (At (recounted tc (pos (natAbs (tc .count)))))
 
 -- `rebase` keeps the count: 6 for either rate, 5, else it
-unfoldable pub rebaseOf : Timecode → (rate : ℕ) → Counted
-rebaseOf tc rate =
-    orElse (isRate rate) noSuch
-    (orElse (isRate (tc .rate)) noSuch
-    (orElse (isCount (tc .count)) outOfBounds
-    (Count (tc .count))))
+abbrev pub rebaseWhen : Timecode → (rate : ℕ) → List Condition
+rebaseWhen tc rate = badRate rate ∷ admits tc
+
+unfoldable pub rebaseOf : Timecode → (rate : ℕ) → Answer
+rebaseOf tc rate = unless Refused (rebaseWhen tc rate) (At (moved tc (tc .count) rate))

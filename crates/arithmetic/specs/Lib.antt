@@ -1,5 +1,3 @@
-pub mod Pair
-pub mod PairLaws
 pub mod Sum
 pub mod Product
 pub mod Divisor

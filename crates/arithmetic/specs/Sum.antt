@@ -1,29 +1,33 @@
--- A sum or difference of two timecodes: the exact instant, rounded at the left one's rate.
+-- A sum or difference of two timecodes (BEHAVIOUR: Arithmetic): the exact instant, rounded at the left one's rate.
 -- Assumes nothing.
+use mathlib.Core.List.{List, [], _∷_, _++_}
 use lib.IntN.{ℤ, _+ℤ_, _-ℤ_}
 use Rattle.numbers.specs.Nearest.{nearestZ}
-use Rattle.answers.specs.declared.Counted.{Counted}
-use Rattle.answers.specs.declared.Counted.the-variants.{Refused}
-use Rattle.answers.specs.Refusals.{held}
-use Rattle.rates.specs.declared.Timecode.{Timecode}
-use Rattle.time.specs.Instant.{frameTicks}
-use Rattle.arithmetic.specs.declared.Paired.{Paired}
-use Rattle.arithmetic.specs.declared.Paired.the-variants.{Instants, Refused as NoInstants}
-use Rattle.arithmetic.specs.Pair.{instantsOf}
+use Rattle.answers.specs.Order.{Condition, unless}
+use Rattle.timecodes.specs.declared.Timecode.{Timecode}
+use Rattle.timecodes.specs.declared.Answer.{Answer}
+use Rattle.timecodes.specs.declared.Answer.the-variants.{At, Refused}
+use Rattle.answers.specs.Refusals.{badCount}
+use Rattle.rates.specs.Rates.{frameTicks}
+use Rattle.timecodes.specs.Timecode.{recounted}
+use Rattle.timecodes.specs.Admitted.{admitsBoth}
+use Rattle.timecodes.specs.Instant.{instant}
 
--- what is counted by two instants, where there are such
-abbrev pub behind : Paired → (ℤ → ℤ → Counted) → Counted
-behind (Instants x y) count = count x y
-behind (NoInstants e) count = Refused e
+-- the instants joined by an operation, at the nearest frame of the left one's rate, halves away from zero
+abbrev pub joinedFrame : (ℤ → ℤ → ℤ) → Timecode → Timecode → ℤ
+joinedFrame op a b = nearestZ (op (instant a) (instant b)) (frameTicks (a .rate))
 
--- the instants joined by an operation: 6, 5, then the frame nearest to that, halves away from zero, or the resulting count's 5
-unfoldable pub joined : (ℤ → ℤ → ℤ) → Timecode → Timecode → Counted
-joined op a b = behind (instantsOf a b) (λ x y. held (nearestZ (op x y) (frameTicks (a .rate))))
+-- 6, 5, then 5 of the resulting count
+abbrev pub joinedWhen : (ℤ → ℤ → ℤ) → Timecode → Timecode → List Condition
+joinedWhen op a b = admitsBoth a b ++ (badCount (joinedFrame op a b) ∷ [])
+
+unfoldable pub joined : (ℤ → ℤ → ℤ) → Timecode → Timecode → Answer
+joined op a b = unless Refused (joinedWhen op a b) (At (recounted a (joinedFrame op a b)))
 
 -- the sum
-abbrev pub addOf : Timecode → Timecode → Counted
+abbrev pub addOf : Timecode → Timecode → Answer
 addOf = joined _+ℤ_
 
 -- the difference
-abbrev pub subOf : Timecode → Timecode → Counted
+abbrev pub subOf : Timecode → Timecode → Answer
 subOf = joined _-ℤ_

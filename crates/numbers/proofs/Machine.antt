@@ -67,16 +67,17 @@ nonzero-read (pos zero) h = absurd (h refl)
 nonzero-read (pos (suc n)) h = omega arith
 nonzero-read (negsuc n) h = omega arith
 
--- any operation of two numbers that fit
-module _ (f : ℤ → ℤ → ℤ) (x y : ℤ) (fx : SFits w64 x) (fy : SFits w64 y) (fits : SFits w64 (f x y)) where
-  read₂ : f (toZ w64 (ofZ w64 x)) (toZ w64 (ofZ w64 y)) ≡ f x y
-  read₂ = ap₂ f (read x fx) (read y fy)
+-- any operation of two numbers, as the machine reads them
+pub read-two : (f : ℤ → ℤ → ℤ) (x y : ℤ) → SFits w64 x → SFits w64 y → f (toZ w64 (ofZ w64 x)) (toZ w64 (ofZ w64 y)) ≡ f x y
+read-two f x y fx fy = ap₂ f (read x fx) (read y fy)
 
+-- one whose result fits
+module _ (f : ℤ → ℤ → ℤ) (x y : ℤ) (fx : SFits w64 x) (fy : SFits w64 y) (fits : SFits w64 (f x y)) where
   pub op-fits : SFits w64 (f (toZ w64 (ofZ w64 x)) (toZ w64 (ofZ w64 y)))
-  op-fits = subst (SFits w64) (sym read₂) fits
+  op-fits = subst (SFits w64) (sym (read-two f x y fx fy)) fits
 
   pub op-gives : toZ w64 (ofZ w64 (f (toZ w64 (ofZ w64 x)) (toZ w64 (ofZ w64 y)))) ≡ f x y
-  op-gives = read _ op-fits ∙ read₂
+  op-gives = read _ op-fits ∙ read-two f x y fx fy
 
 -- the bits of a number that is not zero are not zero
 bits-pos : (d : ℤ) → SFits w64 d → 0 < natAbs d → 0 < ofZ w64 d

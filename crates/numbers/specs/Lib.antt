@@ -6,10 +6,12 @@ pub mod ProductLaws
 pub mod Nearest
 pub mod NearestLaws
 pub mod NearestSignedLaws
+pub mod MultipleLaws
 pub mod Truncate
 pub mod TruncateLaws
 pub mod Floor
 pub mod FloorLaws
 pub mod Lowest
+pub mod Total
 pub mod LowestLaws
 pub mod Statements

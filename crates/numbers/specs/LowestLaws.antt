@@ -1,10 +1,11 @@
 -- Laws of lowest terms: both terms over their greatest common divisor are such, and no other fraction is.
 -- Assumes nothing.
-use mathlib.Core.Path.{_≡_, sym, _∙_, ap, subst}
+use mathlib.Core.Path.{_≡_, refl, sym, _∙_, ap, subst}
 use Prim.Native.Nat.{ℕ, zero, suc, _+_, _*_, _/_, _%_, _≤_, _<_, _∣_}
-use native.Mathlib.Nat.{dvd-refl, dvd-zero, dvd-mod-iff, dvd-add-iff-right, dvd-mul-left-of-dvd, dvd-mul-left, dvd-mul-right, dvd-antisymm, dvd-of-mul-dvd-mul-right, mul-dvd-mul-right, pos-of-dvd-of-pos, le-of-dvd, div-add-mod', mod-lt, div-mul-cancel, le-div-iff-mul-le, eq-of-mul-eq-mul-right, eq-one-of-dvd-one, one-mul, mul-one}
+use native.Mathlib.Nat.{dvd-refl, dvd-zero, dvd-mod-iff, dvd-add-iff-right, dvd-mul-left-of-dvd, dvd-mul-left, dvd-mul-right, dvd-antisymm, dvd-of-mul-dvd-mul-right, mul-dvd-mul-right, pos-of-dvd-of-pos, le-of-dvd, div-add-mod', mod-lt, div-mul-cancel, div-le-self, le-div-iff-mul-le, eq-of-mul-eq-mul-right, eq-one-of-dvd-one, one-mul, mul-one}
 use native.Mathlib.Omega.{arith}
 use Rattle.numbers.specs.Lowest.{Gcd, Lowest}
+use Rattle.numbers.specs.Total.{LowestOr}
 
 -- ---- the greatest common divisor, by Euclid's step
 
@@ -95,3 +96,22 @@ module _ {p q n d n′ d′ : ℕ} (hq : 0 < q) (x : Lowest p q n d) (y : Lowest
 
   pub num-one : n ≡ n′
   num-one = eq-of-mul-eq-mul-right d (x .positive) n n′ (ap (λ (k : ℕ). n * k) den-one ∙ cross hq x y)
+
+-- nor is there another one of a fraction over 0
+pub lowestOr-one : (p q : ℕ) {n d n′ d′ : ℕ} → LowestOr p q n d → LowestOr p q n′ d′ → (n ≡ n′) × (d ≡ d′)
+lowestOr-one p zero x y =
+    let u = x .1 refl in
+    let v = y .1 refl in
+    (u .0 ∙ sym (v .0), u .1 ∙ sym (v .1))
+lowestOr-one p (suc q) x y =
+    let h : 0 < suc q = omega arith in
+    (num-one h (x .0 h) (y .0 h), den-one h (x .0 h) (y .0 h))
+
+-- no term in lowest terms is above the one that it comes from
+pub lowest-le : (p q n d : ℕ) → 0 < q → Lowest p q n d → (n ≤ p) × (d ≤ q)
+lowest-le p q n d h x =
+    let found = some-gcd q p q (omega arith) in
+    let y = over-gcd p q (found .0) h (found .1) in (
+      omega (arith, num-one h x y, div-le-self p (found .0)),
+      omega (arith, den-one h x y, div-le-self q (found .0)),
+    )

@@ -1,12 +1,16 @@
 // Signed numbers by sign and magnitude, exact sums and products, nearest, truncated and floored division, and lowest terms.
+// Each function answers for every argument: 0 where the magnitudes do not fit, or the divisor is 0.
 ghost use mathlib.Core.Path.{_≡_};
-ghost use Prim.Native.Nat.{_+_, _*_, _^_, _<_};
+ghost use Prim.Native.Nat.{_+_, _*_};
 ghost use lib.IntN.{natAbs, _+ℤ_, _-ℤ_, _*ℤ_};
 ghost use lib.Signed.{quotZ, remZ};
 ghost use Rattle.numbers.specs.Sign.{isNeg, signed};
 ghost use Rattle.numbers.specs.Nearest.{nearestN};
 ghost use Rattle.numbers.specs.Floor.{floorZ};
-ghost use Rattle.numbers.specs.Lowest.{Gcd, Lowest};
+ghost use Rattle.numbers.specs.Total.{fitted, divided, LowestOr};
+
+mod exact;
+mod fits;
 
 // Whether x is below zero.
 pub fn below_zero(x: i64) -> bool
@@ -28,111 +32,98 @@ pub fn magnitude(x: i64) -> u64
     }
 }
 
-// The number with this sign and magnitude. Asks that the magnitude fits: only crates above call it.
+// The number with this sign and magnitude; 0 where the magnitude is 2 ^ 63 or more.
 pub fn with_sign(minus: bool, m: u64) -> i64
-    requires fits { ⌜ m < 2 ^ 63 ⌝ }
-    ensures answer { λ r. ⌜ r ≡ signed minus m ⌝ }
+    ensures answer { λ r. ⌜ r ≡ fitted m (signed minus m) ⌝ }
 {
-    let p = m as i64;
-    if minus { 0 - p } else { p }
+    if m >= fits::LIMIT {
+        return 0;
+    }
+    exact::with_sign(minus, m)
 }
 
-// The sum. Asks that the magnitudes' sum fits: only crates above call it.
+// The sum; 0 where the magnitudes' sum is 2 ^ 63 or more.
 pub fn sum(x: i64, y: i64) -> i64
-    requires fits { ⌜ natAbs x + natAbs y < 2 ^ 63 ⌝ }
-    ensures answer { λ r. ⌜ r ≡ x +ℤ y ⌝ }
+    ensures answer { λ r. ⌜ r ≡ fitted (natAbs x + natAbs y) (x +ℤ y) ⌝ }
 {
-    x + y
+    if fits::sum(magnitude(x), magnitude(y)) {
+        return exact::sum(x, y);
+    }
+    0
 }
 
-// The difference. Asks that the magnitudes' sum fits: only crates above call it.
+// The difference; 0 where the magnitudes' sum is 2 ^ 63 or more.
 pub fn difference(x: i64, y: i64) -> i64
-    requires fits { ⌜ natAbs x + natAbs y < 2 ^ 63 ⌝ }
-    ensures answer { λ r. ⌜ r ≡ x -ℤ y ⌝ }
+    ensures answer { λ r. ⌜ r ≡ fitted (natAbs x + natAbs y) (x -ℤ y) ⌝ }
 {
-    x - y
+    if fits::sum(magnitude(x), magnitude(y)) {
+        return exact::difference(x, y);
+    }
+    0
 }
 
-// The product. Asks that the magnitudes' product fits: only crates above call it.
+// The product; 0 where the magnitudes' product is 2 ^ 63 or more.
 pub fn product(x: i64, y: i64) -> i64
-    requires fits { ⌜ natAbs x * natAbs y < 2 ^ 63 ⌝ }
-    ensures answer { λ r. ⌜ r ≡ x *ℤ y ⌝ }
+    ensures answer { λ r. ⌜ r ≡ fitted (natAbs x * natAbs y) (x *ℤ y) ⌝ }
 {
-    x * y
+    if fits::product(magnitude(x), magnitude(y)) {
+        return exact::product(x, y);
+    }
+    0
 }
 
-// The nearest whole number of a/n, halves up; nothing is doubled, so any a is taken. Asks that n is not 0: only crates above call it.
+// The nearest whole number of a/n, halves up; 0 where n is 0.
 pub fn nearest(a: u64, n: u64) -> u64
-    requires nonzero { ⌜ 0 < n ⌝ }
     ensures answer { λ r. ⌜ r ≡ nearestN a n ⌝ }
 {
-    let q = a / n;
-    let r = a % n;
-    if n - r <= r { q + 1 } else { q }
-}
-
-// x over d, cut off toward zero. Asks that x is not the least i64 and d not 0: only crates above call it.
-pub fn quotient(x: i64, d: i64) -> i64
-    requires divides { ⌜ (natAbs x < 2 ^ 63) × (0 < natAbs d) ⌝ }
-    ensures answer { λ r. ⌜ r ≡ quotZ x d ⌝ }
-{
-    x / d
-}
-
-// What the truncated quotient leaves, with the dividend's sign. Asks as `quotient` does: only crates above call it.
-pub fn remainder(x: i64, d: i64) -> i64
-    requires divides { ⌜ (natAbs x < 2 ^ 63) × (0 < natAbs d) ⌝ }
-    ensures answer { λ r. ⌜ r ≡ remZ x d ⌝ }
-{
-    x % d
-}
-
-// x over d, rounded down. Asks as `quotient` does: only crates above call it.
-pub fn floor(x: i64, d: i64) -> i64
-    requires divides { ⌜ (natAbs x < 2 ^ 63) × (0 < natAbs d) ⌝ }
-    ensures answer { λ r. ⌜ r ≡ floorZ x d ⌝ }
-{
-    let m = magnitude(x);
-    let n = magnitude(d);
-    let q = m / n;
-    let r = m % n;
-    if below_zero(x) == below_zero(d) {
-        with_sign(false, q)
-    } else if r == 0 {
-        with_sign(true, q)
-    } else {
-        with_sign(true, q + 1)
+    if n == 0 {
+        return 0;
     }
+    exact::nearest(a, n)
+}
+
+// x over d, cut off toward zero; 0 where x is the least i64 or d is 0.
+pub fn quotient(x: i64, d: i64) -> i64
+    ensures answer { λ r. ⌜ r ≡ divided x d (quotZ x d) ⌝ }
+{
+    if fits::division(magnitude(x), magnitude(d)) {
+        return exact::quotient(x, d);
+    }
+    0
+}
+
+// What the truncated quotient leaves, with the dividend's sign; 0 where `quotient` gives 0 without dividing.
+pub fn remainder(x: i64, d: i64) -> i64
+    ensures answer { λ r. ⌜ r ≡ divided x d (remZ x d) ⌝ }
+{
+    if fits::division(magnitude(x), magnitude(d)) {
+        return exact::remainder(x, d);
+    }
+    0
+}
+
+// x over d, rounded down; 0 where `quotient` gives 0 without dividing.
+pub fn floor(x: i64, d: i64) -> i64
+    ensures answer { λ r. ⌜ r ≡ divided x d (floorZ x d) ⌝ }
+{
+    if fits::division(magnitude(x), magnitude(d)) {
+        return exact::floor(x, d);
+    }
+    0
 }
 
 // A fraction, numerator over denominator.
-pub struct Fraction {
+pub struct Ratio {
     pub num: u64,
     pub den: u64,
 }
 
-// The greatest common divisor, by Euclid's loop.
-fn gcd(a: u64, b: u64) -> u64
-    ensures answer { λ r. ⌜ Gcd a b r ⌝ }
+// p/q in lowest terms; 0/1 where q is 0.
+pub fn lowest(p: u64, q: u64) -> Ratio
+    ensures answer { λ r. ⌜ LowestOr p q (r .num) (r .den) ⌝ }
 {
-    let mut x = a;
-    let mut y = b;
-    while y != 0 {
-        let r = x % y;
-        x = y;
-        y = r;
+    if q == 0 {
+        return Ratio { num: 0, den: 1 };
     }
-    x
-}
-
-// p/q in lowest terms. Asks that q is not 0: only crates above call it.
-pub fn lowest(p: u64, q: u64) -> Fraction
-    requires nonzero { ⌜ 0 < q ⌝ }
-    ensures answer { λ r. ⌜ Lowest p q (r .num) (r .den) ⌝ }
-{
-    let g = gcd(p, q);
-    Fraction {
-        num: p / g,
-        den: q / g,
-    }
+    exact::lowest(p, q)
 }

@@ -1,40 +1,48 @@
 -- Laws of the rate numbers that callers cite: the answer for each number, and the labels that a minute drops.
 -- Assumes nothing.
-use Prim.Native.Nat.{ℕ, _≤_, _<_}
+use Prim.Native.Nat.{ℕ, zero, suc, _-_, _≤_, _<_}
 use native.Mathlib.Omega.{arith}
-use mathlib.Core.Path.{_≡_, refl, ap}
-use mathlib.Core.Bool.{Bool, true, false, cond, _||_}
-use lib.Dec.{eqb, ltb}
-use Rattle.answers.specs.declared.Refusal.{Refusal}
+use mathlib.Core.Path.{_≡_, refl, ap, subst}
+use mathlib.Core.Bool.{Bool, true, false, not, cond, _||_, _&&_}
+use borrow.Author.Tests.{leb-false}
+use lib.Dec.{T, eqb, ltb, leb}
+use lib.ListN.{getD, List·getD-eq-default}
 use Rattle.answers.specs.Refusals.{noSuch}
 use Rattle.rates.specs.declared.Framerate.{Framerate}
 use Rattle.rates.specs.declared.Rated.the-variants.{Row, Refused}
-use Rattle.rates.specs.Rates.{isRate, rateRow, rateAt, dropFrames, isDrop}
-use Rattle.rates.specs.Rule.{sound}
+use Rattle.rates.specs.Rates.{rates, isRate, noRow, rateRow, frameTicks, rateAt, dropFrames, isDrop}
+use Rattle.rates.specs.Rule.{sound, in-table, rows-twelve}
 
--- the answer for a number that is a rate, and for one that is none
-pub rate-row : (n : ℕ) → isRate n ≡ true → rateAt n ≡ Row (rateRow n)
-unfolding rateAt
-rate-row n h = ap (λ t. cond t (Row (rateRow n)) (Refused noSuch)) h
+-- ---- the row of a number
 
-pub rate-none : (n : ℕ) → isRate n ≡ false → rateAt n ≡ Refused noSuch
-unfolding rateAt
-rate-none n h = ap (λ t. cond t (Row (rateRow n)) (Refused noSuch)) h
+-- a rate's row is its entry of the table, counted from 1
+pub row-in : (n : ℕ) → isRate n ≡ true → rateRow n ≡ getD rates (n - 1) noRow
+unfolding rateRow
+row-in zero h = absurd (omega (arith, in-table zero h .0))
+row-in (suc m) h = ap (λ (k : ℕ). getD rates k noRow) (omega arith)
 
--- and what an answer says of the number
-pub row-is : (n : ℕ) (r : Framerate) → rateAt n ≡ Row r → (isRate n ≡ true) × (r ≡ rateRow n)
-row-is n r h = go (isRate n) refl
+-- any other number's is zeros
+pub row-out : (n : ℕ) → isRate n ≡ false → rateRow n ≡ noRow
+unfolding rateRow isRate
+row-out zero h = refl
+row-out (suc m) h = by (leb 1 (suc m)) (leb (suc m) 12) refl refl h
   where
-    go : (t : Bool) → isRate n ≡ t → (isRate n ≡ true) × (r ≡ rateRow n)
-    go true e = let k = rate-row n e in (e, cc)
-    go false e = let k = rate-none n e in let z : _≡_ {A = ℕ} 0 1 = cc in absurd (omega arith)
+    by : (s t : Bool) → leb 1 (suc m) ≡ s → leb (suc m) 12 ≡ t → (s && t) ≡ false → getD rates m noRow ≡ noRow
+    by false t low high k = absurd (omega (arith, leb-false 1 (suc m) low))
+    by true true low high k = let z : true ≡ false = k in absurd (subst T z tt)
+    by true false low high k = List·getD-eq-default rates noRow {n = m} (omega (arith, rows-twelve, leb-false (suc m) 12 high))
 
-pub refused-is : (n : ℕ) (e : Refusal) → rateAt n ≡ Refused e → (isRate n ≡ false) × (e ≡ noSuch)
-refused-is n r h = go (isRate n) refl
-  where
-    go : (t : Bool) → isRate n ≡ t → (isRate n ≡ false) × (r ≡ noSuch)
-    go true e = let k = rate-row n e in let z : _≡_ {A = ℕ} 0 1 = cc in absurd (omega arith)
-    go false e = let k = rate-none n e in (e, cc)
+-- ---- the answer for a number that is a rate, and for one that is none
+
+pub rateAt-in : (n : ℕ) → isRate n ≡ true → rateAt n ≡ Row (rateRow n)
+unfolding rateAt
+rateAt-in n h = ap (λ (t : Bool). cond (not t) (Refused noSuch) (Row (rateRow n))) h
+
+pub rateAt-out : (n : ℕ) → isRate n ≡ false → rateAt n ≡ Refused noSuch
+unfolding rateAt
+rateAt-out n h = ap (λ (t : Bool). cond (not t) (Refused noSuch) (Row (rateRow n))) h
+
+-- ---- the labels that a minute drops
 
 -- D is at most 4, at any number
 pub drop-le : (n : ℕ) → dropFrames n ≤ 4
@@ -59,3 +67,11 @@ drop-above n = go (eqb n 5) (eqb n 11)
     go true t = refl
     go false true = refl
     go false false = refl
+
+-- no frame lasts longer than that of 23.98, at any number
+pub frameTicks-le : (n : ℕ) → frameTicks n ≤ 10594584000
+frameTicks-le n = go (isRate n) refl
+  where
+    go : (t : Bool) → isRate n ≡ t → frameTicks n ≤ 10594584000
+    go true e = sound n e .ticks-most
+    go false e = omega (arith, ap (λ (r : Framerate). r .ticks) (row-out n e))

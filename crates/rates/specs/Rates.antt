@@ -1,10 +1,11 @@
--- Rates, one constant table: its rows, the row of a rate number, and the labels that a minute drops.
+-- Rates, one constant table (BEHAVIOUR: Rates): its rows, the row of a rate number, and the labels that a minute drops.
 -- Assumes nothing.
-use Prim.Native.Nat.{ℕ, _-_}
-use mathlib.Core.Bool.{Bool, cond, _&&_, _||_}
+use Prim.Native.Nat.{ℕ}
+use mathlib.Core.Bool.{Bool, cond, not, _&&_, _||_}
 use mathlib.Core.List.{List, [], _∷_}
 use lib.Dec.{leb, eqb}
 use lib.ListN.{getD}
+use Rattle.answers.specs.Order.{Condition, when, unless}
 use Rattle.answers.specs.Refusals.{noSuch}
 use Rattle.rates.specs.declared.Framerate.{Framerate}
 use Rattle.rates.specs.declared.Rated.{Rated}
@@ -35,13 +36,28 @@ rates =
 unfoldable pub isRate : ℕ → Bool
 isRate n = leb 1 n && leb n 12
 
+-- zeros: the row of a number that is no rate
+abbrev pub noRow : Framerate
+noRow = framerate 0 0 0 0
+
 -- the row of a rate number
 unfoldable pub rateRow : ℕ → Framerate
-rateRow n = getD rates (n - 1) (framerate 0 0 0 0)
+rateRow n = getD (noRow ∷ rates) n noRow
+
+-- the ticks of a frame at a rate: the last column
+abbrev pub frameTicks : (rate : ℕ) → ℕ
+frameTicks rate = rateRow rate .ticks
+
+-- a second has 254016000000 ticks
+abbrev pub secondTicks : ℕ
+secondTicks = 254016000000
 
 -- 6: no such rate (1 to 12)
+abbrev pub badRate : (rate : ℕ) → Condition
+badRate rate = when noSuch (not (isRate rate))
+
 unfoldable pub rateAt : ℕ → Rated
-rateAt n = cond (isRate n) (Row (rateRow n)) (Refused noSuch)
+rateAt n = unless Refused (badRate n ∷ []) (Row (rateRow n))
 
 -- D is 2 at rate 5, 4 at rate 11, else 0
 unfoldable pub dropFrames : ℕ → ℕ
@@ -51,11 +67,11 @@ dropFrames n = cond (eqb n 5) 2 (cond (eqb n 11) 4 0)
 unfoldable pub isDrop : ℕ → Bool
 isDrop n = eqb n 5 || eqb n 11
 
--- the document's number of an answer (0: not refused), and its row (a refusal's numbers are 0)
+-- the number of an answer (0: not refused), and its row (a refusal's numbers are 0)
 abbrev pub numberOf : Rated → ℕ
 numberOf (Row r) = 0
 numberOf (Refused e) = e .number
 
 abbrev pub rowOf : Rated → Framerate
 rowOf (Row r) = r
-rowOf (Refused e) = framerate 0 0 0 0
+rowOf (Refused e) = noRow

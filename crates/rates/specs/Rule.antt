@@ -1,6 +1,6 @@
 -- What holds of every row of the table, tested once over the whole table and carried to every rate.
 -- Assumes nothing.
-use Prim.Native.Nat.{ℕ, _-_, _*_, _≤_, _<_}
+use Prim.Native.Nat.{ℕ, zero, suc, _-_, _*_, _≤_, _<_}
 use native.Mathlib.Nat.{mul-le-mul}
 use native.Mathlib.Omega.{arith}
 use mathlib.Core.Path.{_≡_, refl}
@@ -8,14 +8,15 @@ use mathlib.Core.Bool.{Bool, true, and-eq-true-iff}
 use mathlib.Core.List.{List, [], _∷_}
 use borrow.Author.Tests.{leb-true, ltb-true, eqb-true}
 use lib.Dec.{leb, ltb, eqb}
-use lib.ListN.{getD}
+use lib.ListN.{length, getD}
 use Rattle.rates.specs.declared.Framerate.{Framerate}
-use Rattle.rates.specs.Rates.{framerate, rates, isRate, rateRow}
-use Rattle.rates.specs.Every.{every, at-every}
+use Rattle.laws.specs.Every.{every, at-every}
+use Rattle.answers.specs.Refusals.{mostCount}
+use Rattle.rates.specs.Rates.{rates, isRate, noRow, rateRow, frameTicks, secondTicks}
 
 -- the ticks of a frame agree with the frames of a second, which are from 23 to 60; and each column has its bounds
 pub record SoundRow (r : Framerate) : Type 0 where
-  pub consistent : r .ticks * r .numerator ≡ 254016000000 * r .denominator
+  pub consistent : r .ticks * r .numerator ≡ secondTicks * r .denominator
   pub slowest : 23 * r .denominator ≤ r .numerator
   pub fastest : r .numerator ≤ 60 * r .denominator
   pub numerator-pos : 0 < r .numerator
@@ -30,7 +31,7 @@ pub record SoundRow (r : Framerate) : Type 0 where
 -- the same as tests of a row, in the same order
 abbrev tests : Framerate → List Bool
 tests r =
-    eqb (r .ticks * r .numerator) (254016000000 * r .denominator)
+    eqb (r .ticks * r .numerator) (secondTicks * r .denominator)
     ∷ leb (23 * r .denominator) (r .numerator)
     ∷ leb (r .numerator) (60 * r .denominator)
     ∷ ltb 0 (r .numerator)
@@ -71,6 +72,11 @@ row-sound r e =
       ticks-most = leb-true _ _ (test 10 (omega arith));
     }
 
+-- there are twelve
+pub rows-twelve : length rates ≡ 12
+unfolding rates
+rows-twelve = refl
+
 -- a rate's place in the table
 pub in-table : (n : ℕ) → isRate n ≡ true → (0 < n) × (n - 1 < 12)
 unfolding isRate
@@ -82,9 +88,14 @@ in-table n h =
 
 -- the rule holds at every rate
 pub sound : (n : ℕ) → isRate n ≡ true → SoundRow (rateRow n)
-unfolding rateRow rates
-sound n h = row-sound (rateRow n) (at-every isSound rates (framerate 0 0 0 0) all-sound (n - 1) (in-table n h .1))
+unfolding rateRow
+sound zero h = absurd (omega (arith, in-table zero h .0))
+sound (suc m) h = row-sound (rateRow (suc m)) (at-every isSound rates noRow all-sound m (omega (arith, rows-twelve, in-table (suc m) h .1)))
+
+-- a frame lasts
+pub frameTicks-pos : (rate : ℕ) → isRate rate ≡ true → 0 < frameTicks rate
+frameTicks-pos rate h = omega (arith, sound rate h .ticks-least)
 
 -- the ticks of a count within its bounds, at any rate: the sum of two such is below 2 ^ 63
-pub instant-le : (n count : ℕ) → isRate n ≡ true → count ≤ 400000000 → count * rateRow n .ticks ≤ 4237833600000000000
+pub instant-le : (n count : ℕ) → isRate n ≡ true → count ≤ mostCount → count * frameTicks n ≤ 4237833600000000000
 instant-le n count h bound = mul-le-mul bound (sound n h .ticks-most)

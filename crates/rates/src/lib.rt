@@ -1,4 +1,4 @@
-// The twelve rates by number: the document's one constant table. A number that is no rate is refused 6.
+// The twelve rates by number: one constant table. A number that is no rate is refused 6.
 use answers::Refusal;
 ghost use mathlib.Core.Path.{_≡_};
 ghost use mathlib.Core.Bool.{true};
@@ -12,12 +12,8 @@ pub struct Framerate {
     pub ticks: u64,
 }
 
-// A timecode is a count and a rate. What takes one refuses a rate outside 1 to 12 (6), then a count outside -400,000,000
-// to 400,000,000 (5).
-pub struct Timecode {
-    pub count: i64,
-    pub rate: u64,
-}
+// A second has so many ticks.
+pub const SECOND_TICKS: u64 = 254_016_000_000;
 
 // The row of a rate, or why there is none.
 pub enum Rated {
@@ -114,8 +110,23 @@ pub fn is_rate(no: u64) -> bool
     true
 }
 
-// The row of a rate. Asks that the number is a rate: only crates above call it.
+// The row of a rate; of a number that is no rate, zeros.
 pub fn row(no: u64) -> Framerate
+    ensures answer { λ r. ⌜ r ≡ rateRow no ⌝ }
+{
+    if is_rate(no) {
+        return entry(no);
+    }
+    Framerate {
+        numerator: 0,
+        denominator: 0,
+        timebase: 0,
+        ticks: 0,
+    }
+}
+
+// The entry of a rate. Asks that the number is one.
+fn entry(no: u64) -> Framerate
     requires rate { ⌜ isRate no ≡ true ⌝ }
     ensures answer { λ r. ⌜ r ≡ rateRow no ⌝ }
 {

@@ -1,14 +1,7 @@
 pub mod Bounds
 pub mod BoundsLaws
-pub mod LeastLaws
-pub mod MultipleLaws
-pub mod Instant
-pub mod InstantLaws
 pub mod Frames
-pub mod FramesLaws
 pub mod Ticks
-pub mod TicksLaws
 pub mod Seconds
 pub mod SecondsLaws
-pub mod OneLaws
 pub mod Statements

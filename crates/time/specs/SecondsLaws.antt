@@ -1,25 +1,30 @@
--- Laws of seconds: lowest terms with the ticks' sign are such, and an answer tells that rate and count are within their bounds.
+-- Laws of seconds: lowest terms with the ticks' sign are such, an answer of seconds tells of its timecode, and there is one answer.
 -- Assumes nothing.
 use Prim.Native.Nat.{ℕ}
-use mathlib.Core.Path.{_≡_, refl, sym, _∙_, ap, subst}
-use mathlib.Core.Bool.{Bool, true, false}
+use mathlib.Core.Path.{_≡_, refl, sym, _∙_, ap, ap₂, subst}
 use native.Mathlib.Omega.{arith}
 use lib.IntN.{ℤ, pos, negsuc, negℤ, natAbs, _*ℤ_}
 use Rattle.numbers.specs.Sign.{isNeg, signed}
 use Rattle.numbers.specs.SignLaws.{abs-signed, neg-mul}
 use Rattle.numbers.specs.Lowest.{Lowest}
-use Rattle.answers.specs.declared.Refusal.{Refusal}
-use Rattle.answers.specs.Refusals.{noSuch, outOfBounds, isCount}
-use Rattle.rates.specs.declared.Timecode.{Timecode}
-use Rattle.rates.specs.Rates.{isRate}
+use Rattle.numbers.specs.LowestLaws.{den-one}
+use Rattle.numbers.specs.MultipleLaws.{mul-cancel}
+use Rattle.answers.specs.declared.Verdict.{Verdict}
+use Rattle.answers.specs.declared.Verdict.the-variants as verdict
+use Rattle.answers.specs.Order.{judged}
+use Rattle.answers.specs.OrderLaws.{judged-clear}
+use Rattle.rates.specs.Rates.{secondTicks}
+use Rattle.timecodes.specs.declared.Timecode.{Timecode}
+use Rattle.timecodes.specs.Admitted.{admits, Valid}
+use Rattle.timecodes.specs.AdmittedLaws.{admits-valid}
+use Rattle.timecodes.specs.Instant.{instant}
 use Rattle.time.specs.declared.Timed.{Timed}
-use Rattle.time.specs.declared.Timed.the-variants.{Seconds}
-use Rattle.time.specs.Instant.{secondTicks, instant, Bounded}
-use Rattle.time.specs.Seconds.{InSeconds, IsSeconds, OrElse, SecondsOf}
+use Rattle.time.specs.declared.Timed.the-variants.{Seconds, Refused}
+use Rattle.time.specs.Seconds.{InSeconds, IsSeconds, SecondsOf}
 
 -- the magnitudes' lowest terms with the ticks' sign are the seconds
-pub with-sign-seconds : (t : ℤ) (n d : ℕ) → Lowest (natAbs t) secondTicks n d → InSeconds t (signed (isNeg t) n) d
-with-sign-seconds t n d x =
+pub inSeconds-signed : (t : ℤ) (n d : ℕ) → Lowest (natAbs t) secondTicks n d → InSeconds t (signed (isNeg t) n) d
+inSeconds-signed t n d x =
     record {
       exact = by-sign t x;
       lowest = subst (λ (k : ℕ). Lowest (natAbs t) secondTicks k d) (sym (abs-signed (isNeg t) n)) x;
@@ -29,21 +34,43 @@ with-sign-seconds t n d x =
     by-sign (pos a) x = ap pos (x .same)
     by-sign (negsuc a) x = neg-mul (pos n) secondTicks ∙ ap (λ (k : ℕ). negℤ (pos k)) (x .same)
 
--- what an answer of seconds tells: each test passed
-passed : (b : Bool) (e : Refusal) (Rest : Timed → Type 0) (p : ℤ) (q : ℕ) → OrElse b e Rest (Seconds p q) → (b ≡ true) × Rest (Seconds p q)
-passed true e Rest p q h = (refl, h)
-passed false e Rest p q h = let clash : _≡_ {A = ℕ} 0 1 = cc in absurd (omega arith)
+-- ---- what an answer of seconds tells
 
 module _ (tc : Timecode) (p : ℤ) (q : ℕ) (h : SecondsOf tc (Seconds p q)) where
-  rates : (isRate (tc .rate) ≡ true) × OrElse (isCount (tc .count)) outOfBounds (IsSeconds (instant tc)) (Seconds p q)
-  unfolding SecondsOf
-  rates = passed (isRate (tc .rate)) noSuch (OrElse (isCount (tc .count)) outOfBounds (IsSeconds (instant tc))) p q h
+  pub seconds-passed : judged (admits tc) ≡ verdict.Passed
+  seconds-passed = by (judged (admits tc)) refl
+    where
+      by : (v : Verdict) → judged (admits tc) ≡ v → judged (admits tc) ≡ verdict.Passed
+      by verdict.Passed e = e
+      by (verdict.Refused r) e =
+          let told = h .refused r e in
+          let clash : _≡_ {A = ℕ} 0 1 = cc in
+          absurd (omega arith)
 
-  counts : (isCount (tc .count) ≡ true) × InSeconds (instant tc) p q
-  counts = passed (isCount (tc .count)) outOfBounds (IsSeconds (instant tc)) p q (rates .1)
+  pub seconds-valid : Valid tc
+  seconds-valid = admits-valid tc (judged-clear (admits tc) seconds-passed)
 
-  pub seconds-bounded : Bounded tc
-  seconds-bounded = record { rate = rates .0; count = counts .0 }
+  pub seconds-told : InSeconds (instant tc) p q
+  seconds-told = h .seconds seconds-passed
 
-  pub seconds-are : InSeconds (instant tc) p q
-  seconds-are = counts .1
+-- ---- one answer
+
+module _ {t p p′ : ℤ} {q q′ : ℕ} (x : InSeconds t p q) (y : InSeconds t p′ q′) where
+  q-one : q ≡ q′
+  q-one = den-one {p = natAbs t} {q = secondTicks} (omega arith) (x .lowest) (y .lowest)
+
+  p-one : p ≡ p′
+  p-one =
+      mul-cancel p p′ secondTicks (omega arith) (x .exact ∙ ap (λ (k : ℕ). t *ℤ pos k) q-one ∙ sym (y .exact))
+
+isSeconds-one : (t : ℤ) (x y : Timed) → IsSeconds t x → IsSeconds t y → x ≡ y
+isSeconds-one t (Seconds p q) (Seconds p′ q′) h k = ap₂ Seconds (p-one h k) (q-one h k)
+isSeconds-one t (Seconds p q) (Refused e) h k = absurd k
+isSeconds-one t (Refused e) y h k = absurd h
+
+pub seconds-one : (tc : Timecode) (x y : Timed) → SecondsOf tc x → SecondsOf tc y → x ≡ y
+seconds-one tc x y h k = by (judged (admits tc)) refl
+  where
+    by : (v : Verdict) → judged (admits tc) ≡ v → x ≡ y
+    by verdict.Passed e = isSeconds-one (instant tc) x y (h .seconds e) (k .seconds e)
+    by (verdict.Refused r) e = h .refused r e ∙ sym (k .refused r e)

@@ -1,13 +1,15 @@
-// Frames from counts, ticks and seconds, at the nearest frame; ticks and seconds of a timecode, exactly. Refuses 6, then 5.
-use answers::Counted;
+// Timecodes from counts, ticks and seconds, at the nearest frame; ticks and seconds of a timecode, exactly. Refuses 6, then 5.
 use answers::Refusal;
-use rates::Timecode;
+use answers::Verdict;
+use timecodes::Answer;
+use timecodes::Timecode;
 ghost use mathlib.Core.Path.{_≡_};
+ghost use Prim.Native.Nat.{_^_, _<_};
+ghost use lib.IntN.{natAbs};
 ghost use Rattle.time.specs.Bounds.{isFraction};
-ghost use Rattle.time.specs.Instant.{Bounded, instant};
 ghost use Rattle.time.specs.Frames.{framesAt, ticksAt, secondsAt};
 ghost use Rattle.time.specs.Ticks.{ticksOf};
-ghost use Rattle.time.specs.Seconds.{SecondsOf};
+ghost use Rattle.time.specs.Seconds.{IsSeconds, SecondsOf};
 
 // The ticks of a timecode, or why there are none.
 pub enum Ticked {
@@ -21,6 +23,12 @@ pub enum Timed {
     Refused(Refusal),
 }
 
+// Seconds p/q: |p| is at most this.
+const MOST_SECONDS: u64 = 1_000_000_000_000;
+
+// In every fraction p/q, q is at most this.
+const MOST_DENOMINATOR: u64 = 1_000_000;
+
 // Whether p/q is within the bounds of a fraction: |p| at most `most`, q from 1 to 1,000,000.
 pub fn is_fraction(most: u64, p: i64, q: u64) -> bool
     ensures answer { λ r. ⌜ r ≡ isFraction most p q ⌝ }
@@ -31,87 +39,76 @@ pub fn is_fraction(most: u64, p: i64, q: u64) -> bool
     if q < 1 {
         return false;
     }
-    if q > 1_000_000 {
+    if q > MOST_DENOMINATOR {
         return false;
     }
     true
 }
 
-// The instant of a timecode in ticks. Asks that rate and count are within their bounds: only crates above call it.
-pub fn instant_of(tc: Timecode) -> i64
-    requires bounded { ⌜ Bounded tc ⌝ }
-    ensures answer { λ r. ⌜ r ≡ instant tc ⌝ }
-{
-    let count = tc.count;
-    let row = rates::row(tc.rate);
-    numbers::product(count, numbers::with_sign(false, row.ticks))
-}
-
 // A count at a rate (vtc's `with_frames`). Refuses 6: no such rate; 5: the count is out of bounds.
-pub fn with_frames(count: i64, rate: u64) -> Counted
+pub fn with_frames(count: i64, rate: u64) -> Answer
     ensures answer { λ r. ⌜ r ≡ framesAt count rate ⌝ }
 {
-    if !rates::is_rate(rate) {
-        return Counted::Refused(answers::NO_SUCH);
+    let tc = Timecode { count, rate };
+    match timecodes::admit(tc) {
+        Verdict::Passed => Answer::At(tc),
+        Verdict::Refused(e) => Answer::Refused(e),
     }
-    if !answers::is_count(count) {
-        return Counted::Refused(answers::OUT_OF_BOUNDS);
-    }
-    Counted::Count(count)
 }
 
 // The frame nearest to a number of ticks (vtc's `with_premiere_ticks`). Refuses 6: no such rate; 5: the resulting count is out of bounds.
-pub fn with_premiere_ticks(ticks: i64, rate: u64) -> Counted
+pub fn with_premiere_ticks(ticks: i64, rate: u64) -> Answer
     ensures answer { λ r. ⌜ r ≡ ticksAt ticks rate ⌝ }
 {
     if !rates::is_rate(rate) {
-        return Counted::Refused(answers::NO_SUCH);
+        return Answer::Refused(answers::NO_SUCH);
     }
     let row = rates::row(rate);
-    answers::nearest_count(ticks, row.ticks)
+    timecodes::placed(answers::nearest_count(ticks, row.ticks), rate)
 }
 
 // The frame nearest to p/q seconds (vtc's `with_seconds`). Refuses 6: no such rate; 5: p or q, or then the resulting count, is out of
 // bounds.
-pub fn with_seconds(p: i64, q: u64, rate: u64) -> Counted
+pub fn with_seconds(p: i64, q: u64, rate: u64) -> Answer
     ensures answer { λ r. ⌜ r ≡ secondsAt p q rate ⌝ }
 {
     if !rates::is_rate(rate) {
-        return Counted::Refused(answers::NO_SUCH);
+        return Answer::Refused(answers::NO_SUCH);
     }
-    if !is_fraction(1_000_000_000_000, p, q) {
-        return Counted::Refused(answers::OUT_OF_BOUNDS);
+    if !is_fraction(MOST_SECONDS, p, q) {
+        return Answer::Refused(answers::OUT_OF_BOUNDS);
     }
     let row = rates::row(rate);
     let frames = numbers::product(p, numbers::with_sign(false, row.numerator));
-    answers::nearest_count(frames, q * row.denominator)
+    timecodes::placed(answers::nearest_count(frames, q * row.denominator), rate)
 }
 
 // The ticks of a timecode, exactly (vtc's `premiere_ticks`). Refuses 6: no such rate; 5: the count is out of bounds.
 pub fn premiere_ticks(tc: Timecode) -> Ticked
     ensures answer { λ r. ⌜ r ≡ ticksOf tc ⌝ }
 {
-    if !rates::is_rate(tc.rate) {
-        return Ticked::Refused(answers::NO_SUCH);
+    match timecodes::admit(tc) {
+        Verdict::Passed => Ticked::Ticks(timecodes::instant_of(tc)),
+        Verdict::Refused(e) => Ticked::Refused(e),
     }
-    if !answers::is_count(tc.count) {
-        return Ticked::Refused(answers::OUT_OF_BOUNDS);
-    }
-    Ticked::Ticks(instant_of(tc))
 }
 
 // The seconds of a timecode, exactly, in lowest terms (vtc's `seconds`). Refuses 6: no such rate; 5: the count is out of bounds.
 pub fn seconds(tc: Timecode) -> Timed
     ensures answer { λ r. ⌜ SecondsOf tc r ⌝ }
 {
-    if !rates::is_rate(tc.rate) {
-        return Timed::Refused(answers::NO_SUCH);
+    match timecodes::admit(tc) {
+        Verdict::Passed => in_seconds(timecodes::instant_of(tc)),
+        Verdict::Refused(e) => Timed::Refused(e),
     }
-    if !answers::is_count(tc.count) {
-        return Timed::Refused(answers::OUT_OF_BOUNDS);
-    }
-    let ticks = instant_of(tc);
-    let f = numbers::lowest(numbers::magnitude(ticks), 254_016_000_000);
+}
+
+// A number of ticks in seconds, in lowest terms. Asks that it is no more than an instant.
+fn in_seconds(ticks: i64) -> Timed
+    requires instant { ⌜ natAbs ticks < 2 ^ 63 ⌝ }
+    ensures answer { λ r. ⌜ IsSeconds ticks r ⌝ }
+{
+    let f = numbers::lowest(numbers::magnitude(ticks), rates::SECOND_TICKS);
     Timed::Seconds {
         p: numbers::with_sign(numbers::below_zero(ticks), f.num),
         q: f.den,

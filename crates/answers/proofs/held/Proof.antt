@@ -8,7 +8,9 @@ use lib.IntN.{natAbs}
 use mir.Facts.{toZ-ofZ}
 use Rattle.numbers.specs.Sign.{signed}
 use Rattle.numbers.specs.SignLaws.{abs-signed}
+use Rattle.numbers.specs.Total.{fitted-in}
 use Rattle.answers.specs.declared.Counted.the-variants.{Count}
+use Rattle.answers.specs.Refusals.{mostCount}
 use Rattle.answers.specs.Laws.{held-in, held-out}
 use Rattle.answers.proofs.held.Statement.{statement}
 use Rattle.answers.proofs.held.Tie as tie
@@ -17,7 +19,7 @@ returns : tie.Need-returns
 returns c =
     let minus = c .before .args .minus in
     let m = c .before .args .m in
-    sym (held-out (signed minus m) (lt-leb (natAbs (signed minus m)) 400000000 (omega (arith, abs-signed minus m))))
+    sym (held-out (signed minus m) (lt-leb (natAbs (signed minus m)) mostCount (omega (arith, abs-signed minus m))))
 
 with-sign-requires : tie.Need-with-sign-requires
 with-sign-requires c κs = search needs
@@ -26,8 +28,8 @@ returns-2 : tie.Need-returns-2
 returns-2 c =
     let minus = c .before .before .args .minus in
     let m = c .before .before .args .m in
-    ap Count (toZ-ofZ (record { sfits = c .with-sign .ok }) ∙ c .with-sign .ensures)
-    ∙ sym (held-in (signed minus m) (le-leb (natAbs (signed minus m)) 400000000 (omega (arith, abs-signed minus m))))
+    ap Count (toZ-ofZ (record { sfits = c .with-sign .ok }) ∙ c .with-sign .ensures ∙ fitted-in m (signed minus m) (omega arith))
+    ∙ sym (held-in (signed minus m) (le-leb (natAbs (signed minus m)) mostCount (omega (arith, abs-signed minus m))))
 
 pub held-spec : {M : Type 1} → statement M
 held-spec = tie.close (tie.spec returns with-sign-requires returns-2)

@@ -5,6 +5,7 @@ use Prim.Native.Nat.{ℕ}
 use borrow.Author.Needs.{needs}
 use lib.Dec.{leb}
 use mir.Facts.{toZ-ofZ}
+use Rattle.answers.specs.Refusals.{mostCount}
 use Rattle.answers.proofs.is_count.Statement.{statement}
 use Rattle.answers.proofs.is_count.Tie as tie
 
@@ -12,7 +13,7 @@ magnitude-requires : tie.Need-magnitude-requires
 magnitude-requires c κs = search needs
 
 returns : tie.Need-returns
-returns c = ap (λ (m : ℕ). leb m 400000000) (rw (toZ-ofZ (c .before .fits .x)) at (c .magnitude .ensures))
+returns c = ap (λ (m : ℕ). leb m mostCount) (rw (toZ-ofZ (c .before .fits .x)) at (c .magnitude .ensures))
 
 pub is-count-spec : {M : Type 1} → statement M
 is-count-spec = tie.close (tie.spec magnitude-requires returns)

@@ -1,36 +1,35 @@
--- `numbers::floor` meets its contract: with one sign the magnitudes' quotient is cut off, with two it is rounded up and negated.
+-- `numbers::floor` meets its contract: it divides where it can, else 0.
 -- Assumes nothing.
-use mathlib.Core.Path.{_≡_, sym, _∙_, ap, ap₂}
-use mathlib.Core.Bool.{Bool·beq}
-use Prim.Native.Nat.{ℕ, _+_, _/_, _%_, _<_}
-use native.Mathlib.Nat.{div-le-self}
-use native.Mathlib.Omega.{arith}
+use mathlib.Core.Path.{_≡_, sym, _∙_, ap₂}
+use mathlib.Core.Bool.{Bool, _&&_, and-eq-true-iff}
+use Prim.Native.Nat.{ℕ, _^_}
 use borrow.Author.Needs.{needs}
-use lib.IntN.{pos, negℤ, natAbs}
+use borrow.Author.Tests.{ltb-true}
+use lib.Dec.{ltb}
+use lib.IntN.{ℤ, natAbs}
+use mir.Syntax.{w64}
+use mir.Val.{toZ, ofZ}
 use mir.Facts.{toZ-ofZ}
-use Rattle.numbers.specs.Sign.{isNeg}
-use Rattle.numbers.specs.FloorLaws.{floor-alike, floor-whole, floor-part, quotient-below}
+use Rattle.numbers.specs.Floor.{floorZ}
+use Rattle.numbers.specs.Total.{divided, divided-in, divided-out}
+use Rattle.numbers.proofs.Machine.{read-two}
 use Rattle.numbers.proofs.floor.Statement.{statement}
 use Rattle.numbers.proofs.floor.Tie as tie
 
--- what the calls told
-m-is : (c : tie.After-magnitude2) → c .before .magnitude .result ≡ natAbs (c .before .before .args .x)
-m-is c = rw (toZ-ofZ (c .before .before .fits .x)) at (c .before .magnitude .ensures)
+-- the answer, and whether it fits
+abbrev answer : ℤ → ℤ → ℤ
+answer x d = divided x d (floorZ x d)
 
-n-is : (c : tie.After-magnitude2) → c .magnitude2 .result ≡ natAbs (c .before .before .args .d)
-n-is c = rw (toZ-ofZ (c .before .before .fits .d)) at (c .magnitude2 .ensures)
+abbrev within : ℕ → ℕ → Bool
+within m n = ltb m (2 ^ 63) && ltb 0 n
 
-alike : (c : tie.After-below-zero2)
-    → Bool·beq (isNeg (c .before .before .before .before .args .x)) (isNeg (c .before .before .before .before .args .d))
-    ≡ Bool·beq (c .before .below-zero .result) (c .below-zero2 .result)
-alike c =
-    let s = c .before .before .before .before in
-    sym
-    (ap₂ Bool·beq (c .before .below-zero .ensures ∙ ap isNeg (toZ-ofZ (s .fits .x))) (c .below-zero2 .ensures ∙ ap isNeg (toZ-ofZ (s .fits .d))))
-
--- the quotient is below the bound that the magnitude is
-q-below : (c : tie.After-magnitude2) → c .before .magnitude .result / c .magnitude2 .result < 9223372036854775808
-q-below c = omega (arith, m-is c, div-le-self (c .before .magnitude .result) (c .magnitude2 .result))
+-- what the test told of the numbers as they are read
+test-is : (c : tie.After-division)
+    → c .division .result
+    ≡ within
+    (natAbs (toZ w64 (ofZ w64 (c .before .before .before .args .x))))
+    (natAbs (toZ w64 (ofZ w64 (c .before .before .before .args .d))))
+test-is c = c .division .ensures ∙ ap₂ within (c .before .before .magnitude .ensures) (c .before .magnitude2 .ensures)
 
 magnitude-requires : tie.Need-magnitude-requires
 magnitude-requires c κs = search needs
@@ -38,80 +37,25 @@ magnitude-requires c κs = search needs
 magnitude-requires-2 : tie.Need-magnitude-requires-2
 magnitude-requires-2 c κs = search needs
 
-div-q : tie.Need-div-q
-div-q c = omega (arith, n-is c)
+division-requires : tie.Need-division-requires
+division-requires c κs = search needs
 
-rem-r : tie.Need-rem-r
-rem-r c = omega (arith, n-is c)
-
-below-zero-requires : tie.Need-below-zero-requires
-below-zero-requires c κs = search needs
-
-below-zero-requires-2 : tie.Need-below-zero-requires-2
-below-zero-requires-2 c κs = search needs
-
-with-sign-requires : tie.Need-with-sign-requires
-with-sign-requires c κs = q-below (c .before .before .before)
-
-with-sign-requires-2 : tie.Need-with-sign-requires-2
-with-sign-requires-2 c κs = q-below (c .before .before .before .before)
-
-add-with-sign : tie.Need-add-with-sign
-add-with-sign c = omega (arith, q-below (c .before .before .before .before))
-
-with-sign-requires-3 : tie.Need-with-sign-requires-3
-with-sign-requires-3 c κs =
-    let s = c .before .before .before .before in
-    omega (arith, m-is s, s .before .before .pre, quotient-below (s .before .magnitude .result) (s .magnitude2 .result) (div-q s) (c .if2 .left))
+floor-requires : tie.Need-floor-requires
+floor-requires c κs = let t = and-eq-true-iff _ _ .0 (sym (test-is (c .before)) ∙ c .if1 .taken) in (ltb-true _ _ (t .0), ltb-true _ _ (t .1))
 
 returns : tie.Need-returns
 returns c =
-    let t = c .before .before in
-    let s = t .before .before in
-    toZ-ofZ (record { sfits = c .with-sign .ok })
-    ∙ c .with-sign .ensures
-    ∙ ap₂ (λ (m n : ℕ). pos (m / n)) (m-is s) (n-is s)
-    ∙ floor-alike (s .before .before .args .x) (s .before .before .args .d) (alike t ∙ c .before .if1 .taken)
-
--- what is left, of the magnitudes
-r-is : (c : tie.After-magnitude2)
-    → natAbs (c .before .before .args .x) % natAbs (c .before .before .args .d) ≡ c .before .magnitude .result % c .magnitude2 .result
-r-is c = sym (ap₂ _%_ (m-is c) (n-is c))
+    let s = c .before .before .before .before .before in
+    toZ-ofZ (record { sfits = c .floor .ok })
+    ∙ c .floor .ensures
+    ∙ sym (let h = floor-requires (c .before) tt in divided-in _ _ _ (h .0) (h .1))
+    ∙ read-two answer (s .args .x) (s .args .d) (s .fits .x) (s .fits .d)
 
 returns-2 : tie.Need-returns-2
 returns-2 c =
-    let t = c .before .before .before in
-    let s = t .before .before in
-    toZ-ofZ (record { sfits = c .with-sign2 .ok })
-    ∙ c .with-sign2 .ensures
-    ∙ ap₂ (λ (m n : ℕ). negℤ (pos (m / n))) (m-is s) (n-is s)
-    ∙ floor-whole (s .before .before .args .x) (s .before .before .args .d) (alike t ∙ c .before .before .if1 .left) (s .before .before .pre .1)
-    (r-is s ∙ c .before .if2 .taken)
-
-returns-3 : tie.Need-returns-3
-returns-3 c =
-    let t = c .before .before .before in
-    let s = t .before .before in
-    toZ-ofZ (record { sfits = c .with-sign3 .ok })
-    ∙ c .with-sign3 .ensures
-    ∙ ap₂ (λ (m n : ℕ). negℤ (pos (m / n + 1))) (m-is s) (n-is s)
-    ∙ floor-part (s .before .before .args .x) (s .before .before .args .d) (alike t ∙ c .before .before .if1 .left) (s .before .before .pre .1)
-    (λ e. c .before .if2 .left (sym (r-is s) ∙ e))
+    let s = c .before .before .before .before in
+    sym (divided-out _ _ _ (sym (test-is (c .before)) ∙ c .if1 .left))
+    ∙ read-two answer (s .args .x) (s .args .d) (s .fits .x) (s .fits .d)
 
 pub floor-spec : {M : Type 1} → statement M
-floor-spec =
-    tie.close
-    (tie.spec
-    magnitude-requires
-    magnitude-requires-2
-    div-q
-    rem-r
-    below-zero-requires
-    below-zero-requires-2
-    with-sign-requires
-    with-sign-requires-2
-    add-with-sign
-    with-sign-requires-3
-    returns
-    returns-2
-    returns-3)
+floor-spec = tie.close (tie.spec magnitude-requires magnitude-requires-2 division-requires floor-requires returns returns-2)

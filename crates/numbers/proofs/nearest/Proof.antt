@@ -1,44 +1,24 @@
--- `numbers::nearest` meets its contract: the remainder says on which side of the half the number lies.
+-- `numbers::nearest` meets its contract: a step of 0 gives 0, as division by 0 does in the definition.
 -- Assumes nothing.
-use mathlib.Core.Path.{sym}
-use Prim.Native.Nat.{_+_, _/_}
-use native.Mathlib.Nat.{div-add-mod', mod-lt, le-mul-of-pos-right}
-use native.Mathlib.Omega.{arith}
+use mathlib.Core.Path.{sym, _∙_, ap}
+use Prim.Native.Nat.{_+_, _*_}
+use native.Mathlib.Nat.{div-zero}
 use borrow.Author.Needs.{needs}
-use Rattle.numbers.specs.NearestLaws.{near-is}
+use Rattle.numbers.specs.Nearest.{nearestN}
 use Rattle.numbers.proofs.nearest.Statement.{statement}
 use Rattle.numbers.proofs.nearest.Tie as tie
 
-div-q : tie.Need-div-q
-div-q c = search needs
-
-rem-r : tie.Need-rem-r
-rem-r c = search needs
-
-sub-if1 : tie.Need-sub-if1
-sub-if1 c = omega (arith, mod-lt (c .args .a) (c .pre))
-
-add-result : tie.Need-add-result
-add-result c =
-    let a = c .before .args .a in
-    let n = c .before .args .n in
-    omega (arith, div-add-mod' a n, le-mul-of-pos-right (a / n) (c .before .pre), mod-lt a (c .before .pre))
-
 returns : tie.Need-returns
+unfolding nearestN
 returns c =
     let a = c .before .args .a in
-    let n = c .before .args .n in
-    let s = div-add-mod' a n in
-    let m = mod-lt a (c .before .pre) in
-    sym (near-is a n (a / n + 1) (c .before .pre) (omega arith) (omega arith))
+    sym (ap (nearestN a) (c .if1 .taken) ∙ div-zero (2 * a + 0))
+
+nearest-requires : tie.Need-nearest-requires
+nearest-requires c κs = search needs
 
 returns-2 : tie.Need-returns-2
-returns-2 c =
-    let a = c .before .args .a in
-    let n = c .before .args .n in
-    let s = div-add-mod' a n in
-    let m = mod-lt a (c .before .pre) in
-    sym (near-is a n (a / n) (c .before .pre) (omega arith) (omega arith))
+returns-2 c = search needs
 
 pub nearest-spec : {M : Type 1} → statement M
-nearest-spec = tie.close (tie.spec div-q rem-r sub-if1 add-result returns returns-2)
+nearest-spec = tie.close (tie.spec returns nearest-requires returns-2)

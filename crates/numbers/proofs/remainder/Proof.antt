@@ -1,16 +1,61 @@
--- `numbers::remainder` meets its contract: the machine's remainder has the dividend's sign, and is no larger than the dividend.
+-- `numbers::remainder` meets its contract: it divides where it can, else 0.
 -- Assumes nothing.
+use mathlib.Core.Path.{_≡_, sym, _∙_, ap₂}
+use mathlib.Core.Bool.{Bool, _&&_, and-eq-true-iff}
+use Prim.Native.Nat.{ℕ, _^_}
+use borrow.Author.Needs.{needs}
+use borrow.Author.Tests.{ltb-true}
+use lib.Dec.{ltb}
+use lib.IntN.{ℤ, natAbs}
 use lib.Signed.{remZ}
-use Rattle.numbers.proofs.Machine.{divides, rem-fits, op-gives}
+use mir.Syntax.{w64}
+use mir.Val.{toZ, ofZ}
+use mir.Facts.{toZ-ofZ}
+use Rattle.numbers.specs.Total.{divided, divided-in, divided-out}
+use Rattle.numbers.proofs.Machine.{read-two}
 use Rattle.numbers.proofs.remainder.Statement.{statement}
 use Rattle.numbers.proofs.remainder.Tie as tie
 
-rem-result : tie.Need-rem-result
-rem-result c = divides (c .args .x) (c .args .d) (c .fits .x) (c .fits .d) (c .pre .0) (c .pre .1)
+-- the answer, and whether it fits
+abbrev answer : ℤ → ℤ → ℤ
+answer x d = divided x d (remZ x d)
+
+abbrev within : ℕ → ℕ → Bool
+within m n = ltb m (2 ^ 63) && ltb 0 n
+
+-- what the test told of the numbers as they are read
+test-is : (c : tie.After-division)
+    → c .division .result
+    ≡ within
+    (natAbs (toZ w64 (ofZ w64 (c .before .before .before .args .x))))
+    (natAbs (toZ w64 (ofZ w64 (c .before .before .before .args .d))))
+test-is c = c .division .ensures ∙ ap₂ within (c .before .before .magnitude .ensures) (c .before .magnitude2 .ensures)
+
+magnitude-requires : tie.Need-magnitude-requires
+magnitude-requires c κs = search needs
+
+magnitude-requires-2 : tie.Need-magnitude-requires-2
+magnitude-requires-2 c κs = search needs
+
+division-requires : tie.Need-division-requires
+division-requires c κs = search needs
+
+remainder-requires : tie.Need-remainder-requires
+remainder-requires c κs = let t = and-eq-true-iff _ _ .0 (sym (test-is (c .before)) ∙ c .if1 .taken) in (ltb-true _ _ (t .0), ltb-true _ _ (t .1))
 
 returns : tie.Need-returns
 returns c =
-    op-gives remZ (c .args .x) (c .args .d) (c .fits .x) (c .fits .d) (rem-fits (c .args .x) (c .args .d) (c .pre .0))
+    let s = c .before .before .before .before .before in
+    toZ-ofZ (record { sfits = c .remainder .ok })
+    ∙ c .remainder .ensures
+    ∙ sym (let h = remainder-requires (c .before) tt in divided-in _ _ _ (h .0) (h .1))
+    ∙ read-two answer (s .args .x) (s .args .d) (s .fits .x) (s .fits .d)
+
+returns-2 : tie.Need-returns-2
+returns-2 c =
+    let s = c .before .before .before .before in
+    sym (divided-out _ _ _ (sym (test-is (c .before)) ∙ c .if1 .left))
+    ∙ read-two answer (s .args .x) (s .args .d) (s .fits .x) (s .fits .d)
 
 pub remainder-spec : {M : Type 1} → statement M
-remainder-spec = tie.close (tie.spec rem-result returns)
+remainder-spec = tie.close (tie.spec magnitude-requires magnitude-requires-2 division-requires remainder-requires returns returns-2)

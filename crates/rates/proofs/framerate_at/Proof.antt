@@ -3,7 +3,7 @@
 use mathlib.Core.Path.{sym, ap, _∙_}
 use borrow.Author.Needs.{needs}
 use Rattle.rates.specs.declared.Rated.the-variants.{Row}
-use Rattle.rates.specs.Laws.{rate-row, rate-none}
+use Rattle.rates.specs.Laws.{rateAt-in, rateAt-out}
 use Rattle.rates.proofs.framerate_at.Statement.{statement}
 use Rattle.rates.proofs.framerate_at.Tie as tie
 
@@ -11,14 +11,14 @@ is-rate-requires : tie.Need-is-rate-requires
 is-rate-requires c κs = search needs
 
 row-requires : tie.Need-row-requires
-row-requires c κs = sym (c .before .is-rate .ensures) ∙ c .if1 .taken
+row-requires c κs = search needs
 
 returns : tie.Need-returns
 returns c =
-    ap Row (c .row .ensures) ∙ sym (rate-row _ (sym (c .before .before .is-rate .ensures) ∙ c .before .if1 .taken))
+    ap Row (c .row .ensures) ∙ sym (rateAt-in _ (sym (c .before .before .is-rate .ensures) ∙ c .before .if1 .taken))
 
 returns-2 : tie.Need-returns-2
-returns-2 c = sym (rate-none _ (sym (c .before .is-rate .ensures) ∙ c .if1 .left))
+returns-2 c = sym (rateAt-out _ (sym (c .before .is-rate .ensures) ∙ c .if1 .left))
 
 pub framerate-at-spec : {M : Type 1} → statement M
 framerate-at-spec = tie.close (tie.spec is-rate-requires row-requires returns returns-2)

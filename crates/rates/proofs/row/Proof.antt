@@ -1,24 +1,22 @@
--- `rates::row` meets its contract: a rate's number less 1 is a place in the table, whose rows are the document's.
+-- `rates::row` meets its contract: a rate has its entry, and any other number zeros.
 -- Assumes nothing.
-use native.Mathlib.Omega.{arith}
-use mathlib.Core.Path.{refl}
-use Rattle.rates.specs.Rates.{rates, rateRow}
-use Rattle.rates.specs.Rule.{in-table}
+use mathlib.Core.Path.{sym, _∙_}
+use borrow.Author.Needs.{needs}
+use Rattle.rates.specs.Laws.{row-out}
 use Rattle.rates.proofs.row.Statement.{statement}
 use Rattle.rates.proofs.row.Tie as tie
 
-sub-result : tie.Need-sub-result
-sub-result c = in-table (c .args .no) (c .pre) .0
+is-rate-requires : tie.Need-is-rate-requires
+is-rate-requires c κs = search needs
 
-mul-result : tie.Need-mul-result
-mul-result c = record { fits = omega (arith, in-table (c .args .no) (c .pre)) }
-
-array-copy-out-result : tie.Need-array-copy-out-result
-array-copy-out-result c = in-table (c .args .no) (c .pre) .1
+entry-requires : tie.Need-entry-requires
+entry-requires c κs = sym (c .before .is-rate .ensures) ∙ c .if1 .taken
 
 returns : tie.Need-returns
-unfolding rates rateRow
-returns c = refl
+returns c = c .entry .ensures
+
+returns-2 : tie.Need-returns-2
+returns-2 c = sym (row-out _ (sym (c .before .is-rate .ensures) ∙ c .if1 .left))
 
 pub row-spec : {M : Type 1} → statement M
-row-spec = tie.close (tie.spec sub-result mul-result array-copy-out-result returns)
+row-spec = tie.close (tie.spec is-rate-requires entry-requires returns returns-2)

@@ -1,0 +1,1 @@
+// Laws of lists that no one crate owns. No code: they stand in specs/Every.antt.

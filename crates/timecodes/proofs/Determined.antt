@@ -1,0 +1,39 @@
+-- Each public function's contract allows one outcome: two that meet its equation are equal.
+-- Assumes nothing.
+use mathlib.Core.Path.{sym, ap, _∙_}
+use Rattle.outcomes.specs.Outcome.{Determined}
+use Rattle.timecodes.proofs.admit as admit
+use Rattle.timecodes.proofs.admit.Reads as admit-reads
+use Rattle.timecodes.proofs.admit_both as admit-both
+use Rattle.timecodes.proofs.admit_both.Reads as admit-both-reads
+use Rattle.timecodes.proofs.placed as placed
+use Rattle.timecodes.proofs.placed.Reads as placed-reads
+use Rattle.timecodes.proofs.moved as moved
+use Rattle.timecodes.proofs.moved.Reads as moved-reads
+use Rattle.timecodes.proofs.instant_of as instant-of
+use Rattle.timecodes.proofs.instant_of.Reads as instant-of-reads
+use Rattle.timecodes.proofs.number as number
+use Rattle.timecodes.proofs.number.Reads as number-reads
+use Rattle.timecodes.proofs.timecode_of as timecode-of
+use Rattle.timecodes.proofs.timecode_of.Reads as timecode-of-reads
+
+pub admit-determined : Determined admit.ended admit-reads.Asked admit-reads.Learnt
+admit-determined κs a asked x y p q = ap (λ z. (z, x .1)) (p ∙ sym q)
+
+pub admit-both-determined : Determined admit-both.ended admit-both-reads.Asked admit-both-reads.Learnt
+admit-both-determined κs a asked x y p q = ap (λ z. (z, x .1)) (p ∙ sym q)
+
+pub placed-determined : Determined placed.ended placed-reads.Asked placed-reads.Learnt
+placed-determined κs a asked x y p q = ap (λ z. (z, x .1)) (p ∙ sym q)
+
+pub moved-determined : Determined moved.ended moved-reads.Asked moved-reads.Learnt
+moved-determined κs a asked x y p q = ap (λ z. (z, x .1)) (p ∙ sym q)
+
+pub instant-of-determined : Determined instant-of.ended instant-of-reads.Asked instant-of-reads.Learnt
+instant-of-determined κs a asked x y p q = ap (λ z. (z, x .1)) (p ∙ sym q)
+
+pub number-determined : Determined number.ended number-reads.Asked number-reads.Learnt
+number-determined κs a asked x y p q = ap (λ z. (z, x .1)) (p ∙ sym q)
+
+pub timecode-of-determined : Determined timecode-of.ended timecode-of-reads.Asked timecode-of-reads.Learnt
+timecode-of-determined κs a asked x y p q = ap (λ z. (z, x .1)) (p ∙ sym q)

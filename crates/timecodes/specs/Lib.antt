@@ -1,0 +1,5 @@
+pub mod Timecode
+pub mod Admitted
+pub mod Instant
+pub mod AdmittedLaws
+pub mod InstantLaws
