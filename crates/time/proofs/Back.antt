@@ -8,18 +8,19 @@ use native.Mathlib.Omega.{arith}
 use lib.IntN.{ℤ, pos, natAbs, _*ℤ_}
 use Rattle.numbers.specs.DistanceLaws.{abs-product}
 use Rattle.numbers.specs.Lowest.{Lowest}
-use Rattle.rates.specs.declared.Timecode.{Timecode}
-use Rattle.rates.specs.Rates.{rateRow}
+use Rattle.numbers.specs.LowestLaws.{lowest-le}
+use Rattle.numbers.specs.MultipleLaws.{mul-twice, mul-cancel}
+use Rattle.rates.specs.Rates.{rateRow, frameTicks, secondTicks}
 use Rattle.rates.specs.Rule.{sound}
-use Rattle.time.specs.Bounds.{isSeconds}
-use Rattle.time.specs.BoundsLaws.{is-fraction}
-use Rattle.time.specs.LeastLaws.{lowest-le}
-use Rattle.time.specs.MultipleLaws.{mul-twice, mul-cancel}
-use Rattle.time.specs.Instant.{secondTicks, frameTicks, instant, Bounded}
-use Rattle.time.specs.InstantLaws.{count-most}
+use Rattle.timecodes.specs.declared.Timecode.{Timecode}
+use Rattle.timecodes.specs.Admitted.{Valid}
+use Rattle.timecodes.specs.AdmittedLaws.{valid-count-le}
+use Rattle.timecodes.specs.Instant.{instant}
+use Rattle.time.specs.Bounds.{mostSeconds, isFraction}
+use Rattle.time.specs.BoundsLaws.{isFraction-in}
 use Rattle.time.specs.Seconds.{InSeconds}
 
-module _ (tc : Timecode) (p : ℤ) (q : ℕ) (b : Bounded tc) (x : InSeconds (instant tc) p q) where
+module _ (tc : Timecode) (p : ℤ) (q : ℕ) (b : Valid tc) (x : InSeconds (instant tc) p q) where
   pub seconds-whole : p *ℤ pos (rateRow (tc .rate) .numerator) ≡ tc .count *ℤ pos (q * rateRow (tc .rate) .denominator)
   unfolding instant
   seconds-whole =
@@ -50,10 +51,10 @@ module _ (tc : Timecode) (p : ℤ) (q : ℕ) (b : Bounded tc) (x : InSeconds (in
         coprime = x .lowest .coprime;
       }
 
-  pub seconds-within : isSeconds p q ≡ true
+  pub seconds-within : isFraction mostSeconds p q ≡ true
   seconds-within =
       let row = sound (tc .rate) (b .rate) in
       let least = lowest-le _ _ _ _ (row .numerator-pos) by-frames in
-      let most = mul-le-mul (count-most tc b) (row .denominator-most) in
-      is-fraction 1000000000000 p q
+      let most = mul-le-mul (valid-count-le tc b) (row .denominator-most) in
+      isFraction-in mostSeconds p q
       (record { top = omega (arith, most, least .0); least = x .lowest .positive; bottom = omega (arith, least .1, row .numerator-most) })

@@ -2,11 +2,9 @@
 -- Assumes nothing.
 use mathlib.Core.Path.{sym, ap, _∙_}
 use Rattle.outcomes.specs.Outcome.{Determined}
-use Rattle.time.specs.OneLaws.{seconds-one}
+use Rattle.time.specs.SecondsLaws.{seconds-one}
 use Rattle.time.proofs.is_fraction as is-fraction
 use Rattle.time.proofs.is_fraction.Reads as is-fraction-reads
-use Rattle.time.proofs.instant_of as instant-of
-use Rattle.time.proofs.instant_of.Reads as instant-of-reads
 use Rattle.time.proofs.with_frames as with-frames
 use Rattle.time.proofs.with_frames.Reads as with-frames-reads
 use Rattle.time.proofs.with_premiere_ticks as with-premiere-ticks
@@ -20,9 +18,6 @@ use Rattle.time.proofs.seconds.Reads as seconds-reads
 
 pub is-fraction-determined : Determined is-fraction.ended is-fraction-reads.Asked is-fraction-reads.Learnt
 is-fraction-determined κs a asked x y p q = ap (λ z. (z, x .1)) (p ∙ sym q)
-
-pub instant-of-determined : Determined instant-of.ended instant-of-reads.Asked instant-of-reads.Learnt
-instant-of-determined κs a asked x y p q = ap (λ z. (z, x .1)) (p ∙ sym q)
 
 pub with-frames-determined : Determined with-frames.ended with-frames-reads.Asked with-frames-reads.Learnt
 with-frames-determined κs a asked x y p q = ap (λ z. (z, x .1)) (p ∙ sym q)

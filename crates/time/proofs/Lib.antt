@@ -1,4 +1,3 @@
-pub mod Guards
 pub mod Back
 pub mod Statements
 pub mod Determined

@@ -1,62 +1,99 @@
--- The statements of specs/Statements.antt, proved: by what an answer tells of its tests, and the laws of the nearest.
+-- The statements of specs/Statements.antt, proved: by what an answer tells of its conditions, and the laws of the nearest.
 -- Assumes nothing.
-use Prim.Native.Nat.{_*_}
-use mathlib.Core.Path.{sym, _∙_, ap}
+use Prim.Native.Nat.{ℕ, _*_}
+use mathlib.Core.Path.{_≡_, refl, sym, _∙_, ap, subst}
 use native.Mathlib.Nat.{mul-pos}
+use native.Mathlib.Omega.{arith}
 use lib.IntN.{ℤ, pos, _*ℤ_}
-use Rattle.numbers.specs.Nearest.{nearestZ}
+use Rattle.numbers.specs.Nearest.{Nearest, nearestZ}
 use Rattle.numbers.specs.NearestSignedLaws.{exact}
-use Rattle.answers.specs.Refusals.{noSuch, outOfBounds, orElse, held}
-use Rattle.answers.specs.Laws.{held-in}
-use Rattle.rates.specs.Rates.{isRate, rateRow}
-use Rattle.rates.specs.Rule.{sound}
-use Rattle.time.specs.Bounds.{isSeconds}
-use Rattle.time.specs.BoundsLaws.{fraction-is}
-use Rattle.time.specs.Instant.{frameTicks, instant}
-use Rattle.time.specs.InstantLaws.{frame-pos}
-use Rattle.time.specs.Frames.{ticksAt, secondsAt}
-use Rattle.time.specs.FramesLaws.{passed, held-nearest}
-use Rattle.time.specs.TicksLaws.{ticks-bounded, ticks-are}
-use Rattle.time.specs.SecondsLaws.{seconds-bounded, seconds-are}
+use Rattle.numbers.proofs.Statements.{nearest-is}
+use Rattle.answers.specs.declared.Refusal.{Refusal}
+use Rattle.answers.specs.Order.{Clear}
+use Rattle.answers.specs.OrderLaws.{unless-told, unless-clear, not-in, in-not}
+use Rattle.answers.specs.Refusals.{isCount}
+use Rattle.rates.specs.Rates.{rateRow, frameTicks}
+use Rattle.rates.specs.Rule.{sound, frameTicks-pos}
+use Rattle.timecodes.specs.declared.Timecode.{Timecode}
+use Rattle.timecodes.specs.declared.Answer.the-variants.{At, Refused}
+use Rattle.timecodes.specs.Timecode.{timecode}
+use Rattle.timecodes.specs.Admitted.{admits, Valid}
+use Rattle.timecodes.specs.AdmittedLaws.{admits-valid, at-told}
+use Rattle.timecodes.specs.Instant.{instant}
+use Rattle.time.specs.declared.Ticked.the-variants as ticked
+use Rattle.time.specs.Bounds.{mostSeconds}
+use Rattle.time.specs.BoundsLaws.{isFraction-told}
+use Rattle.time.specs.Frames.{ticksFrame, ticksWhen, ticksAt, secondsFrame, secondsWhen, secondsAt}
+use Rattle.time.specs.Ticks.{ticksOf}
+use Rattle.time.specs.SecondsLaws.{seconds-valid, seconds-told}
 use Rattle.time.specs.Statements.{TicksNearest, SecondsNearest, TicksBack, SecondsBack, SecondsInstant}
 use Rattle.time.proofs.Back.{seconds-whole, seconds-within}
 
 pub ticks-nearest : TicksNearest
 unfolding ticksAt
-ticks-nearest t k rate h =
-    let p = passed (isRate rate) noSuch (held (nearestZ t (frameTicks rate))) k h in
-    held-nearest t k (frameTicks rate) (frame-pos rate (p .0)) (p .1)
+ticks-nearest t rate tc h =
+    let told = at-told (ticksWhen t rate) (timecode (ticksFrame t rate) rate) tc h in (
+      ap (λ (k : Timecode). k .rate) (sym (told .1)),
+      subst (λ (k : Timecode). Nearest t (frameTicks rate) (k .count)) (told .1)
+          (nearest-is t (frameTicks rate) (frameTicks-pos rate (not-in _ (told .0 .0)))),
+    )
 
 pub seconds-nearest : SecondsNearest
 unfolding secondsAt
-seconds-nearest p k q rate h =
+seconds-nearest p q rate tc h =
     let n = p *ℤ pos (rateRow rate .numerator) in
     let d = q * rateRow rate .denominator in
-    let rated = passed (isRate rate) noSuch (orElse (isSeconds p q) outOfBounds (held (nearestZ n d))) k h in
-    let within = passed (isSeconds p q) outOfBounds (held (nearestZ n d)) k (rated .1) in
-    held-nearest n k d
-    (mul-pos (fraction-is 1000000000000 p q (within .0) .least) (sound rate (rated .0) .denominator-pos)) (within .1)
+    let told = at-told (secondsWhen p q rate) (timecode (secondsFrame p q rate) rate) tc h in
+    let rated = not-in _ (told .0 .0) in
+    let within = isFraction-told mostSeconds p q (not-in _ (told .0 .1 .0)) in (
+      ap (λ (k : Timecode). k .rate) (sym (told .1)),
+      subst (λ (k : Timecode). Nearest n d (k .count)) (told .1) (nearest-is n d (mul-pos (within .least) (sound rate rated .denominator-pos))),
+    )
+
+-- what an answer of ticks tells
+module _ (tc : Timecode) (t : ℤ) (h : ticksOf tc ≡ ticked.Ticks t) where
+  ticks-apart : (e : Refusal) → ticked.Refused e ≡ ticked.Ticks t → ⊥
+  ticks-apart e k = let clash : _≡_ {A = ℕ} 0 1 = cc in omega arith
+
+  ticks-told : Clear (admits tc) × (ticked.Ticks (instant tc) ≡ ticked.Ticks t)
+  unfolding ticksOf
+  ticks-told = unless-told ticked.Refused (admits tc) (ticked.Ticks (instant tc)) (ticked.Ticks t) ticks-apart h
+
+  ticks-valid : Valid tc
+  ticks-valid = admits-valid tc (ticks-told .0)
+
+  ticks-are : t ≡ instant tc
+  ticks-are = let e = ticks-told .1 in cc
+
+-- an exact frame is its count
+module _ (z count : ℤ) (rate : ℕ) (same : z ≡ count) where
+  same-timecode : At (timecode z rate) ≡ At (timecode count rate)
+  same-timecode = ap (λ (k : ℤ). At (timecode k rate)) same
 
 pub ticks-back : TicksBack
 unfolding ticksAt instant
 ticks-back tc t h =
-    let b = ticks-bounded tc t h in
+    let v = ticks-valid tc t h in
     let n = frameTicks (tc .rate) in
-    simp (b .rate)
-    (ap held (ap (λ (z : ℤ). nearestZ z n) (ticks-are tc t h) ∙ exact (tc .count) n (frame-pos (tc .rate) (b .rate)))
-    ∙ held-in (tc .count) (b .count))
+    let same : ticksFrame t (tc .rate) ≡ tc .count =
+    ap (λ (z : ℤ). nearestZ z n) (ticks-are tc t h) ∙ exact (tc .count) n (frameTicks-pos (tc .rate) (v .rate)) in
+    unless-clear Refused (ticksWhen t (tc .rate)) (At (timecode (ticksFrame t (tc .rate)) (tc .rate)))
+    (in-not (v .rate), (in-not (ap isCount same ∙ v .count), tt))
+    ∙ same-timecode (ticksFrame t (tc .rate)) (tc .count) (tc .rate) same
 
 pub seconds-back : SecondsBack
 unfolding secondsAt
 seconds-back tc p q h =
-    let b = seconds-bounded tc p q h in
-    let x = seconds-are tc p q h in
+    let v = seconds-valid tc p q h in
+    let x = seconds-told tc p q h in
     let d = q * rateRow (tc .rate) .denominator in
-    let above = mul-pos (x .lowest .positive) (sound (tc .rate) (b .rate) .denominator-pos) in
-    simp (b .rate, seconds-within tc p q b x)
-    (ap held (ap (λ (z : ℤ). nearestZ z d) (seconds-whole tc p q b x) ∙ exact (tc .count) d above)
-    ∙ held-in (tc .count) (b .count))
+    let above = mul-pos (x .lowest .positive) (sound (tc .rate) (v .rate) .denominator-pos) in
+    let same : secondsFrame p q (tc .rate) ≡ tc .count =
+    ap (λ (z : ℤ). nearestZ z d) (seconds-whole tc p q v x) ∙ exact (tc .count) d above in
+    unless-clear Refused (secondsWhen p q (tc .rate)) (At (timecode (secondsFrame p q (tc .rate)) (tc .rate)))
+    (in-not (v .rate), (in-not (seconds-within tc p q v x), (in-not (ap isCount same ∙ v .count), tt)))
+    ∙ same-timecode (secondsFrame p q (tc .rate)) (tc .count) (tc .rate) same
 
 pub seconds-instant : SecondsInstant
 seconds-instant tc t p q h k =
-    seconds-are tc p q k .exact ∙ ap (λ (z : ℤ). z *ℤ pos q) (sym (ticks-are tc t h))
+    seconds-told tc p q k .exact ∙ ap (λ (z : ℤ). z *ℤ pos q) (sym (ticks-are tc t h))

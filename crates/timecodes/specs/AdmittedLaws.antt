@@ -11,7 +11,7 @@ use Rattle.answers.specs.declared.Refusal.{Refusal}
 use Rattle.answers.specs.declared.Counted.the-variants as counted
 use Rattle.answers.specs.Order.{Condition, unless, Clear}
 use Rattle.answers.specs.OrderLaws.{unless-map, unless-clear, unless-told, not-in, in-not}
-use Rattle.answers.specs.Refusals.{mostCount}
+use Rattle.answers.specs.Refusals.{mostCount, badCount, held}
 use Rattle.timecodes.specs.declared.Timecode.{Timecode}
 use Rattle.timecodes.specs.declared.Answer.{Answer}
 use Rattle.timecodes.specs.declared.Answer.the-variants.{At, Refused}
@@ -47,6 +47,15 @@ placed-unless rate conditions count = unless-map (placed rate) counted.Refused R
 pub moved-unless : (tc : Timecode) (rate : ℕ) (conditions : List Condition) (count : ℤ)
     → movedTo tc rate (unless counted.Refused conditions (counted.Count count)) ≡ unless Refused conditions (At (moved tc count rate))
 moved-unless tc rate conditions count = unless-map (movedTo tc rate) counted.Refused Refused (λ e. refl) conditions (counted.Count count)
+
+-- a held count, as a timecode
+pub placed-held : (rate : ℕ) (count : ℤ) → placed rate (held count) ≡ unless Refused (badCount count ∷ []) (At (timecode count rate))
+unfolding held
+placed-held rate count = placed-unless rate (badCount count ∷ []) count
+
+pub moved-held : (tc : Timecode) (rate : ℕ) (count : ℤ) → movedTo tc rate (held count) ≡ unless Refused (badCount count ∷ []) (At (moved tc count rate))
+unfolding held
+moved-held tc rate count = moved-unless tc rate (badCount count ∷ []) count
 
 -- ---- what an answer tells
 

@@ -1,43 +1,47 @@
--- `time::with_frames` meets its contract: each return is the definition, rewritten by the tests that led there.
+-- `time::with_frames` meets its contract: what is admitted is answered, and what is refused is refused.
 -- Assumes nothing.
-use mathlib.Core.Path.{_≡_, _∙_, ap}
-use mathlib.Core.Bool.{true}
+use mathlib.Core.Path.{_≡_, sym, _∙_, ap}
 use borrow.Author.Needs.{needs}
+use lib.IntN.{ℤ}
 use mir.Facts.{toZ-ofZ}
-use Rattle.answers.specs.declared.Counted.the-variants.{Count}
-use Rattle.answers.specs.Refusals.{isCount}
-use Rattle.rates.specs.Rates.{isRate}
+use Rattle.answers.specs.declared.Verdict.{Verdict}
+use Rattle.answers.specs.Order.{judged}
+use Rattle.answers.specs.OrderLaws.{judged-refused, judged-clear, unless-clear}
+use Rattle.timecodes.specs.declared.Answer.the-variants.{At, Refused}
+use Rattle.timecodes.specs.Timecode.{timecode}
+use Rattle.timecodes.specs.Admitted.{admits}
 use Rattle.time.specs.Frames.{framesAt}
-use Rattle.time.proofs.Guards.{fails, passes}
 use Rattle.time.proofs.with_frames.Statement.{statement}
 use Rattle.time.proofs.with_frames.Tie as tie
 
-is-rate-requires : tie.Need-is-rate-requires
-is-rate-requires c κs = search needs
+admit-requires : tie.Need-admit-requires
+admit-requires c κs = search needs
+
+enum-told : tie.Need-enum-told
+enum-told c = search needs
+
+enum-known-e : tie.Need-enum-known-e
+enum-known-e c = search needs
+
+-- the timecode that was asked for is that of the count itself
+asked : (c : tie.After-admit) → judged (admits (timecode (c .before .args .count) (c .before .args .rate))) ≡ c .admit .result
+asked c =
+    sym (c .admit .ensures ∙ ap (λ (z : ℤ). judged (admits (timecode z (c .before .args .rate)))) (toZ-ofZ (c .before .fits .count)))
 
 returns : tie.Need-returns
 unfolding framesAt
-returns c = simp (fails (c .before .is-rate .ensures) (c .if1 .taken))
-
-rated : (c : tie.Else1) → isRate (c .before .before .args .rate) ≡ true
-rated c = passes (c .before .is-rate .ensures) (c .if1 .left)
-
-is-count-requires : tie.Need-is-count-requires
-is-count-requires c κs = search needs
-
--- what the test told is of the count itself
-told : (c : tie.After-is-count) → c .is-count .result ≡ isCount (c .before .before .before .args .count)
-told c = c .is-count .ensures ∙ ap isCount (toZ-ofZ (c .before .before .before .fits .count))
+returns c =
+    let a = c .before .before .before .args in
+    let tc = timecode (a .count) (a .rate) in
+    ap (λ (z : ℤ). At (timecode z (a .rate))) (toZ-ofZ (c .before .before .before .fits .count))
+    ∙ sym (unless-clear Refused (admits tc) (At tc) (judged-clear (admits tc) (asked (c .before .before) ∙ c .enum-told .given .1)))
 
 returns-2 : tie.Need-returns-2
 unfolding framesAt
-returns-2 c = simp (rated (c .before .before), fails (told (c .before)) (c .if2 .taken))
-
-returns-3 : tie.Need-returns-3
-unfolding framesAt
-returns-3 c =
-    simp (rated (c .before .before), passes (told (c .before)) (c .if2 .left)) (ap Count (toZ-ofZ (c .before .before .before .before .fits .count)))
+returns-2 c =
+    let a = c .before .before .before .before .args in
+    let tc = timecode (a .count) (a .rate) in
+    sym (judged-refused (admits tc) _ (asked (c .before .before .before) ∙ c .before .e .given .1) Refused (At tc))
 
 pub with-frames-spec : {M : Type 1} → statement M
-with-frames-spec =
-    tie.close (tie.spec is-rate-requires returns is-count-requires returns-2 returns-3)
+with-frames-spec = tie.close (tie.spec admit-requires enum-told enum-known-e returns returns-2)

@@ -2,18 +2,16 @@
 -- Assumes nothing.
 use Prim.Native.Nat.{ℕ}
 use mathlib.Core.Path.{_≡_, _∙_, ap, ap₂}
-use mathlib.Core.Bool.{true}
 use borrow.Author.Needs.{needs}
 use lib.IntN.{ℤ}
 use mir.Facts.{toZ-ofZ}
 use Rattle.numbers.specs.Nearest.{nearestZ}
-use Rattle.answers.specs.Refusals.{held}
+use Rattle.numbers.proofs.Tests.{fails, passes}
+use Rattle.answers.specs.Refusals.{badCount, held}
 use Rattle.rates.specs.declared.Framerate.{Framerate}
-use Rattle.rates.specs.Rates.{isRate}
-use Rattle.time.specs.Instant.{frameTicks}
-use Rattle.time.specs.InstantLaws.{frame-pos}
-use Rattle.time.specs.Frames.{ticksAt}
-use Rattle.time.proofs.Guards.{fails, passes}
+use Rattle.timecodes.specs.Timecode.{placed}
+use Rattle.timecodes.specs.AdmittedLaws.{placed-held}
+use Rattle.time.specs.Frames.{ticksFrame, ticksAt}
 use Rattle.time.proofs.with_premiere_ticks.Statement.{statement}
 use Rattle.time.proofs.with_premiere_ticks.Tie as tie
 
@@ -24,25 +22,28 @@ returns : tie.Need-returns
 unfolding ticksAt
 returns c = simp (fails (c .before .is-rate .ensures) (c .if1 .taken))
 
-rated : (c : tie.Else1) → isRate (c .before .before .args .rate) ≡ true
-rated c = passes (c .before .is-rate .ensures) (c .if1 .left)
-
 row-requires : tie.Need-row-requires
-row-requires c κs = rated c
-
-ticks-is : (c : tie.After-row) → c .row .result .ticks ≡ frameTicks (c .before .before .before .args .rate)
-ticks-is c = ap (λ (r : Framerate). r .ticks) (c .row .ensures)
+row-requires c κs = search needs
 
 nearest-count-requires : tie.Need-nearest-count-requires
-nearest-count-requires c κs = rw (ticks-is c) (frame-pos _ (rated (c .before)))
+nearest-count-requires c κs = search needs
+
+placed-requires : tie.Need-placed-requires
+placed-requires c κs = search needs
 
 returns-2 : tie.Need-returns-2
 unfolding ticksAt
 returns-2 c =
-    let s = c .before .before .before .before in
-    simp (rated (c .before .before))
-    (c .nearest-count .ensures ∙ ap₂ (λ (z : ℤ) (n : ℕ). held (nearestZ z n)) (toZ-ofZ (s .fits .ticks)) (ticks-is (c .before)))
+    let r = c .before .before in
+    let s = r .before .before .before in
+    let rate = s .args .rate in
+    simp (passes (r .before .before .is-rate .ensures) (r .before .if1 .left))
+    (c .placed .ensures
+    ∙ ap (placed rate)
+    (c .before .nearest-count .ensures
+    ∙ ap₂ (λ (z : ℤ) (n : ℕ). held (nearestZ z n)) (toZ-ofZ (s .fits .ticks)) (ap (λ (f : Framerate). f .ticks) (r .row .ensures)))
+    ∙ placed-held rate (ticksFrame (s .args .ticks) rate))
 
 pub with-premiere-ticks-spec : {M : Type 1} → statement M
 with-premiere-ticks-spec =
-    tie.close (tie.spec is-rate-requires returns row-requires nearest-count-requires returns-2)
+    tie.close (tie.spec is-rate-requires returns row-requires nearest-count-requires placed-requires returns-2)
