@@ -5,11 +5,11 @@ use mathlib.Core.Path.{refl, ap, _∙_}
 use Rattle.film.specs.declared.FilmFormat.the-variants.{FF35mm4perf, FF35mm3perf, FF35mm2perf, FF16mm}
 use Rattle.film.specs.Film.{formatAt, allowsPerfField}
 use Rattle.film.specs.Footage.{footageCount, footageOf}
-use Rattle.film.specs.FormatLaws.{at-number, format-is}
+use Rattle.film.specs.FormatLaws.{at-number, formatAt-told}
 use Rattle.film.specs.Statements.{FormatNumbered, OnlyThreePerf, FootageBack}
 
 pub format-numbered : FormatNumbered
-format-numbered n format = (format-is n format, λ e. ap formatAt e ∙ at-number format)
+format-numbered n format = (formatAt-told n format, λ e. ap formatAt e ∙ at-number format)
 
 pub only-three-perf : OnlyThreePerf
 only-three-perf FF35mm4perf = (λ e. cc, λ e. cc (ap allowsPerfField e))

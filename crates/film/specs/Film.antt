@@ -1,10 +1,11 @@
--- Formats 1 to 4: 4-perf, 3-perf, 2-perf on 35 mm (64 perfs a foot), and 16 mm (1 perf a frame, 20 a logical foot).
+-- Film formats (BEHAVIOUR: Footage): formats 1 to 4: 4-perf, 3-perf, 2-perf on 35 mm (64 perfs a foot), and 16 mm (1 perf a frame, 20 a logical foot).
 -- Assumes nothing.
 use Prim.Native.Nat.{ℕ, _-_, _%_}
-use mathlib.Core.Bool.{Bool, cond, not, _&&_}
+use mathlib.Core.Bool.{Bool, not, _&&_}
 use mathlib.Core.List.{List, [], _∷_}
 use lib.Dec.{leb, eqb}
 use lib.ListN.{getD}
+use Rattle.answers.specs.Order.{Condition, when, unless}
 use Rattle.answers.specs.Refusals.{noSuch}
 use Rattle.film.specs.declared.FilmFormat.{FilmFormat}
 use Rattle.film.specs.declared.FilmFormat.the-variants.{FF35mm4perf, FF35mm3perf, FF35mm2perf, FF16mm}
@@ -45,10 +46,17 @@ abbrev pub formats : List FilmFormat
 formats = FF35mm4perf ∷ FF35mm3perf ∷ FF35mm2perf ∷ FF16mm ∷ []
 
 -- 6: no such film format (1 to 4)
-unfoldable pub formatAt : ℕ → Filmed
-formatAt n = cond (isFormat n) (Format (getD formats (n - 1) FF35mm4perf)) (Refused noSuch)
+abbrev pub badFormat : (format : ℕ) → Condition
+badFormat format = when noSuch (not (isFormat format))
 
--- the document's number of an answer (0: not refused), and its film format's number (a refusal's is 0)
+-- the format of a number (4-perf stands for one that has none, which is refused before)
+abbrev pub formatIn : (format : ℕ) → FilmFormat
+formatIn format = getD formats (format - 1) FF35mm4perf
+
+unfoldable pub formatAt : ℕ → Filmed
+formatAt n = unless Refused (badFormat n ∷ []) (Format (formatIn n))
+
+-- the refusal number of an answer (0: not refused), and its film format's number (a refusal's is 0)
 abbrev pub numberOf : Filmed → ℕ
 numberOf (Format format) = 0
 numberOf (Refused e) = e .number

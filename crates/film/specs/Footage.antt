@@ -1,6 +1,11 @@
--- Footage: the count of feet and frames, and the feet and frames of a count.
+-- Footage (BEHAVIOUR: Footage): the count of feet and frames, and the feet and frames of a count.
 -- Assumes nothing.
-use Prim.Native.Nat.{ℕ, _+_, _-_, _*_, _/_, _%_}
+use mathlib.Core.Path.{_≡_}
+use mathlib.Core.Bool.{cond}
+use Prim.Native.Nat.{ℕ, _+_, _-_, _*_, _/_, _%_, _≤_}
+use borrow.Author.Tests.{le-leb}
+use lib.Dec.{leb}
+use Rattle.answers.specs.Refusals.{mostCount}
 use Rattle.film.specs.declared.FilmFormat.{FilmFormat}
 use Rattle.film.specs.declared.FilmFormat.the-variants.{FF35mm4perf, FF35mm3perf, FF35mm2perf, FF16mm}
 use Rattle.film.specs.declared.Footage.{Footage}
@@ -32,3 +37,11 @@ footageBy f P foot =
 
 unfoldable pub footageOf : FilmFormat → (f : ℕ) → Footage
 footageOf format f = footageBy f (perfsPerFrame format) (perfsPerFoot format)
+
+-- the same of a count within its bounds; zeros beyond them
+unfoldable pub footageIn : FilmFormat → (f : ℕ) → Footage
+footageIn format f = cond (leb f mostCount) (footageOf format f) (record { feet = 0; frames = 0; perf = 0 })
+
+pub footageIn-in : (format : FilmFormat) (f : ℕ) → f ≤ mostCount → footageIn format f ≡ footageOf format f
+unfolding footageIn
+footageIn-in format f h = rw (le-leb f mostCount h)

@@ -18,6 +18,16 @@ count-le FF35mm3perf feet frames = omega arith
 count-le FF35mm2perf feet frames = omega arith
 count-le FF16mm feet frames = omega arith
 
+-- nor less than one a foot, so a count is no less than its feet or its frames
+pub count-ge :
+    (format : FilmFormat) (feet frames : ℕ)
+    → (feet ≤ footageCount format feet frames) × (frames ≤ footageCount format feet frames)
+unfolding footageCount
+count-ge FF35mm4perf feet frames = (omega arith, omega arith)
+count-ge FF35mm3perf feet frames = (omega arith, omega arith)
+count-ge FF35mm2perf feet frames = (omega arith, omega arith)
+count-ge FF16mm feet frames = (omega arith, omega arith)
+
 -- the frames of a count, and the last one's perfs, are at most four times as many perfs
 pub perfs-le : (format : FilmFormat) (f P : ℕ) → P ≡ perfsPerFrame format → (0 < P) × (f * P + P ≤ 4 * f + 4)
 perfs-le format f P e =

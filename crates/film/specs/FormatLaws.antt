@@ -3,7 +3,7 @@
 use Prim.Native.Nat.{ℕ, zero, suc, _-_, _≤_, _<_}
 use native.Mathlib.Omega.{arith}
 use mathlib.Core.Path.{_≡_, refl, ap}
-use mathlib.Core.Bool.{Bool, true, false, cond, _&&_, and-eq-true-iff}
+use mathlib.Core.Bool.{Bool, true, false, not, cond, _&&_, and-eq-true-iff}
 use borrow.Author.Tests.{leb-true}
 use lib.Dec.{leb}
 use lib.ListN.{getD}
@@ -25,13 +25,13 @@ none-of-four n one two three four = go (leb 1 n) (leb n 4) refl refl
     go true true low high = let a = leb-true 1 n low in let b = leb-true n 4 high in absurd (omega arith)
 
 -- the answer for a number that is a film format, and for one that is none
-pub format-some : (n : ℕ) → isFormat n ≡ true → formatAt n ≡ Format (getD formats (n - 1) FF35mm4perf)
+pub formatAt-in : (n : ℕ) → isFormat n ≡ true → formatAt n ≡ Format (getD formats (n - 1) FF35mm4perf)
 unfolding formatAt
-format-some n h = ap (λ t. cond t (Format (getD formats (n - 1) FF35mm4perf)) (Refused noSuch)) h
+formatAt-in n h = ap (λ t. cond (not t) (Refused noSuch) (Format (getD formats (n - 1) FF35mm4perf))) h
 
-pub format-none : (n : ℕ) → isFormat n ≡ false → formatAt n ≡ Refused noSuch
+pub formatAt-out : (n : ℕ) → isFormat n ≡ false → formatAt n ≡ Refused noSuch
 unfolding formatAt
-format-none n h = ap (λ t. cond t (Format (getD formats (n - 1) FF35mm4perf)) (Refused noSuch)) h
+formatAt-out n h = ap (λ t. cond (not t) (Refused noSuch) (Format (getD formats (n - 1) FF35mm4perf))) h
 
 -- the answer for a format's own number is that format
 pub at-number : (format : FilmFormat) → formatAt (formatNumber format) ≡ Format format
@@ -50,26 +50,26 @@ placed (suc (suc (suc zero))) h = refl
 placed (suc (suc (suc (suc i)))) h = absurd (omega arith)
 
 -- what an answer says of the number
-pub format-is : (n : ℕ) (format : FilmFormat) → formatAt n ≡ Format format → n ≡ formatNumber format
+pub formatAt-told : (n : ℕ) (format : FilmFormat) → formatAt n ≡ Format format → n ≡ formatNumber format
 unfolding isFormat
-format-is n format h = go (isFormat n) refl
+formatAt-told n format h = go (isFormat n) refl
   where
     go : (t : Bool) → isFormat n ≡ t → n ≡ formatNumber format
     go true e =
         let p = and-eq-true-iff (leb 1 n) (leb n 4) .0 e in
         let low = leb-true 1 n (p .0) in
         let high = leb-true n 4 (p .1) in
-        let k = format-some n e in
+        let k = formatAt-in n e in
         let same : getD formats (n - 1) FF35mm4perf ≡ format = cc in
         omega (arith, placed (n - 1) (omega arith), ap formatNumber same)
-    go false e = let k = format-none n e in let z : _≡_ {A = ℕ} 0 1 = cc in absurd (omega arith)
+    go false e = let k = formatAt-out n e in let z : _≡_ {A = ℕ} 0 1 = cc in absurd (omega arith)
 
-pub refused-is : (n : ℕ) (e : Refusal) → formatAt n ≡ Refused e → (isFormat n ≡ false) × (e ≡ noSuch)
-refused-is n r h = go (isFormat n) refl
+pub formatAt-refused : (n : ℕ) (e : Refusal) → formatAt n ≡ Refused e → (isFormat n ≡ false) × (e ≡ noSuch)
+formatAt-refused n r h = go (isFormat n) refl
   where
     go : (t : Bool) → isFormat n ≡ t → (isFormat n ≡ false) × (r ≡ noSuch)
-    go true e = let k = format-some n e in let z : _≡_ {A = ℕ} 0 1 = cc in absurd (omega arith)
-    go false e = let k = format-none n e in (e, cc)
+    go true e = let k = formatAt-in n e in let z : _≡_ {A = ℕ} 0 1 = cc in absurd (omega arith)
+    go false e = let k = formatAt-out n e in (e, cc)
 
 -- 1 to 4 perfs a frame, 20 to 64 a foot
 pub frame-perfs : (format : FilmFormat) → (0 < perfsPerFrame format) × (perfsPerFrame format ≤ 4)

@@ -1,10 +1,13 @@
 // The four film formats by number, and footage: the count of feet and frames, and the feet and frames of a count.
-// A number that is no film format is refused 6.
+// A number that is no film format is refused 6, a count outside its bounds 5.
+use answers::Counted;
 use answers::Refusal;
 ghost use mathlib.Core.Path.{_≡_};
-ghost use Prim.Native.Nat.{_≤_, _<_, _^_};
+ghost use Prim.Native.Nat.{_≤_};
+ghost use Rattle.numbers.specs.Sign.{signed};
+ghost use Rattle.answers.specs.Refusals.{mostCount, held};
 ghost use Rattle.film.specs.Film.{formatNumber, perfsPerFrame, perfsPerFoot, allowsPerfField, formatAt};
-ghost use Rattle.film.specs.Footage.{footageCount, footageOf};
+ghost use Rattle.film.specs.Footage.{footageCount, footageOf, footageIn};
 
 // vtc's film formats: 4-perf, 3-perf and 2-perf on 35 mm, and 16 mm.
 pub enum FilmFormat {
@@ -28,7 +31,7 @@ pub struct Footage {
 }
 
 impl FilmFormat {
-    // The document's number of a format: 1 to 4.
+    // The number of a format: 1 to 4.
     pub fn number(self) -> u64
         ensures answer { λ r. ⌜ r ≡ formatNumber self ⌝ }
     {
@@ -85,9 +88,23 @@ pub fn format_at(no: u64) -> Filmed
     }
 }
 
-// The count of feet and frames that were read. Asks fields of at most 9 digits: only crates above call it.
-pub fn footage_count(format: FilmFormat, feet: u64, frames: u64) -> u64
-    requires fields { ⌜ (feet < 10 ^ 9) × (frames < 10 ^ 9) ⌝ }
+// The count of feet and frames that were read, with this sign. Refuses 5: it is outside its bounds.
+// A count is no less than its feet or its frames, so these are tested first and nothing wraps.
+pub fn footage_count(format: FilmFormat, minus: bool, feet: u64, frames: u64) -> Counted
+    ensures answer { λ r. ⌜ r ≡ held (signed minus (footageCount format feet frames)) ⌝ }
+{
+    if feet > answers::MOST_COUNT {
+        return Counted::Refused(answers::OUT_OF_BOUNDS);
+    }
+    if frames > answers::MOST_COUNT {
+        return Counted::Refused(answers::OUT_OF_BOUNDS);
+    }
+    answers::held(minus, count_of(format, feet, frames))
+}
+
+// The count of feet and frames. Asks that neither is above the largest count.
+fn count_of(format: FilmFormat, feet: u64, frames: u64) -> u64
+    requires fields { ⌜ (feet ≤ mostCount) × (frames ≤ mostCount) ⌝ }
     ensures answer { λ r. ⌜ r ≡ footageCount format feet frames ⌝ }
 {
     match format {
@@ -98,9 +115,23 @@ pub fn footage_count(format: FilmFormat, feet: u64, frames: u64) -> u64
     }
 }
 
-// The feet and frames that are written of an absolute count. Asks a count within its bounds: only crates above call it.
+// The feet and frames that are written of an absolute count; zeros for one outside its bounds.
 pub fn feet_and_frames(format: FilmFormat, f: u64) -> Footage
-    requires count { ⌜ f ≤ 400000000 ⌝ }
+    ensures answer { λ r. ⌜ r ≡ footageIn format f ⌝ }
+{
+    if f > answers::MOST_COUNT {
+        return Footage {
+            feet: 0,
+            frames: 0,
+            perf: 0,
+        };
+    }
+    footage_of(format, f)
+}
+
+// The feet and frames of an absolute count. Asks a count within its bounds.
+fn footage_of(format: FilmFormat, f: u64) -> Footage
+    requires count { ⌜ f ≤ mostCount ⌝ }
     ensures answer { λ r. ⌜ r ≡ footageOf format f ⌝ }
 {
     let per_frame = format.perfs_per_frame();

@@ -1,23 +1,24 @@
 -- Bounds: how large numbers, counts and corrections become, so that no sum or product wraps.
 -- Assumes nothing.
+use mathlib.Core.Path.{_≡_, sym, _∙_}
+use mathlib.Core.Bool.{true, false, and-eq-true-iff}
 use mathlib.Core.List.{List}
 use Prim.Native.Nat.{ℕ, _+_, _*_, _-_, _/_, _%_, _≤_, _<_}
-use native.Mathlib.Nat.{mul-le-mul, mul-le-mul-right, div-le-self, mod-le}
+use native.Mathlib.Nat.{mul-le-mul, mul-le-mul-left, mul-le-mul-right, div-le-self, mod-le}
+use native.Mathlib.Decide.{decLt}
 use native.Mathlib.Omega.{arith}
-use Rattle.labels.specs.Label.{labelCount, hoursIn, minutesIn, secondsIn, framesIn, countIn, Short, LabelOf}
+use borrow.Author.Tests.{le-leb, leb-true}
+use Rattle.answers.specs.Refusals.{mostCount}
+use Rattle.labels.specs.Label.{hoursIn, minutesIn, secondsIn, framesIn, countIn, isBounded, Short, LabelOf}
 use Rattle.labels.specs.LabelLaws.{count-by-minutes}
 use Rattle.labels.specs.Sections.{labelNumber, droppedBefore}
 
 module _ (timebase : ℕ) (small : timebase ≤ 60) where
-  -- fields of at most 9 digits have a number, and so a count, below 10 ^ 15
+  -- fields of at most 9 digits have a number below 10 ^ 15
   pub number-short : (fields : List ℕ) → Short fields → labelNumber timebase fields < 1_000_000_000_000_000
   number-short fields x =
       let s : 60 * (60 * hoursIn fields + minutesIn fields) + secondsIn fields ≤ 3_661_000_000_000 = omega arith in
       omega (arith, mul-le-mul s small)
-
-  pub count-short : (D : ℕ) (fields : List ℕ) → Short fields → countIn timebase D fields < 1_000_000_000_000_000
-  unfolding labelCount
-  count-short D fields x = omega (arith, number-short fields x)
 
 -- the dropped labels' minutes are at most ten times the count
 pub minutes-le : (n tens w D : ℕ) → 9 * (n / tens) + (n % tens - D) / w ≤ 10 * n
@@ -29,13 +30,59 @@ dropped-short timebase D n small d =
     let l : D ≤ 60 = omega arith in
     omega (arith, mul-le-mul l (minutes-le n (600 * timebase - 9 * D) (60 * timebase - D) D))
 
+-- each field is at most the count
+pub fields-le :
+    (timebase D : ℕ) (fields : List ℕ) → D < timebase
+    → (hoursIn fields ≤ countIn timebase D fields) × (minutesIn fields ≤ countIn timebase D fields)
+    × (secondsIn fields ≤ countIn timebase D fields) × (framesIn fields ≤ countIn timebase D fields)
+fields-le timebase D fields d =
+    let w : 1 ≤ 60 * timebase - D = omega arith in
+    let t : 1 ≤ timebase = omega arith in
+    let c = count-by-minutes timebase D (omega arith) (hoursIn fields) (minutesIn fields) (secondsIn fields) (framesIn fields) in
+    let m = mul-le-mul-right (60 * hoursIn fields + minutesIn fields) w in
+    let s = mul-le-mul-left (secondsIn fields) t in
+    (omega arith, omega arith, omega arith, omega arith)
+
 -- a label's hours are at most its count
 pub hours-le : (timebase D n : ℕ) (fields : List ℕ) → D < timebase → LabelOf timebase D n fields → hoursIn fields ≤ n
-hours-le timebase D n fields d x =
-    let w : 1 ≤ 60 * timebase - D = omega arith in
-    omega (
-      arith,
-      x .count,
-      count-by-minutes timebase D (omega arith) (hoursIn fields) (minutesIn fields) (secondsIn fields) (framesIn fields),
-      mul-le-mul-right (60 * hoursIn fields + minutesIn fields) w,
+hours-le timebase D n fields d x = omega (arith, x .count, fields-le timebase D fields d .0)
+
+-- ---- fields that are not above the largest count
+
+-- they have at most 9 digits
+pub isBounded-in : (fields : List ℕ) → isBounded fields ≡ true → Short fields
+unfolding isBounded
+isBounded-in fields e =
+    let h = and-eq-true-iff _ _ .0 e in
+    let m = and-eq-true-iff _ _ .0 (h .1) in
+    let s = and-eq-true-iff _ _ .0 (m .1) in
+    let hours = leb-true (hoursIn fields) mostCount (h .0) in
+    let minutes = leb-true (minutesIn fields) mostCount (m .0) in
+    let seconds = leb-true (secondsIn fields) mostCount (s .0) in
+    let frames = leb-true (framesIn fields) mostCount (s .1) in
+    record { hours = omega arith; minutes = omega arith; seconds = omega arith; frames = omega arith }
+
+-- the fields of a count within its bounds are such
+bounded-by-count :
+    (timebase D : ℕ) (fields : List ℕ) → D < timebase → countIn timebase D fields ≤ mostCount → isBounded fields ≡ true
+unfolding isBounded
+bounded-by-count timebase D fields d h =
+    let l = fields-le timebase D fields d in
+    rw (
+      le-leb (hoursIn fields) mostCount (omega arith),
+      le-leb (minutesIn fields) mostCount (omega arith),
+      le-leb (secondsIn fields) mostCount (omega arith),
+      le-leb (framesIn fields) mostCount (omega arith),
     )
+
+-- so others have a count above it
+pub isBounded-out :
+    (timebase D : ℕ) (fields : List ℕ) → D < timebase → isBounded fields ≡ false → mostCount < countIn timebase D fields
+isBounded-out timebase D fields d e = by (decLt mostCount (countIn timebase D fields))
+  where
+    by : Dec (mostCount < countIn timebase D fields) → mostCount < countIn timebase D fields
+    by (yes l) = l
+    by (no f) =
+        let t : true ≡ false = sym (bounded-by-count timebase D fields d (omega arith)) ∙ e in
+        let z : _≡_ {A = ℕ} 0 1 = cc in
+        absurd (omega arith)

@@ -1,11 +1,12 @@
--- Labels and counts: the count of a label, which labels are dropped, and the label of a count.
+-- Labels and counts (BEHAVIOUR: Labels and counts): the count of a label, which labels are dropped, and the label of a count.
 -- Assumes nothing.
 use mathlib.Core.Path.{_≡_}
 use mathlib.Core.Bool.{Bool, false, not, _&&_}
 use mathlib.Core.List.{List}
 use Prim.Native.Nat.{ℕ, _+_, _*_, _-_, _/_, _%_, _<_}
-use lib.Dec.{eqb, ltb}
+use lib.Dec.{eqb, ltb, leb}
 use lib.ListN.{length, getD}
+use Rattle.answers.specs.Refusals.{mostCount}
 
 -- M is 60 x hours + minutes; the count is (60 x M + seconds) x timebase + frames - D x (M - M/10 rounded down)
 unfoldable pub labelCount : (timebase D hours minutes seconds frames : ℕ) → ℕ
@@ -35,6 +36,12 @@ countIn timebase D fields =
 
 abbrev pub droppedIn : (D : ℕ) (fields : List ℕ) → Bool
 droppedIn D fields = isDropped D (minutesIn fields) (secondsIn fields) (framesIn fields)
+
+-- no field is above the largest count
+unfoldable pub isBounded : (fields : List ℕ) → Bool
+isBounded fields =
+    leb (hoursIn fields) mostCount
+    && (leb (minutesIn fields) mostCount && (leb (secondsIn fields) mostCount && leb (framesIn fields) mostCount))
 
 -- each field has at most 9 digits
 pub record Short (fields : List ℕ) : Type 0 where

@@ -1,5 +1,6 @@
 pub mod Label
 pub mod Sections
+pub mod AtRate
 pub mod LabelLaws
 pub mod BoundLaws
 pub mod Statements

@@ -1,13 +1,48 @@
 // Labels and counts: the count of a label's four fields, whether it is dropped, and the fields of the label of a count.
 // A label's fields are an array of hours, minutes, seconds and frames; d labels are dropped in each minute but each tenth.
+// Refused 6: no such rate; 5: a count outside its bounds.
 ghost use mathlib.Core.Path.{_≡_};
 ghost use Prim.Native.Nat.{_≤_, _<_};
-ghost use Rattle.labels.specs.Label.{countIn, droppedIn, Short};
+ghost use Rattle.answers.specs.Refusals.{mostCount};
+ghost use Rattle.labels.specs.Label.{countIn, droppedIn, isBounded, Short};
 ghost use Rattle.labels.specs.Sections.{fieldsAt, droppedBefore, sectionsOf};
+ghost use Rattle.labels.specs.AtRate.{labelCounted, sectionsAt};
+use answers::Counted;
 
-// The count of a label's fields.
-// Asks fields of at most 9 digits, a timebase up to 60, and d below it: only crates above call it.
-pub fn label_count(fields: [u64; 4], timebase: u64, d: u64) -> u64
+// The count of a label's fields at a rate, with this sign. Refuses 6: no such rate; 5: it is outside its bounds.
+// A count is no less than each of its fields, so these are tested first and nothing wraps.
+pub fn label_count(fields: [u64; 4], rate: u64, minus: bool) -> Counted
+    ensures answer { λ r. ⌜ r ≡ labelCounted rate minus fields ⌝ }
+{
+    if !rates::is_rate(rate) {
+        return Counted::Refused(answers::NO_SUCH);
+    }
+    if !is_bounded(fields) {
+        return Counted::Refused(answers::OUT_OF_BOUNDS);
+    }
+    let timebase = rates::row(rate).timebase;
+    let d = rates::drop_frames_per_minute(rate);
+    answers::held(minus, count_in(fields, timebase, d))
+}
+
+// Whether no field is above the largest count.
+fn is_bounded(fields: [u64; 4]) -> bool
+    ensures answer { λ r. ⌜ r ≡ isBounded fields ⌝ }
+{
+    if fields[0] > answers::MOST_COUNT {
+        return false;
+    }
+    if fields[1] > answers::MOST_COUNT {
+        return false;
+    }
+    if fields[2] > answers::MOST_COUNT {
+        return false;
+    }
+    fields[3] <= answers::MOST_COUNT
+}
+
+// The count of a label's fields. Asks fields of at most 9 digits, a timebase up to 60, and d below it.
+fn count_in(fields: [u64; 4], timebase: u64, d: u64) -> u64
     requires fields { ⌜ Short fields ⌝ }
     requires rate { ⌜ (timebase ≤ 60) × (d < timebase) ⌝ }
     ensures answer { λ r. ⌜ r ≡ countIn timebase d fields ⌝ }
@@ -29,10 +64,24 @@ pub fn is_dropped(fields: [u64; 4], d: u64) -> bool
     fields[1] % 10 != 0
 }
 
-// The fields of the one allowed label whose count is n; the crate's `sections`.
-// Asks a count up to 400,000,000, a timebase up to 60, and d below it: only crates above call it.
-pub fn sections(n: u64, timebase: u64, d: u64) -> [u64; 4]
-    requires count { ⌜ n ≤ 400_000_000 ⌝ }
+// The fields of the one allowed label whose count is n, at a rate (vtc's `sections`); zeros where there is no such rate or count.
+pub fn sections(n: u64, rate: u64) -> [u64; 4]
+    ensures answer { λ r. ⌜ r ≡ sectionsAt rate n ⌝ }
+{
+    if !rates::is_rate(rate) {
+        return [0; 4];
+    }
+    if n > answers::MOST_COUNT {
+        return [0; 4];
+    }
+    let timebase = rates::row(rate).timebase;
+    let d = rates::drop_frames_per_minute(rate);
+    sections_of(n, timebase, d)
+}
+
+// The fields of the label of a count. Asks a count within its bounds, a timebase up to 60, and d below it.
+fn sections_of(n: u64, timebase: u64, d: u64) -> [u64; 4]
+    requires count { ⌜ n ≤ mostCount ⌝ }
     requires rate { ⌜ (timebase ≤ 60) × (d < timebase) ⌝ }
     ensures answer { λ r. ⌜ r ≡ sectionsOf timebase d n ⌝ }
 {
@@ -42,7 +91,7 @@ pub fn sections(n: u64, timebase: u64, d: u64) -> [u64; 4]
 
 // How many labels are dropped before the one with the count n. It divides before it multiplies.
 fn drop_frame_adjustment(n: u64, timebase: u64, d: u64) -> u64
-    requires count { ⌜ n ≤ 400_000_000 ⌝ }
+    requires count { ⌜ n ≤ mostCount ⌝ }
     requires rate { ⌜ (timebase ≤ 60) × (d < timebase) ⌝ }
     ensures answer { λ r. ⌜ r ≡ droppedBefore timebase d n ⌝ }
 {

@@ -4,11 +4,6 @@ use mathlib.Core.Path.{sym, ap, _∙_}
 use Rattle.outcomes.specs.Outcome.{Determined}
 use Rattle.minutes.proofs.minute_start as minute-start
 use Rattle.minutes.proofs.minute_start.Reads as minute-start-reads
-use Rattle.minutes.proofs.table.entry as entry
-use Rattle.minutes.proofs.table.entry.Reads as entry-reads
 
 pub minute-start-determined : Determined minute-start.ended minute-start-reads.Asked minute-start-reads.Learnt
 minute-start-determined κs a asked x y p q = ap (λ z. (z, x .1)) (p ∙ sym q)
-
-pub entry-determined : Determined entry.ended entry-reads.Asked entry-reads.Learnt
-entry-determined κs a asked x y p q = ap (λ z. (z, x .1)) (p ∙ sym q)

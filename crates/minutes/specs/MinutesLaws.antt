@@ -7,7 +7,7 @@ use native.Mathlib.Omega.{arith}
 use borrow.Author.Tests.{le-leb, eqb-true, eqb-false}
 use lib.Dec.{eqb}
 use lib.IntN.{pos}
-use Rattle.answers.specs.Refusals.{isCount}
+use Rattle.answers.specs.Refusals.{mostCount, isCount}
 use Rattle.minutes.specs.Minutes.{minuteStart}
 
 -- 1798 a minute, and 2 more for each multiple of 10 before
@@ -24,4 +24,4 @@ start-closed (suc m) = by (eqb (m % 10) 0) refl (start-closed m)
 
 -- every entry is a count within its bounds
 pub start-held : (minute : ℕ) → minute ≤ 1439 → isCount (pos (minuteStart minute)) ≡ true
-start-held minute h = le-leb (minuteStart minute) 400_000_000 (omega (arith, start-closed minute))
+start-held minute h = le-leb (minuteStart minute) mostCount (omega (arith, start-closed minute))

@@ -1447,8 +1447,8 @@ const MINUTES: [u32; 1440] = [
     2587610,
 ];
 
-// The entry of a minute. Asks a minute of the table: only this crate calls it.
-pub fn entry(minute: usize) -> u32
+// The entry of a minute. Asks a minute of the table.
+pub(crate) fn entry(minute: usize) -> u32
     requires minute { ⌜ minute < 1440 ⌝ }
     ensures answer { λ r. ⌜ r ≡ minuteStart minute ⌝ }
 {

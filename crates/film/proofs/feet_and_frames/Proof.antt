@@ -1,52 +1,21 @@
--- `film::feet_and_frames` meets its contract: it is the definition, at the two numbers that were called for, which are small and not 0.
+-- `film::feet_and_frames` meets its contract: it tests the count as the definition does.
 -- Assumes nothing.
-use native.Mathlib.Omega.{arith}
-use mathlib.Core.Path.{ap₂}
+use mathlib.Core.Path.{sym, _∙_}
 use borrow.Author.Needs.{needs}
-use Rattle.film.specs.Footage.{footageOf, footageBy}
-use Rattle.film.specs.FormatLaws.{frame-perfs, foot-perfs}
-use Rattle.film.specs.FootageLaws.{perfs-le}
+use Rattle.numbers.proofs.Tests.{tests}
+use Rattle.film.specs.Footage.{footageIn, footageIn-in}
 use Rattle.film.proofs.feet_and_frames.Statement.{statement}
 use Rattle.film.proofs.feet_and_frames.Tie as tie
 
-perfs-per-frame-requires : tie.Need-perfs-per-frame-requires
-perfs-per-frame-requires c κs = search needs
-
-perfs-per-foot-requires : tie.Need-perfs-per-foot-requires
-perfs-per-foot-requires c κs = search needs
-
-mul-last-perf : tie.Need-mul-last-perf
-mul-last-perf c = record { fits = omega (arith, perfs-le (c .before .before .args .format) (c .before .before .args .f) _ (c .before .perfs-per-frame .ensures)) }
-
-add-last-perf : tie.Need-add-last-perf
-add-last-perf c = record { fits = omega (arith, perfs-le (c .before .before .args .format) (c .before .before .args .f) _ (c .before .perfs-per-frame .ensures)) }
-
-sub-last-perf : tie.Need-sub-last-perf
-sub-last-perf c = omega (arith, perfs-le (c .before .before .args .format) (c .before .before .args .f) _ (c .before .perfs-per-frame .ensures))
-
-div-feet : tie.Need-div-feet
-div-feet c = omega (arith, foot-perfs (c .before .before .args .format))
-
-rem-t7 : tie.Need-rem-t7
-rem-t7 c = omega (arith, foot-perfs (c .before .before .args .format))
-
-div-t8 : tie.Need-div-t8
-div-t8 c = omega (arith, frame-perfs (c .before .before .args .format))
-
 returns : tie.Need-returns
-unfolding footageOf
-returns c = ap₂ (footageBy (c .before .before .args .f)) (c .before .perfs-per-frame .ensures) (c .perfs-per-foot .ensures)
+unfolding footageIn
+returns c = search tests
+
+footage-of-requires : tie.Need-footage-of-requires
+footage-of-requires c κs = search needs
+
+returns-2 : tie.Need-returns-2
+returns-2 c = c .footage-of .ensures ∙ sym (footageIn-in _ _ (c .before .if1 .left))
 
 pub feet-and-frames-spec : {M : Type 1} → statement M
-feet-and-frames-spec =
-    tie.close
-    (tie.spec
-    perfs-per-frame-requires
-    perfs-per-foot-requires
-    mul-last-perf
-    add-last-perf
-    sub-last-perf
-    div-feet
-    rem-t7
-    div-t8
-    returns)
+feet-and-frames-spec = tie.close (tie.spec returns footage-of-requires returns-2)

@@ -1,96 +1,45 @@
--- `film::footage_count` meets its contract: each return is its format's sum, which fields of nine digits cannot make wrap.
+-- `film::footage_count` meets its contract: feet or frames above the largest count make a count above it.
 -- Assumes nothing.
-use mathlib.Core.Path.{sym, ap}
+use mathlib.Core.Path.{_≡_, sym, _∙_, ap}
+use mathlib.Core.Bool.{Bool}
+use Prim.Native.Nat.{ℕ, _<_}
+use native.Mathlib.Omega.{arith}
 use borrow.Author.Needs.{needs}
+use borrow.Author.Tests.{lt-leb}
+use Rattle.numbers.specs.Sign.{signed}
+use Rattle.numbers.specs.SignLaws.{abs-signed}
+use Rattle.answers.specs.declared.Counted.the-variants.{Refused}
+use Rattle.answers.specs.Refusals.{mostCount, outOfBounds, held}
+use Rattle.answers.specs.Laws.{held-out}
 use Rattle.film.specs.Footage.{footageCount}
+use Rattle.film.specs.FootageLaws.{count-ge}
 use Rattle.film.proofs.footage_count.Statement.{statement}
 use Rattle.film.proofs.footage_count.Tie as tie
 
-enum-told : tie.Need-enum-told
-enum-told c = search needs
-
-mul-result : tie.Need-mul-result
-mul-result c = search needs
-
-add-result : tie.Need-add-result
-add-result c = search needs
-
-enum-told-2 : tie.Need-enum-told-2
-enum-told-2 c = search needs
-
-mul-result-2 : tie.Need-mul-result-2
-mul-result-2 c = search needs
-
-mul-result-3 : tie.Need-mul-result-3
-mul-result-3 c = search needs
-
-add-result-2 : tie.Need-add-result-2
-add-result-2 c = search needs
-
-add-result-3 : tie.Need-add-result-3
-add-result-3 c = search needs
-
-enum-told-3 : tie.Need-enum-told-3
-enum-told-3 c = search needs
-
-mul-result-4 : tie.Need-mul-result-4
-mul-result-4 c = search needs
-
-add-result-4 : tie.Need-add-result-4
-add-result-4 c = search needs
-
-enum-told-4 : tie.Need-enum-told-4
-enum-told-4 c = search needs
-
-mul-result-5 : tie.Need-mul-result-5
-mul-result-5 c = search needs
-
-add-result-5 : tie.Need-add-result-5
-add-result-5 c = search needs
+-- a magnitude above the largest count is refused under either sign
+above : (minus : Bool) (m : ℕ) → mostCount < m → Refused outOfBounds ≡ held (signed minus m)
+above minus m h = sym (held-out (signed minus m) (rw (abs-signed minus m) (lt-leb m mostCount h)))
 
 returns : tie.Need-returns
-unfolding footageCount
 returns c =
-    let a = c .before .before .args in
-    sym (ap (λ format. footageCount format (a .feet) (a .frames)) (c .enum-told .given .1))
+    let a = c .before .args in
+    above (a .minus) (footageCount (a .format) (a .feet) (a .frames)) (omega (arith, count-ge (a .format) (a .feet) (a .frames)))
 
 returns-2 : tie.Need-returns-2
-unfolding footageCount
 returns-2 c =
     let a = c .before .before .args in
-    sym (ap (λ format. footageCount format (a .feet) (a .frames)) (c .enum-told2 .given .1))
+    above (a .minus) (footageCount (a .format) (a .feet) (a .frames)) (omega (arith, count-ge (a .format) (a .feet) (a .frames)))
+
+count-of-requires : tie.Need-count-of-requires
+count-of-requires c κs = search needs
+
+held-requires : tie.Need-held-requires
+held-requires c κs = search needs
 
 returns-3 : tie.Need-returns-3
-unfolding footageCount
 returns-3 c =
-    let a = c .before .before .args in
-    sym (ap (λ format. footageCount format (a .feet) (a .frames)) (c .enum-told3 .given .1))
-
-returns-4 : tie.Need-returns-4
-unfolding footageCount
-returns-4 c =
-    let a = c .before .before .args in
-    sym (ap (λ format. footageCount format (a .feet) (a .frames)) (c .enum-told4 .given .1))
+    let minus = c .before .before .before .before .args .minus in
+    c .held .ensures ∙ ap (λ m. held (signed minus m)) (c .before .count-of .ensures)
 
 pub footage-count-spec : {M : Type 1} → statement M
-footage-count-spec =
-    tie.close
-    (tie.spec
-    enum-told
-    mul-result
-    add-result
-    enum-told-2
-    mul-result-2
-    mul-result-3
-    add-result-2
-    add-result-3
-    enum-told-3
-    mul-result-4
-    add-result-4
-    enum-told-4
-    mul-result-5
-    add-result-5
-    returns
-    returns-2
-    returns-3
-    returns-4)
+footage-count-spec = tie.close (tie.spec returns returns-2 count-of-requires held-requires returns-3)

@@ -3,7 +3,7 @@
 use mathlib.Core.Path.{sym, ap, _∙_}
 use Rattle.film.specs.declared.FilmFormat.the-variants.{FF35mm4perf, FF35mm3perf, FF35mm2perf, FF16mm}
 use Rattle.film.specs.Film.{formatAt}
-use Rattle.film.specs.FormatLaws.{none-of-four, format-none, at-number}
+use Rattle.film.specs.FormatLaws.{none-of-four, formatAt-out, at-number}
 use Rattle.film.proofs.format_at.Statement.{statement}
 use Rattle.film.proofs.format_at.Tie as tie
 
@@ -22,7 +22,7 @@ returns-4 c = sym (ap formatAt (c .match .keys4) ∙ at-number FF16mm)
 returns-5 : tie.Need-returns-5
 returns-5 c =
     let k = c .match .rest in
-    sym (format-none _ (none-of-four _ (k .0 .0 .0 .1) (k .0 .0 .1) (k .0 .1) (k .1)))
+    sym (formatAt-out _ (none-of-four _ (k .0 .0 .0 .1) (k .0 .0 .1) (k .0 .1) (k .1)))
 
 pub format-at-spec : {M : Type 1} → statement M
 format-at-spec = tie.close (tie.spec returns returns-2 returns-3 returns-4 returns-5)

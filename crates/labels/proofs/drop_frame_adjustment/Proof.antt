@@ -5,13 +5,14 @@ use Prim.Native.Nat.{ℕ, _+_, _*_, _-_, _/_, _%_, _≤_, _<_}
 use native.Mathlib.Nat.{mul-le-mul, zero-div}
 use native.Mathlib.Omega.{arith}
 use borrow.Author.Needs.{needs}
+use Rattle.answers.specs.Refusals.{mostCount}
 use Rattle.labels.specs.BoundLaws.{minutes-le}
 use Rattle.labels.specs.Sections.{droppedBefore}
 use Rattle.labels.proofs.drop_frame_adjustment.Statement.{statement}
 use Rattle.labels.proofs.drop_frame_adjustment.Tie as tie
 
 -- the minutes whose labels are dropped, and the labels, are bounded by the count
-module _ (timebase D n : ℕ) (small : timebase ≤ 60) (d : D < timebase) (h : n ≤ 400_000_000) where
+module _ (timebase D n : ℕ) (small : timebase ≤ 60) (d : D < timebase) (h : n ≤ mostCount) where
   abbrev tens : ℕ
   tens = 600 * timebase - 9 * D
 

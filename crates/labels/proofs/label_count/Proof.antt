@@ -1,86 +1,85 @@
--- `labels::label_count` meets its contract: the number of short fields is bounded, and what is taken away is no more.
+-- `labels::label_count` meets its contract: a rate's row meets what the count asks, and a field above the largest count makes a count above it.
 -- Assumes nothing.
-use mathlib.Core.Path.{refl}
-use Prim.Native.Nat.{_+_, _*_, _-_, _/_, _≤_, _<_}
-use native.Mathlib.Omega.{arith}
+use mathlib.Core.Path.{_≡_, sym, _∙_, ap, ap₂}
+use mathlib.Core.Bool.{true}
+use Prim.Native.Nat.{ℕ}
 use borrow.Author.Needs.{needs}
-use Rattle.labels.specs.Label.{labelCount, hoursIn, minutesIn, secondsIn, framesIn}
-use Rattle.labels.specs.LabelLaws.{dropped-le}
-use Rattle.labels.specs.Sections.{labelNumber}
-use Rattle.labels.specs.BoundLaws.{number-short}
+use borrow.Author.Tests.{lt-leb}
+use Rattle.numbers.specs.Sign.{signed}
+use Rattle.numbers.specs.SignLaws.{abs-signed}
+use Rattle.numbers.proofs.Tests.{fails, passes}
+use Rattle.answers.specs.Refusals.{mostCount, held}
+use Rattle.answers.specs.Laws.{held-out}
+use Rattle.rates.specs.declared.Framerate.{Framerate}
+use Rattle.rates.specs.Rates.{isRate, rateRow, dropFrames}
+use Rattle.rates.specs.Laws.{drop-small}
+use Rattle.labels.specs.Label.{countIn}
+use Rattle.labels.specs.BoundLaws.{isBounded-in, isBounded-out}
+use Rattle.labels.specs.AtRate.{labelCounted-in, labelCounted-out}
+use Rattle.labels.proofs.RateAsks.{rate-asks}
 use Rattle.labels.proofs.label_count.Statement.{statement}
 use Rattle.labels.proofs.label_count.Tie as tie
 
--- the number of the fields is below 10 ^ 15, and what is taken from it is no more
-number-small : (c : tie.Start) → labelNumber (c .args .timebase) (c .args .t1) < 1_000_000_000_000_000
-number-small c = number-short (c .args .timebase) (omega arith) (c .args .t1) (c .pre .0)
+-- the first test passed
+rate-is : (c : tie.Else1) → isRate (c .before .before .args .rate) ≡ true
+rate-is c = passes (c .before .is-rate .ensures) (c .if1 .left)
 
-taken-small :
-    (c : tie.Start)
-    → let m = 60 * hoursIn (c .args .t1) + minutesIn (c .args .t1) in
-    c .args .d * (m - m / 10) ≤ labelNumber (c .args .timebase) (c .args .t1)
-taken-small c =
-    let f = c .args .t1 in
-    dropped-le (c .args .timebase) (c .args .d) (omega arith) (hoursIn f) (minutesIn f) (secondsIn f) (framesIn f)
-
-array-read-m : tie.Need-array-read-m
-array-read-m c = search needs
-
-mul-m : tie.Need-mul-m
-mul-m c = search needs
-
-array-read-m-2 : tie.Need-array-read-m-2
-array-read-m-2 c = search needs
-
-add-m : tie.Need-add-m
-add-m c = search needs
-
-mul-result : tie.Need-mul-result
-mul-result c = search needs
-
-array-read-result : tie.Need-array-read-result
-array-read-result c = search needs
-
-add-result : tie.Need-add-result
-add-result c = search needs
-
-mul-result-2 : tie.Need-mul-result-2
-mul-result-2 c = omega (arith, number-small c)
-
-array-read-result-2 : tie.Need-array-read-result-2
-array-read-result-2 c = search needs
-
-add-result-2 : tie.Need-add-result-2
-add-result-2 c = omega (arith, number-small c)
-
-sub-result : tie.Need-sub-result
-sub-result c = search needs
-
-mul-result-3 : tie.Need-mul-result-3
-mul-result-3 c = omega (arith, number-small c, taken-small c)
-
-sub-result-2 : tie.Need-sub-result-2
-sub-result-2 c = omega (arith, taken-small c)
+is-rate-requires : tie.Need-is-rate-requires
+is-rate-requires c κs = search needs
 
 returns : tie.Need-returns
-unfolding labelCount
-returns c = refl
+returns c = sym (labelCounted-out _ _ _ (fails (c .before .is-rate .ensures) (c .if1 .taken)))
+
+is-bounded-requires : tie.Need-is-bounded-requires
+is-bounded-requires c κs = search needs
+
+returns-2 : tie.Need-returns-2
+returns-2 c =
+    let a = c .before .before .before .before .args in
+    let e = rate-is (c .before .before) in
+    let m : ℕ = countIn (rateRow (a .rate) .timebase) (dropFrames (a .rate)) (a .fields) in
+    let over = isBounded-out _ _ (a .fields) (drop-small (a .rate) e) (fails (c .before .is-bounded .ensures) (c .if2 .taken)) in
+    sym
+    (labelCounted-in (a .rate) (a .minus) (a .fields) e
+    ∙ held-out (signed (a .minus) m) (rw (abs-signed (a .minus) m) (lt-leb m mostCount over)))
+
+row-requires : tie.Need-row-requires
+row-requires c κs = search needs
+
+drop-frames-per-minute-requires : tie.Need-drop-frames-per-minute-requires
+drop-frames-per-minute-requires c κs = search needs
+
+count-in-requires : tie.Need-count-in-requires
+count-in-requires c κs =
+    let s = c .before .before in (
+      isBounded-in _ (passes (s .before .is-bounded .ensures) (s .if2 .left)),
+      rate-asks _ _ _ (rate-is (s .before .before)) (c .before .row .ensures) (c .drop-frames-per-minute .ensures),
+    )
+
+held-requires : tie.Need-held-requires
+held-requires c κs = search needs
+
+returns-3 : tie.Need-returns-3
+returns-3 c =
+    let d = c .before .before in
+    let s = d .before .before in
+    let a = s .before .before .before .before .args in
+    c .held .ensures
+    ∙ ap (λ (m : ℕ). held (signed (a .minus) m))
+    (c .before .count-in .ensures
+    ∙ ap₂ (λ (row : Framerate) (k : ℕ). countIn (row .timebase) k (a .fields)) (d .before .row .ensures) (d .drop-frames-per-minute .ensures))
+    ∙ sym (labelCounted-in (a .rate) (a .minus) (a .fields) (rate-is (s .before .before)))
 
 pub label-count-spec : {M : Type 1} → statement M
 label-count-spec =
     tie.close
     (tie.spec
-    array-read-m
-    mul-m
-    array-read-m-2
-    add-m
-    mul-result
-    array-read-result
-    add-result
-    mul-result-2
-    array-read-result-2
-    add-result-2
-    sub-result
-    mul-result-3
-    sub-result-2
-    returns)
+    is-rate-requires
+    returns
+    is-bounded-requires
+    returns-2
+    row-requires
+    drop-frames-per-minute-requires
+    count-in-requires
+    held-requires
+    returns-3)
