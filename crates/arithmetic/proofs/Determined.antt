@@ -2,8 +2,6 @@
 -- Assumes nothing.
 use mathlib.Core.Path.{sym, ap, _∙_}
 use Rattle.outcomes.specs.Outcome.{Determined}
-use Rattle.arithmetic.proofs.instants as instants
-use Rattle.arithmetic.proofs.instants.Reads as instants-reads
 use Rattle.arithmetic.proofs.add as add
 use Rattle.arithmetic.proofs.add.Reads as add-reads
 use Rattle.arithmetic.proofs.sub as sub
@@ -26,9 +24,6 @@ use Rattle.arithmetic.proofs.abs as abs
 use Rattle.arithmetic.proofs.abs.Reads as abs-reads
 use Rattle.arithmetic.proofs.rebase as rebase
 use Rattle.arithmetic.proofs.rebase.Reads as rebase-reads
-
-pub instants-determined : Determined instants.ended instants-reads.Asked instants-reads.Learnt
-instants-determined κs a asked x y p q = ap (λ z. (z, x .1)) (p ∙ sym q)
 
 pub add-determined : Determined add.ended add-reads.Asked add-reads.Learnt
 add-determined κs a asked x y p q = ap (λ z. (z, x .1)) (p ∙ sym q)

@@ -1,4 +1,3 @@
-pub mod Told
 pub mod Orders
 pub mod Joined
 pub mod Statements

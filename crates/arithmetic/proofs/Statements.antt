@@ -1,17 +1,34 @@
--- The statements of specs/Statements.antt, proved: by what an answer tells of its tests, and what each rounding is.
+-- The statements of specs/Statements.antt, proved: by what an answer tells of its conditions, and what each rounding is.
 -- Assumes nothing.
-use mathlib.Core.Path.{sym, subst, subst₂}
-use lib.IntN.{ℤ, pos, _+ℤ_, _-ℤ_, _*ℤ_}
-use lib.Signed.{remZ}
+use Prim.Native.Nat.{ℕ, _<_}
+use mathlib.Core.Path.{_≡_, sym, subst, subst₂, ap}
+use mathlib.Core.Bool.{true, false, not}
+use native.Mathlib.Omega.{arith}
+use borrow.Author.Tests.{ltb-true}
+use lib.IntN.{ℤ, pos, natAbs, _+ℤ_, _-ℤ_, _*ℤ_}
+use lib.Signed.{quotZ, remZ}
 use Rattle.numbers.specs.ProductLaws.{mul-add, mul-sub}
+use Rattle.numbers.specs.Nearest.{Nearest}
 use Rattle.numbers.specs.Truncate.{Truncated}
-use Rattle.numbers.specs.Floor.{Floor, floorZ}
-use Rattle.numbers.proofs.Statements.{truncate-is, floor-is}
-use Rattle.answers.specs.Laws.{held-count}
-use Rattle.time.specs.Instant.{instant}
-use Rattle.time.specs.FramesLaws.{held-nearest}
+use Rattle.numbers.specs.Floor.{Floor}
+use Rattle.numbers.proofs.Statements.{nearest-is, truncate-is, floor-is}
+use Rattle.answers.specs.declared.Refusal.{Refusal}
+use Rattle.answers.specs.OrderLaws.{unless-told, not-in}
+use Rattle.timecodes.specs.declared.Timecode.{Timecode}
+use Rattle.timecodes.specs.Timecode.{recounted}
+use Rattle.timecodes.specs.Admitted.{admitsBoth}
+use Rattle.timecodes.specs.AdmittedLaws.{at-told}
+use Rattle.timecodes.specs.Instant.{instant}
+use Rattle.time.specs.Bounds.{mostFactor, isFraction}
+use Rattle.time.specs.BoundsLaws.{isFraction-told}
+use Rattle.arithmetic.specs.declared.Compared.the-variants.{Order, Refused}
+use Rattle.arithmetic.specs.Product.{productOf, mulWhen, mulOf}
+use Rattle.arithmetic.specs.Divisor.{isDivisor}
+use Rattle.arithmetic.specs.Truncating.{divWhen, divOf, remOf}
+use Rattle.arithmetic.specs.Flooring.{flooredOf, divqWhen, divqOf}
+use Rattle.arithmetic.specs.Remainder.{leftOf, remqWhen, remqOf}
+use Rattle.arithmetic.specs.Compare.{orderOf, compareOf}
 use Rattle.arithmetic.specs.Statements.{SumNearest, DifferenceNearest, SumExact, DifferenceExact, ProductNearest, QuotientRemainder, QuotientFloor, RemainderNearest, Ordered, CompareIsOrder}
-use Rattle.arithmetic.proofs.Told.{mul-told, div-told, rem-told, divq-told, remq-told, compare-told}
 use Rattle.arithmetic.proofs.Orders.{order-is}
 use Rattle.arithmetic.proofs.Joined.{joined-nearest, joined-exact}
 
@@ -27,27 +44,49 @@ sum-exact a b = joined-exact _+ℤ_ a b mul-add
 pub difference-exact : DifferenceExact
 difference-exact a b = joined-exact _-ℤ_ a b mul-sub
 
+-- what a factor and a divisor that passed tell
+factor-pos : (p : ℤ) (q : ℕ) → not (isFraction mostFactor p q) ≡ false → 0 < q
+factor-pos p q h = isFraction-told mostFactor p q (not-in (isFraction mostFactor p q) h) .least
+
+divisor-pos : (n : ℤ) → not (isDivisor n) ≡ false → 0 < natAbs n
+divisor-pos n h = ltb-true 0 (natAbs n) (not-in (isDivisor n) h)
+
 pub product-nearest : ProductNearest
-product-nearest tc p k q h =
-    let told = mul-told tc p k q h in
-    held-nearest (tc .count *ℤ p) k q (told .0) (told .1)
+unfolding mulOf
+product-nearest tc end p q h =
+    let told = at-told (mulWhen tc p q) (recounted tc (productOf (tc .count) p q)) end h in
+    subst (λ (k : Timecode). Nearest (tc .count *ℤ p) q (k .count)) (told .1)
+    (nearest-is (tc .count *ℤ p) q (factor-pos p q (told .0 .1 .1 .0)))
 
 pub quotient-remainder : QuotientRemainder
-quotient-remainder tc n k r h g =
-    let told = div-told tc n k h in
-    subst₂ (λ (u v : ℤ). Truncated (tc .count) n u v) (sym (told .1)) (sym (rem-told tc n r g)) (truncate-is (tc .count) n (told .0))
+unfolding divOf remOf
+quotient-remainder tc quotient rest n h g =
+    let told = at-told (divWhen tc n) (recounted tc (quotZ (tc .count) n)) quotient h in
+    let left = at-told (divWhen tc n) (recounted tc (remZ (tc .count) n)) rest g in
+    subst₂ (λ (u v : Timecode). Truncated (tc .count) n (u .count) (v .count)) (told .1) (left .1)
+    (truncate-is (tc .count) n (divisor-pos n (told .0 .1 .1 .0)))
 
 pub quotient-floor : QuotientFloor
-quotient-floor tc p k q h =
-    let told = divq-told tc p k q h in
-    let x = tc .count *ℤ pos q in
-    subst (Floor x p) (sym (held-count (floorZ x p) k (told .1) .0)) (floor-is x p (told .0))
+unfolding divqOf
+quotient-floor tc end p q h =
+    let told = at-told (divqWhen tc p q) (recounted tc (flooredOf (tc .count) p q)) end h in
+    subst (λ (k : Timecode). Floor (tc .count *ℤ pos q) p (k .count)) (told .1)
+    (floor-is (tc .count *ℤ pos q) p (divisor-pos p (told .0 .1 .1 .1 .0)))
 
 pub remainder-nearest : RemainderNearest
-remainder-nearest tc p k q h =
-    let told = remq-told tc p k q h in
-    held-nearest (remZ (tc .count *ℤ pos q) p) k q (told .0) (told .1)
+unfolding remqOf
+remainder-nearest tc end p q h =
+    let told = at-told (remqWhen tc p q) (recounted tc (leftOf (tc .count) p q)) end h in
+    subst (λ (k : Timecode). Nearest (remZ (tc .count *ℤ pos q) p) q (k .count)) (told .1)
+    (nearest-is (remZ (tc .count *ℤ pos q) p) q (factor-pos p q (told .0 .1 .1 .0)))
+
+-- an order is no refusal
+order-apart : (o : ℤ) (e : Refusal) → Refused e ≡ Order o → ⊥
+order-apart o e h = let clash : _≡_ {A = ℕ} 0 1 = cc in omega arith
 
 pub compare-is-order : CompareIsOrder
+unfolding compareOf
 compare-is-order a b o h =
-    subst (Ordered (instant a) (instant b)) (sym (compare-told a b o h)) (order-is (instant a) (instant b))
+    let told = unless-told Refused (admitsBoth a b) (Order (orderOf (instant a) (instant b))) (Order o) (order-apart o) h .1 in
+    let same : orderOf (instant a) (instant b) ≡ o = cc in
+    subst (Ordered (instant a) (instant b)) same (order-is (instant a) (instant b))

@@ -1,4 +1,4 @@
--- What holds of arithmetic beyond one call: each answer is what it is meant to be. Proofs: proofs/Statements.antt.
+-- What holds of arithmetic beyond one call (BEHAVIOUR: Arithmetic): each answer is what it is meant to be. Proofs: proofs/Statements.antt.
 -- Assumes nothing.
 use Prim.Native.Nat.{ℕ}
 use mathlib.Core.Path.{_≡_}
@@ -8,10 +8,13 @@ use lib.Signed.{_<ℤ_, remZ}
 use Rattle.numbers.specs.Nearest.{Nearest}
 use Rattle.numbers.specs.Truncate.{Truncated}
 use Rattle.numbers.specs.Floor.{Floor}
-use Rattle.answers.specs.declared.Counted.the-variants.{Count}
 use Rattle.answers.specs.Refusals.{held}
-use Rattle.rates.specs.declared.Timecode.{Timecode}
-use Rattle.time.specs.Instant.{frameTicks, instant, Bounded}
+use Rattle.rates.specs.Rates.{frameTicks}
+use Rattle.timecodes.specs.declared.Timecode.{Timecode}
+use Rattle.timecodes.specs.declared.Answer.the-variants.{At}
+use Rattle.timecodes.specs.Timecode.{movedTo}
+use Rattle.timecodes.specs.Admitted.{Valid}
+use Rattle.timecodes.specs.Instant.{instant}
 use Rattle.arithmetic.specs.declared.Compared.the-variants.{Order}
 use Rattle.arithmetic.specs.Sum.{addOf, subOf}
 use Rattle.arithmetic.specs.Product.{mulOf}
@@ -24,37 +27,46 @@ use Rattle.arithmetic.specs.Compare.{compareOf}
 
 -- a sum of two timecodes is the frame of the left one's rate that is nearest to the exact instant
 abbrev pub SumNearest : Type 0
-SumNearest = (a b : Timecode) (k : ℤ) → addOf a b ≡ Count k → Nearest (instant a +ℤ instant b) (frameTicks (a .rate)) k
+SumNearest =
+    (a b end : Timecode) → addOf a b ≡ At end
+    → (end .rate ≡ a .rate) × Nearest (instant a +ℤ instant b) (frameTicks (a .rate)) (end .count)
 
 -- and a difference likewise
 abbrev pub DifferenceNearest : Type 0
-DifferenceNearest = (a b : Timecode) (k : ℤ) → subOf a b ≡ Count k → Nearest (instant a -ℤ instant b) (frameTicks (a .rate)) k
+DifferenceNearest =
+    (a b end : Timecode) → subOf a b ≡ At end
+    → (end .rate ≡ a .rate) × Nearest (instant a -ℤ instant b) (frameTicks (a .rate)) (end .count)
 
--- at one rate they are those of the counts
+-- at one rate a sum is that of the counts
 abbrev pub SumExact : Type 0
-SumExact = (a b : Timecode) → Bounded a → Bounded b → a .rate ≡ b .rate → addOf a b ≡ held (a .count +ℤ b .count)
+SumExact =
+    (a b : Timecode) → Valid a → Valid b → a .rate ≡ b .rate → addOf a b ≡ movedTo a (a .rate) (held (a .count +ℤ b .count))
 
+-- and a difference that of the counts
 abbrev pub DifferenceExact : Type 0
-DifferenceExact = (a b : Timecode) → Bounded a → Bounded b → a .rate ≡ b .rate → subOf a b ≡ held (a .count -ℤ b .count)
+DifferenceExact =
+    (a b : Timecode) → Valid a → Valid b → a .rate ≡ b .rate → subOf a b ≡ movedTo a (a .rate) (held (a .count -ℤ b .count))
 
 -- a product with p/q is the count nearest to the exact one
 abbrev pub ProductNearest : Type 0
-ProductNearest = (tc : Timecode) (p k : ℤ) (q : ℕ) → mulOf tc p q ≡ Count k → Nearest (tc .count *ℤ p) q k
+ProductNearest = (tc end : Timecode) (p : ℤ) (q : ℕ) → mulOf tc p q ≡ At end → Nearest (tc .count *ℤ p) q (end .count)
 
 -- ---- divisions
 
 -- integer division truncates: quotient times n plus remainder is the count, and the remainder is smaller than n and has the count's sign
 abbrev pub QuotientRemainder : Type 0
-QuotientRemainder = (tc : Timecode) (n k r : ℤ) → divOf tc n ≡ Count k → remOf tc n ≡ Count r → Truncated (tc .count) n k r
+QuotientRemainder =
+    (tc quotient rest : Timecode) (n : ℤ) → divOf tc n ≡ At quotient → remOf tc n ≡ At rest
+    → Truncated (tc .count) n (quotient .count) (rest .count)
 
 -- division by p/q floors: the answer is the largest count that is not above the exact quotient
 abbrev pub QuotientFloor : Type 0
-QuotientFloor = (tc : Timecode) (p k : ℤ) (q : ℕ) → divqOf tc p q ≡ Count k → Floor (tc .count *ℤ pos q) p k
+QuotientFloor = (tc end : Timecode) (p : ℤ) (q : ℕ) → divqOf tc p q ≡ At end → Floor (tc .count *ℤ pos q) p (end .count)
 
 -- its remainder is the count nearest to (f x q rem p)/q
 abbrev pub RemainderNearest : Type 0
 RemainderNearest =
-    (tc : Timecode) (p k : ℤ) (q : ℕ) → remqOf tc p q ≡ Count k → Nearest (remZ (tc .count *ℤ pos q) p) q k
+    (tc end : Timecode) (p : ℤ) (q : ℕ) → remqOf tc p q ≡ At end → Nearest (remZ (tc .count *ℤ pos q) p) q (end .count)
 
 -- ---- comparison
 

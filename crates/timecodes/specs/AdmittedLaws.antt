@@ -1,6 +1,6 @@
 -- What the admission of a timecode tells, and what follows where it is admitted.
 -- Assumes nothing.
-use mathlib.Core.Path.{_≡_, refl}
+use mathlib.Core.Path.{_≡_, refl, sym, _∙_}
 use mathlib.Core.Bool.{true, false}
 use mathlib.Core.List.{List, [], _∷_, _++_}
 use Prim.Native.Nat.{ℕ, _≤_}
@@ -9,8 +9,9 @@ use borrow.Author.Tests.{leb-true}
 use lib.IntN.{ℤ, natAbs}
 use Rattle.answers.specs.declared.Refusal.{Refusal}
 use Rattle.answers.specs.declared.Counted.the-variants as counted
-use Rattle.answers.specs.Order.{Condition, unless, Clear}
-use Rattle.answers.specs.OrderLaws.{unless-map, unless-clear, unless-told, not-in, in-not}
+use Rattle.answers.specs.declared.Verdict.the-variants as verdict
+use Rattle.answers.specs.Order.{Condition, unless, judged, Clear}
+use Rattle.answers.specs.OrderLaws.{judged-refused, judged-clear, unless-map, unless-append, unless-clear, unless-told, not-in, in-not}
 use Rattle.answers.specs.Refusals.{mostCount, badCount, held}
 use Rattle.timecodes.specs.declared.Timecode.{Timecode}
 use Rattle.timecodes.specs.declared.Answer.{Answer}
@@ -56,6 +57,23 @@ placed-held rate count = placed-unless rate (badCount count ∷ []) count
 pub moved-held : (tc : Timecode) (rate : ℕ) (count : ℤ) → movedTo tc rate (held count) ≡ unless Refused (badCount count ∷ []) (At (moved tc count rate))
 unfolding held
 moved-held tc rate count = moved-unless tc rate (badCount count ∷ []) count
+
+-- ---- an operation: its timecodes are admitted, then counts are worked on
+
+-- what is admitted is counted, behind more conditions
+pub operated : (conditions more : List Condition) (tc : Timecode) (rate : ℕ) (count : ℤ) → judged conditions ≡ verdict.Passed
+    → movedTo tc rate (unless counted.Refused more (counted.Count count)) ≡ unless Refused (conditions ++ more) (At (moved tc count rate))
+operated conditions more tc rate count h =
+    moved-unless tc rate more count
+    ∙ sym
+    (unless-append Refused conditions more (At (moved tc count rate))
+    ∙ unless-clear Refused conditions (unless Refused more (At (moved tc count rate))) (judged-clear conditions h))
+
+-- what is not admitted is refused, whatever comes behind
+pub not-operated : (conditions more : List Condition) (answer : Answer) (e : Refusal) → judged conditions ≡ verdict.Refused e
+    → unless Refused (conditions ++ more) answer ≡ Refused e
+not-operated conditions more answer e h =
+    unless-append Refused conditions more answer ∙ judged-refused conditions e h Refused (unless Refused more answer)
 
 -- ---- what an answer tells
 

@@ -1,82 +1,64 @@
--- `arithmetic::abs` meets its contract: the magnitude of a bounded count fits.
+-- `arithmetic::abs` meets its contract: what is admitted is counted, and what is refused is refused.
 -- Assumes nothing.
-use mathlib.Core.Path.{_≡_, _∙_, ap}
-use mathlib.Core.Bool.{true}
-use native.Mathlib.Omega.{arith}
+use mathlib.Core.Path.{_≡_, sym, _∙_, ap}
 use borrow.Author.Needs.{needs}
-use lib.IntN.{pos, natAbs}
+use mathlib.Core.List.{[]}
+use lib.IntN.{ℤ, pos, natAbs}
 use mir.Syntax.{w64}
 use mir.Val.{toZ, ofZ}
-use mir.Facts.{toZ-ofZ}
-use Rattle.answers.specs.declared.Counted.the-variants.{Count}
-use Rattle.answers.specs.Refusals.{isCount}
-use Rattle.rates.specs.Rates.{isRate}
-use Rattle.time.specs.Instant.{Bounded}
-use Rattle.time.specs.InstantLaws.{count-most}
-use Rattle.time.proofs.Guards.{fails, passes}
+use Rattle.answers.specs.declared.Verdict.the-variants as verdict
+use Rattle.answers.specs.Order.{judged}
+use Rattle.answers.specs.OrderLaws.{judged-clear}
+use Rattle.timecodes.specs.Timecode.{movedTo}
+use Rattle.timecodes.specs.Admitted.{admits}
+use Rattle.timecodes.specs.AdmittedLaws.{admits-valid, valid-count-le, operated, not-operated}
 use Rattle.arithmetic.specs.Count.{absOf}
+use Rattle.answers.specs.declared.Counted.the-variants.{Count}
 use Rattle.arithmetic.proofs.abs.Statement.{statement}
 use Rattle.arithmetic.proofs.abs.Tie as tie
 
-is-rate-requires : tie.Need-is-rate-requires
-is-rate-requires c κs = search needs
+admit-requires : tie.Need-admit-requires
+admit-requires c κs = search needs
+
+enum-told : tie.Need-enum-told
+enum-told c = search needs
+
+passed : (c : tie.After-enum-told) → judged (admits (c .before .before .before .args .tc)) ≡ verdict.Passed
+passed c = sym (c .before .before .admit .ensures) ∙ c .enum-told .given .1
+
+-- the count, as the machine reads it
+count-is : (c : tie.After-struct-told)
+    → toZ w64 (ofZ w64 (c .before .before .before .before .args .tc .count)) ≡ c .before .before .before .before .args .tc .count
+count-is c = search needs
+
+absolute-requires : tie.Need-absolute-requires
+absolute-requires c κs =
+    let tc = c .before .before .before .before .args .tc in
+    rw (count-is c) (valid-count-le tc (admits-valid tc (judged-clear (admits tc) (passed (c .before)))))
+
+moved-requires : tie.Need-moved-requires
+moved-requires c κs = search needs
+
+enum-known-e : tie.Need-enum-known-e
+enum-known-e c = search needs
 
 returns : tie.Need-returns
 unfolding absOf
-returns c = simp (fails (c .before .is-rate .ensures) (c .if1 .taken))
-
--- behind the rate's test
-abbrev start1 : tie.Else1 → tie.Start
-start1 c = c .before .before
-
-rated : (c : tie.Else1) → isRate (start1 c .args .tc .rate) ≡ true
-rated c = passes (c .before .is-rate .ensures) (c .if1 .left)
-
--- the count, as the machine reads it
-count-is : (c : tie.After-struct-told) → toZ w64 (ofZ w64 (start1 (c .before) .args .tc .count)) ≡ start1 (c .before) .args .tc .count
-count-is c = search needs
-
-is-count-requires : tie.Need-is-count-requires
-is-count-requires c κs = search needs
-
-told : (c : tie.After-is-count) → c .is-count .result ≡ isCount (start1 (c .before .before) .args .tc .count)
-told c = c .is-count .ensures ∙ ap isCount (count-is (c .before))
+returns c =
+    let p = c .before in
+    let s = p .before .before .before .before .before in
+    let tc = s .args .tc in
+    c .moved .ensures
+    ∙ ap (movedTo tc (tc .rate)) (p .absolute .ensures ∙ ap (λ (z : ℤ). Count (pos (natAbs z))) (count-is (p .before)))
+    ∙ operated (admits tc) [] tc (tc .rate) (pos (natAbs (tc .count))) (passed (p .before .before))
 
 returns-2 : tie.Need-returns-2
 unfolding absOf
-returns-2 c = simp (rated (c .before .before .before), fails (told (c .before)) (c .if2 .taken))
-
--- behind the count's test
-abbrev start2 : tie.Else2 → tie.Start
-start2 c = start1 (c .before .before .before)
-
-bounded : (c : tie.Else2) → Bounded (start2 c .args .tc)
-bounded c = record { rate = rated (c .before .before .before); count = passes (told (c .before)) (c .if2 .left) }
-
-magnitude-requires : tie.Need-magnitude-requires
-magnitude-requires c κs = search needs
-
-m-is : (c : tie.After-magnitude) → c .magnitude .result ≡ natAbs (start2 (c .before .before) .args .tc .count)
-m-is c = c .magnitude .ensures ∙ ap natAbs (count-is (c .before .before .before .before))
-
-with-sign-requires : tie.Need-with-sign-requires
-with-sign-requires c κs = omega (arith, m-is c, count-most _ (bounded (c .before .before)))
-
-returns-3 : tie.Need-returns-3
-unfolding absOf
-returns-3 c =
-    let b = bounded (c .before .before .before) in
-    simp (b .rate, b .count)
-    (ap Count (toZ-ofZ (record { sfits = c .with-sign .ok }) ∙ c .with-sign .ensures ∙ ap pos (m-is (c .before))))
+returns-2 c =
+    let tc = c .before .before .before .before .args .tc in
+    sym (not-operated (admits tc) [] _ _ (sym (c .before .before .before .admit .ensures) ∙ c .before .e .given .1))
 
 pub abs-spec : {M : Type 1} → statement M
 abs-spec =
     tie.close
-    (tie.spec
-    is-rate-requires
-    returns
-    is-count-requires
-    returns-2
-    magnitude-requires
-    with-sign-requires
-    returns-3)
+    (tie.spec admit-requires enum-told absolute-requires moved-requires enum-known-e returns returns-2)

@@ -1,59 +1,77 @@
--- `arithmetic::cmp` meets its contract: the order is that of the two instants.
+-- `arithmetic::cmp` meets its contract: what is admitted has instants, and what is refused is refused.
 -- Assumes nothing.
 use mathlib.Core.Path.{_≡_, sym, _∙_, ap, ap₂}
 use borrow.Author.Needs.{needs}
-use mir.Syntax.{w64}
-use mir.Val.{toZ, ofZ}
 use mir.Facts.{toZ-ofZ}
-use Rattle.arithmetic.specs.declared.Paired.the-variants.{Instants}
-use Rattle.arithmetic.specs.declared.Compared.the-variants.{Order}
-use Rattle.arithmetic.specs.Pair.{instantsOf}
+use Rattle.answers.specs.declared.Verdict.the-variants as verdict
+use Rattle.answers.specs.Order.{judged, Clear}
+use Rattle.answers.specs.OrderLaws.{judged-refused, judged-clear, unless-clear}
+use Rattle.timecodes.specs.Admitted.{admitsBoth}
+use Rattle.timecodes.specs.AdmittedLaws.{admitsBoth-left, admitsBoth-right}
+use Rattle.timecodes.specs.Instant.{instant}
+use Rattle.timecodes.specs.InstantLaws.{instantIn-valid}
+use Rattle.arithmetic.specs.declared.Compared.the-variants.{Order, Refused}
 use Rattle.arithmetic.specs.Compare.{orderOf, compareOf}
 use Rattle.arithmetic.proofs.cmp.Statement.{statement}
 use Rattle.arithmetic.proofs.cmp.Tie as tie
 
-instants-requires : tie.Need-instants-requires
-instants-requires c κs = search needs
+admit-both-requires : tie.Need-admit-both-requires
+admit-both-requires c κs = search needs
 
-enum-known-both : tie.Need-enum-known-both
-enum-known-both c = search needs
+enum-told : tie.Need-enum-told
+enum-told c = search needs
 
--- the arm with both instants, and what they are
-known : (c : tie.After-both) → instantsOf (c .before .before .before .args .a) (c .before .before .before .args .b) ≡ Instants (c .both .given .0 .0) (c .both .given .0 .1 .0)
-known c = sym (c .before .before .instants .ensures) ∙ c .both .given .1
+clear : (c : tie.After-enum-told) → let s = c .before .before .before in Clear (admitsBoth (s .args .a) (s .args .b))
+clear c =
+    let s = c .before .before .before .args in
+    judged-clear (admitsBoth (s .a) (s .b)) (sym (c .before .before .admit-both .ensures) ∙ c .enum-told .given .1)
 
-x-back : (c : tie.After-known-told) → toZ w64 (ofZ w64 (c .before .both .given .0 .0)) ≡ c .before .both .given .0 .0
-x-back c = search needs
+instant-of-requires : tie.Need-instant-of-requires
+instant-of-requires c κs = search needs
 
-y-back : (c : tie.After-known-told) → toZ w64 (ofZ w64 (c .before .both .given .0 .1 .0)) ≡ c .before .both .given .0 .1 .0
-y-back c = search needs
+instant-of-requires-2 : tie.Need-instant-of-requires-2
+instant-of-requires-2 c κs = search needs
 
 order-requires : tie.Need-order-requires
 order-requires c κs = search needs
 
+enum-known-e : tie.Need-enum-known-e
+enum-known-e c = search needs
+
 returns : tie.Need-returns
 unfolding compareOf
 returns c =
-    simp (known (c .before .before))
-    (ap Order
+    let y = c .before in
+    let x = y .before in
+    let t = x .before in
+    let a = t .before .before .before .args .a in
+    let b = t .before .before .before .args .b in
+    let h = clear t in
+    ap Order
     (toZ-ofZ (record { sfits = c .order .ok })
     ∙ c .order .ensures
-    ∙ ap₂ orderOf (x-back (c .before)) (y-back (c .before))))
-
-enum-known-both-2 : tie.Need-enum-known-both-2
-enum-known-both-2 c = search needs
+    ∙ ap₂ orderOf
+    (toZ-ofZ (record { sfits = x .instant-of .ok }) ∙ x .instant-of .ensures ∙ instantIn-valid a (admitsBoth-left a b h))
+    (toZ-ofZ (record { sfits = y .instant-of2 .ok }) ∙ y .instant-of2 .ensures ∙ instantIn-valid b (admitsBoth-right a b h)))
+    ∙ sym (unless-clear Refused (admitsBoth a b) (Order (orderOf (instant a) (instant b))) h)
 
 returns-2 : tie.Need-returns-2
 unfolding compareOf
-returns-2 c = simp (sym (c .before .before .before .instants .ensures) ∙ c .before .both2 .given .1)
+returns-2 c =
+    let s = c .before .before .before .before in
+    sym
+    (judged-refused (admitsBoth (s .args .a) (s .args .b)) _ (sym (c .before .before .before .admit-both .ensures) ∙ c .before .e .given .1)
+    Refused (Order (orderOf (instant (s .args .a)) (instant (s .args .b)))))
 
 pub cmp-spec : {M : Type 1} → statement M
 cmp-spec =
     tie.close
     (tie.spec
-    instants-requires
-    enum-known-both
+    admit-both-requires
+    enum-told
+    instant-of-requires
+    instant-of-requires-2
     order-requires
-    enum-known-both-2
+    enum-known-e
     returns
     returns-2)

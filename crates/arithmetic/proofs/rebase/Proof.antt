@@ -1,12 +1,18 @@
--- `arithmetic::rebase` meets its contract: behind the test of the new rate, it is the count at the old one.
+-- `arithmetic::rebase` meets its contract: behind the test of the new rate, what is admitted keeps its count.
 -- Assumes nothing.
-use mathlib.Core.Path.{_≡_, _∙_, ap}
+use mathlib.Core.Path.{_≡_, sym, _∙_, ap}
+use mathlib.Core.Bool.{true}
+use mathlib.Core.List.{[]}
 use borrow.Author.Needs.{needs}
 use lib.IntN.{ℤ}
 use mir.Syntax.{w64}
 use mir.Val.{toZ, ofZ}
-use Rattle.time.specs.Frames.{framesAt}
-use Rattle.time.proofs.Guards.{fails, passes}
+use Rattle.numbers.proofs.Tests.{fails, passes}
+use Rattle.answers.specs.declared.Counted.the-variants.{Count}
+use Rattle.rates.specs.Rates.{isRate}
+use Rattle.timecodes.specs.Timecode.{movedTo}
+use Rattle.timecodes.specs.Admitted.{admits}
+use Rattle.timecodes.specs.AdmittedLaws.{operated, not-operated}
 use Rattle.arithmetic.specs.Count.{rebaseOf}
 use Rattle.arithmetic.proofs.rebase.Statement.{statement}
 use Rattle.arithmetic.proofs.rebase.Tie as tie
@@ -18,16 +24,45 @@ returns : tie.Need-returns
 unfolding rebaseOf
 returns c = simp (fails (c .before .is-rate .ensures) (c .if1 .taken))
 
-with-frames-requires : tie.Need-with-frames-requires
-with-frames-requires c κs = search needs
+rated : (c : tie.Else1) → isRate (c .before .before .args .rate) ≡ true
+rated c = passes (c .before .is-rate .ensures) (c .if1 .left)
+
+admit-requires : tie.Need-admit-requires
+admit-requires c κs = search needs
+
+enum-told : tie.Need-enum-told
+enum-told c = search needs
+
+-- the count, as the machine reads it
+count-is : (c : tie.After-struct-told) → let tc = c .before .before .before .before .before .before .args .tc in
+    toZ w64 (ofZ w64 (tc .count)) ≡ tc .count
+count-is c = search needs
+
+moved-requires : tie.Need-moved-requires
+moved-requires c κs = search needs
+
+enum-known-e : tie.Need-enum-known-e
+enum-known-e c = search needs
 
 returns-2 : tie.Need-returns-2
-unfolding rebaseOf framesAt
+unfolding rebaseOf
 returns-2 c =
-    let s = c .before .before .before .before in
-    let back : toZ w64 (ofZ w64 (s .args .tc .count)) ≡ s .args .tc .count = search needs in
-    simp (passes (c .before .before .before .is-rate .ensures) (c .before .before .if1 .left))
-    (c .with-frames .ensures ∙ ap (λ (z : ℤ). framesAt z (s .args .tc .rate)) back)
+    let t = c .before .before in
+    let e = t .before .before .before in
+    let tc = e .before .before .args .tc in
+    let rate = e .before .before .args .rate in
+    simp (rated e)
+    (c .moved .ensures
+    ∙ ap (λ (z : ℤ). movedTo tc rate (Count z)) (count-is (c .before))
+    ∙ operated (admits tc) [] tc rate (tc .count) (sym (t .before .before .admit .ensures) ∙ t .enum-told .given .1))
+
+returns-3 : tie.Need-returns-3
+unfolding rebaseOf
+returns-3 c =
+    let m = c .before .before .before in
+    let e = m .before in
+    let tc = e .before .before .args .tc in
+    simp (rated e) (sym (not-operated (admits tc) [] _ _ (sym (m .admit .ensures) ∙ c .before .e .given .1)))
 
 pub rebase-spec : {M : Type 1} → statement M
 rebase-spec =
@@ -35,5 +70,9 @@ rebase-spec =
     (tie.spec
     is-rate-requires
     returns
-    with-frames-requires
-    returns-2)
+    admit-requires
+    enum-told
+    moved-requires
+    enum-known-e
+    returns-2
+    returns-3)

@@ -1,6 +1,8 @@
--- `arithmetic::sub` meets its contract: two bounded instants have a difference that fits, rounded once.
+-- `arithmetic::sub` meets its contract: what is admitted has instants, and what is refused is refused.
 -- Assumes nothing.
+use Prim.Native.Nat.{ℕ}
 use mathlib.Core.Path.{_≡_, sym, _∙_, ap, ap₂}
+use mathlib.Core.List.{[], _∷_}
 use native.Mathlib.Omega.{arith}
 use borrow.Author.Needs.{needs}
 use lib.IntN.{ℤ, _-ℤ_}
@@ -8,72 +10,91 @@ use mir.Syntax.{w64}
 use mir.Val.{toZ, ofZ}
 use mir.Facts.{toZ-ofZ}
 use Rattle.numbers.specs.Nearest.{nearestZ}
-use Rattle.answers.specs.Refusals.{held}
-use Rattle.time.specs.Instant.{frameTicks}
-use Rattle.time.specs.InstantLaws.{instant-most}
-use Rattle.time.specs.FramesLaws.{ticks-rated}
-use Rattle.arithmetic.specs.declared.Paired.the-variants.{Instants}
-use Rattle.arithmetic.specs.Pair.{instantsOf}
-use Rattle.arithmetic.specs.PairLaws.{Told, instants-told}
-use Rattle.arithmetic.specs.Sum.{joined}
+use Rattle.answers.specs.declared.Verdict.the-variants as verdict
+use Rattle.answers.specs.Order.{judged}
+use Rattle.answers.specs.OrderLaws.{judged-clear}
+use Rattle.answers.specs.Refusals.{badCount, held}
+use Rattle.rates.specs.Rates.{frameTicks}
+use Rattle.timecodes.specs.Timecode.{movedTo}
+use Rattle.timecodes.specs.Admitted.{admitsBoth, Valid}
+use Rattle.timecodes.specs.AdmittedLaws.{admitsBoth-left, admitsBoth-right, operated, not-operated}
+use Rattle.timecodes.specs.Instant.{instant}
+use Rattle.timecodes.specs.InstantLaws.{instant-abs-le, instantIn-valid}
+use Rattle.arithmetic.specs.Sum.{joinedFrame, joined}
 use Rattle.arithmetic.proofs.sub.Statement.{statement}
 use Rattle.arithmetic.proofs.sub.Tie as tie
 
-instants-requires : tie.Need-instants-requires
-instants-requires c κs = search needs
+admit-both-requires : tie.Need-admit-both-requires
+admit-both-requires c κs = search needs
 
-enum-known-both : tie.Need-enum-known-both
-enum-known-both c = search needs
+enum-told : tie.Need-enum-told
+enum-told c = search needs
 
--- the arm with both instants, and what they are
-known : (c : tie.After-both) → instantsOf (c .before .before .before .args .a) (c .before .before .before .args .b) ≡ Instants (c .both .given .0 .0) (c .both .given .0 .1 .0)
-known c = sym (c .before .before .instants .ensures) ∙ c .both .given .1
+passed : (c : tie.After-enum-told) → let s = c .before .before .before in judged (admitsBoth (s .args .a) (s .args .b)) ≡ verdict.Passed
+passed c = sym (c .before .before .admit-both .ensures) ∙ c .enum-told .given .1
 
-x-back : (c : tie.After-known-told) → toZ w64 (ofZ w64 (c .before .both .given .0 .0)) ≡ c .before .both .given .0 .0
-x-back c = search needs
+left : (c : tie.After-enum-told) → Valid (c .before .before .before .args .a)
+left c = let s = c .before .before .before .args in admitsBoth-left (s .a) (s .b) (judged-clear (admitsBoth (s .a) (s .b)) (passed c))
 
-y-back : (c : tie.After-known-told) → toZ w64 (ofZ w64 (c .before .both .given .0 .1 .0)) ≡ c .before .both .given .0 .1 .0
-y-back c = search needs
+right : (c : tie.After-enum-told) → Valid (c .before .before .before .args .b)
+right c = let s = c .before .before .before .args in admitsBoth-right (s .a) (s .b) (judged-clear (admitsBoth (s .a) (s .b)) (passed c))
 
-told : (c : tie.After-both) → Told (c .before .before .before .args .a) (c .before .before .before .args .b) (c .both .given .0 .0) (c .both .given .0 .1 .0)
-told c = instants-told _ _ _ _ (known c)
+instant-of-requires : tie.Need-instant-of-requires
+instant-of-requires c κs = search needs
+
+instant-of-requires-2 : tie.Need-instant-of-requires-2
+instant-of-requires-2 c κs = search needs
+
+-- the two instants, as the machine reads them
+x-is : (c : tie.After-instant-of) → toZ w64 (ofZ w64 (c .instant-of .result)) ≡ instant (c .before .before .before .before .args .a)
+x-is c = toZ-ofZ (record { sfits = c .instant-of .ok }) ∙ c .instant-of .ensures ∙ instantIn-valid _ (left (c .before))
+
+y-is : (c : tie.After-instant-of2) → toZ w64 (ofZ w64 (c .instant-of2 .result)) ≡ instant (c .before .before .before .before .before .args .b)
+y-is c = toZ-ofZ (record { sfits = c .instant-of2 .ok }) ∙ c .instant-of2 .ensures ∙ instantIn-valid _ (right (c .before .before))
 
 difference-requires : tie.Need-difference-requires
 difference-requires c κs =
-    let t = told (c .before) in
-    rw (x-back c, y-back c, t .x-is, t .y-is)
-    (omega (arith, instant-most _ (t .left), instant-most _ (t .right)))
+    let t = c .before .before in
+    rw (x-is (c .before), y-is c) (omega (arith, instant-abs-le _ (left t), instant-abs-le _ (right t)))
 
-with-premiere-ticks-requires : tie.Need-with-premiere-ticks-requires
-with-premiere-ticks-requires c κs = search needs
+moved-requires : tie.Need-moved-requires
+moved-requires c κs = search needs
+
+enum-known-e : tie.Need-enum-known-e
+enum-known-e c = search needs
 
 returns : tie.Need-returns
-unfolding joined
+unfolding joined held
 returns c =
-    let a = c .before .before .before .before .before .before .args .a in
-    simp (known (c .before .before .before))
-    (c .with-premiere-ticks .ensures
-    ∙ ticks-rated _ (a .rate) (told (c .before .before .before) .left .rate)
-    ∙ ap (λ (z : ℤ). held (nearestZ z (frameTicks (a .rate))))
-    (toZ-ofZ (record { sfits = c .before .difference .ok })
-    ∙ c .before .difference .ensures
-    ∙ ap₂ _-ℤ_ (x-back (c .before .before)) (y-back (c .before .before))))
-
-enum-known-both-2 : tie.Need-enum-known-both-2
-enum-known-both-2 c = search needs
+    let m = c .before in
+    let t = m .before .before .before in
+    let a = t .before .before .before .args .a in
+    let b = t .before .before .before .args .b in
+    c .moved .ensures
+    ∙ ap (movedTo a (a .rate))
+    (m .difference .ensures ∙ ap₂ (λ (x y : ℤ). held (nearestZ (x -ℤ y) (frameTicks (a .rate)))) (x-is (m .before .before)) (y-is (m .before)))
+    ∙ operated (admitsBoth a b) (badCount (joinedFrame _-ℤ_ a b) ∷ []) a (a .rate) (joinedFrame _-ℤ_ a b) (passed t)
 
 returns-2 : tie.Need-returns-2
 unfolding joined
-returns-2 c = simp (sym (c .before .before .before .instants .ensures) ∙ c .before .both2 .given .1)
+returns-2 c =
+    let s = c .before .before .before .before in
+    let a = s .args .a in
+    let b = s .args .b in
+    sym
+    (not-operated (admitsBoth a b) (badCount (joinedFrame _-ℤ_ a b) ∷ []) _ _
+    (sym (c .before .before .before .admit-both .ensures) ∙ c .before .e .given .1))
 
 pub sub-spec : {M : Type 1} → statement M
 sub-spec =
     tie.close
     (tie.spec
-    instants-requires
-    enum-known-both
+    admit-both-requires
+    enum-told
+    instant-of-requires
+    instant-of-requires-2
     difference-requires
-    with-premiere-ticks-requires
-    enum-known-both-2
+    moved-requires
+    enum-known-e
     returns
     returns-2)

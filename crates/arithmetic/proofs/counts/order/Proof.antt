@@ -1,4 +1,4 @@
--- `arithmetic::order` meets its contract: each return is the definition, rewritten by the tests that led there.
+-- `arithmetic::counts::order` meets its contract: each return is the definition, rewritten by the tests that led there.
 -- Assumes nothing.
 use mathlib.Core.Path.{_≡_, sym, _∙_, ap₂}
 use mathlib.Core.Bool.{false}
@@ -7,8 +7,8 @@ use mir.Syntax.{w64}
 use mir.Val.{toZ, ofZ}
 use mir.Facts.{toZ-ofZ}
 use Rattle.arithmetic.specs.Compare.{orderOf}
-use Rattle.arithmetic.proofs.order.Statement.{statement}
-use Rattle.arithmetic.proofs.order.Tie as tie
+use Rattle.arithmetic.proofs.counts.order.Statement.{statement}
+use Rattle.arithmetic.proofs.counts.order.Tie as tie
 
 -- the tests are of the numbers themselves
 below : (c : tie.Start) → ltZ (c .args .x) (c .args .y) ≡ ltZ (toZ w64 (ofZ w64 (c .args .x))) (toZ w64 (ofZ w64 (c .args .y)))

@@ -1,0 +1,37 @@
+-- `arithmetic::counts::difference` meets its contract: two instants have a difference that fits, rounded once at the rate's row.
+-- Assumes nothing.
+use Prim.Native.Nat.{ℕ, _+_}
+use mathlib.Core.Path.{_∙_, ap, ap₂}
+use borrow.Author.Needs.{needs}
+use lib.IntN.{ℤ, natAbs, _-ℤ_}
+use mir.Facts.{toZ-ofZ}
+use Rattle.numbers.specs.Nearest.{nearestZ}
+use Rattle.numbers.specs.Total.{fitted, fitted-in}
+use Rattle.answers.specs.Refusals.{held}
+use Rattle.rates.specs.declared.Framerate.{Framerate}
+use Rattle.arithmetic.proofs.counts.difference.Statement.{statement}
+use Rattle.arithmetic.proofs.counts.difference.Tie as tie
+
+row-requires : tie.Need-row-requires
+row-requires c κs = search needs
+
+difference-requires : tie.Need-difference-requires
+difference-requires c κs = search needs
+
+nearest-count-requires : tie.Need-nearest-count-requires
+nearest-count-requires c κs = search needs
+
+returns : tie.Need-returns
+returns c =
+    let r = c .before .before in
+    let s = r .before in
+    c .nearest-count .ensures
+    ∙ ap₂ (λ (z : ℤ) (n : ℕ). held (nearestZ z n))
+    (toZ-ofZ (record { sfits = c .before .difference .ok })
+    ∙ c .before .difference .ensures
+    ∙ ap₂ (λ (x y : ℤ). fitted (natAbs x + natAbs y) (x -ℤ y)) (toZ-ofZ (s .fits .x)) (toZ-ofZ (s .fits .y))
+    ∙ fitted-in _ (s .args .x -ℤ s .args .y) (s .pre))
+    (ap (λ (f : Framerate). f .ticks) (r .row .ensures))
+
+pub difference-spec : {M : Type 1} → statement M
+difference-spec = tie.close (tie.spec row-requires difference-requires nearest-count-requires returns)

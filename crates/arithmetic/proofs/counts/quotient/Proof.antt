@@ -1,0 +1,46 @@
+-- `arithmetic::counts::quotient` meets its contract: the machine truncates, as the definition does.
+-- Assumes nothing.
+use Prim.Native.Nat.{_<_}
+use mathlib.Core.Path.{_≡_, _∙_, ap, ap₂}
+use native.Mathlib.Omega.{arith}
+use borrow.Author.Needs.{needs}
+use borrow.Author.Tests.{lt-ltb, le-ltb}
+use lib.IntN.{ℤ, natAbs}
+use lib.Signed.{quotZ}
+use mir.Facts.{toZ-ofZ}
+use Rattle.numbers.specs.Total.{divided, divided-in}
+use Rattle.answers.specs.declared.Counted.the-variants.{Count}
+use Rattle.arithmetic.specs.Truncating.{quotientCounted}
+use Rattle.arithmetic.proofs.counts.quotient.Statement.{statement}
+use Rattle.arithmetic.proofs.counts.quotient.Tie as tie
+
+magnitude-requires : tie.Need-magnitude-requires
+magnitude-requires c κs = search needs
+
+-- the magnitude that the call gave is that of n itself
+m-is : (c : tie.After-magnitude) → c .magnitude .result ≡ natAbs (c .before .args .n)
+m-is c = rw (toZ-ofZ (c .before .fits .n)) at (c .magnitude .ensures)
+
+returns : tie.Need-returns
+unfolding quotientCounted
+returns c = simp (le-ltb 0 (natAbs (c .before .before .args .n)) (omega (arith, m-is (c .before))))
+
+quotient-requires : tie.Need-quotient-requires
+quotient-requires c κs = search needs
+
+returns-2 : tie.Need-returns-2
+unfolding quotientCounted
+returns-2 c =
+    let s = c .before .before .before in
+    let x = s .args .count in
+    let n = s .args .n in
+    let nonzero : 0 < natAbs n = omega (arith, m-is (c .before .before)) in
+    simp (lt-ltb 0 (natAbs n) nonzero)
+    (ap Count
+    (toZ-ofZ (record { sfits = c .quotient .ok })
+    ∙ c .quotient .ensures
+    ∙ ap₂ (λ (x y : ℤ). divided x y (quotZ x y)) (toZ-ofZ (s .fits .count)) (toZ-ofZ (s .fits .n))
+    ∙ divided-in x n (quotZ x n) (omega (arith, s .pre)) nonzero))
+
+pub quotient-spec : {M : Type 1} → statement M
+quotient-spec = tie.close (tie.spec magnitude-requires returns quotient-requires returns-2)
