@@ -1,4 +1,4 @@
--- Demand 3, a frame's instant carried through any list of rates: the statements, in order. Proofs: proofs/Demand3.antt.
+-- Demand 3, a frame's instant carried through any list of rates (BEHAVIOUR: Chains): the statements, in order. Proofs: proofs/Demand3.antt.
 -- Assumes nothing.
 use mathlib.Core.Path.{_≡_}
 use mathlib.Core.List.{List, [], _∷_, _++_}
@@ -6,16 +6,19 @@ use Prim.Native.Nat.{ℕ, _*_, _≤_}
 use lib.IntN.{pos, natAbs, _-ℤ_}
 use lib.Signed.{_≤ℤ_}
 use Rattle.numbers.specs.Nearest.{Nearest}
-use Rattle.rates.specs.declared.Timecode.{Timecode}
-use Rattle.chains.specs.declared.Converted.the-variants.{At}
-use Rattle.time.specs.Instant.{frameTicks, instant, Bounded}
-use Rattle.chains.specs.Chain.{timecode, convertOf, lastRate, ticksTogether}
+use Rattle.rates.specs.Rates.{frameTicks}
+use Rattle.timecodes.specs.declared.Timecode.{Timecode}
+use Rattle.timecodes.specs.declared.Answer.the-variants.{At}
+use Rattle.timecodes.specs.Timecode.{timecode}
+use Rattle.timecodes.specs.Admitted.{Valid}
+use Rattle.timecodes.specs.Instant.{instant}
+use Rattle.chains.specs.Chain.{convertOf, lastRate, ticksTogether}
 
 -- ---- what a conversion is
 
 -- an empty list of rates gives back the start
 abbrev pub EmptyList : Type 0
-EmptyList = (tc : Timecode) → Bounded tc → convertOf tc [] ≡ At tc
+EmptyList = (tc : Timecode) → Valid tc → convertOf tc [] ≡ At tc
 
 -- through one rate, the end is the nearest frame of that rate, halves away from zero
 abbrev pub StepIsNearest : Type 0

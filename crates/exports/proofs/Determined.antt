@@ -1,31 +1,9 @@
 -- Each public function's contract allows one outcome: two that meet its equations are equal, and an instant has one fraction of seconds.
 -- Assumes nothing.
 use mathlib.Core.Path.{sym, ap, _∙_}
-use Rattle.time.specs.OneLaws.{seconds-one}
-use Rattle.exports.specs.Handed.{timecode, handedSeconds}
+use Rattle.time.specs.SecondsLaws.{seconds-one}
+use Rattle.exports.specs.Handed.{timecodeFrom, handedSeconds}
 use Rattle.outcomes.specs.Outcome.{Determined}
-use Rattle.exports.proofs.handed.timecode as timecode
-use Rattle.exports.proofs.handed.timecode.Reads as timecode-reads
-use Rattle.exports.proofs.handed.handed_count as handed-count
-use Rattle.exports.proofs.handed.handed_count.Reads as handed-count-reads
-use Rattle.exports.proofs.handed.handed_read as handed-read
-use Rattle.exports.proofs.handed.handed_read.Reads as handed-read-reads
-use Rattle.exports.proofs.handed.handed_order as handed-order
-use Rattle.exports.proofs.handed.handed_order.Reads as handed-order-reads
-use Rattle.exports.proofs.handed.handed_ticks as handed-ticks
-use Rattle.exports.proofs.handed.handed_ticks.Reads as handed-ticks-reads
-use Rattle.exports.proofs.handed.handed_seconds as handed-seconds
-use Rattle.exports.proofs.handed.handed_seconds.Reads as handed-seconds-reads
-use Rattle.exports.proofs.handed.handed_timecode as handed-timecode
-use Rattle.exports.proofs.handed.handed_timecode.Reads as handed-timecode-reads
-use Rattle.exports.proofs.handed.handed_sections as handed-sections
-use Rattle.exports.proofs.handed.handed_sections.Reads as handed-sections-reads
-use Rattle.exports.proofs.handed.handed_length as handed-length
-use Rattle.exports.proofs.handed.handed_length.Reads as handed-length-reads
-use Rattle.exports.proofs.handed.handed_rate as handed-rate
-use Rattle.exports.proofs.handed.handed_rate.Reads as handed-rate-reads
-use Rattle.exports.proofs.handed.handed_format as handed-format
-use Rattle.exports.proofs.handed.handed_format.Reads as handed-format-reads
 use Rattle.exports.proofs.reads.tzq_read as tzq-read
 use Rattle.exports.proofs.reads.tzq_read.Reads as tzq-read-reads
 use Rattle.exports.proofs.reads.tzq_read_as as tzq-read-as
@@ -82,39 +60,6 @@ use Rattle.exports.proofs.writes.tzq_write_footage as tzq-write-footage
 use Rattle.exports.proofs.writes.tzq_write_footage.Reads as tzq-write-footage-reads
 use Rattle.exports.proofs.writes.tzq_write_runtime as tzq-write-runtime
 use Rattle.exports.proofs.writes.tzq_write_runtime.Reads as tzq-write-runtime-reads
-
-pub timecode-determined : Determined timecode.ended timecode-reads.Asked timecode-reads.Learnt
-timecode-determined κs a asked x y p q = ap (λ z. (z, x .1)) (p ∙ sym q)
-
-pub handed-count-determined : Determined handed-count.ended handed-count-reads.Asked handed-count-reads.Learnt
-handed-count-determined κs a asked x y p q = ap (λ z. (z, x .1)) (p ∙ sym q)
-
-pub handed-read-determined : Determined handed-read.ended handed-read-reads.Asked handed-read-reads.Learnt
-handed-read-determined κs a asked x y p q = ap (λ z. (z, x .1)) (p ∙ sym q)
-
-pub handed-order-determined : Determined handed-order.ended handed-order-reads.Asked handed-order-reads.Learnt
-handed-order-determined κs a asked x y p q = ap (λ z. (z, x .1)) (p ∙ sym q)
-
-pub handed-ticks-determined : Determined handed-ticks.ended handed-ticks-reads.Asked handed-ticks-reads.Learnt
-handed-ticks-determined κs a asked x y p q = ap (λ z. (z, x .1)) (p ∙ sym q)
-
-pub handed-seconds-determined : Determined handed-seconds.ended handed-seconds-reads.Asked handed-seconds-reads.Learnt
-handed-seconds-determined κs a asked x y p q = ap (λ z. (z, x .1)) (p ∙ sym q)
-
-pub handed-timecode-determined : Determined handed-timecode.ended handed-timecode-reads.Asked handed-timecode-reads.Learnt
-handed-timecode-determined κs a asked x y p q = ap (λ z. (z, x .1)) (p ∙ sym q)
-
-pub handed-sections-determined : Determined handed-sections.ended handed-sections-reads.Asked handed-sections-reads.Learnt
-handed-sections-determined κs a asked x y p q = ap (λ z. (z, x .1)) (p ∙ sym q)
-
-pub handed-length-determined : Determined handed-length.ended handed-length-reads.Asked handed-length-reads.Learnt
-handed-length-determined κs a asked x y p q = ap (λ z. (z, x .1)) (p ∙ sym q)
-
-pub handed-rate-determined : Determined handed-rate.ended handed-rate-reads.Asked handed-rate-reads.Learnt
-handed-rate-determined κs a asked x y p q = ap (λ z. (z, x .1)) (p ∙ sym q)
-
-pub handed-format-determined : Determined handed-format.ended handed-format-reads.Asked handed-format-reads.Learnt
-handed-format-determined κs a asked x y p q = ap (λ z. (z, x .1)) (p ∙ sym q)
 
 pub tzq-read-determined : Determined tzq-read.ended tzq-read-reads.Asked tzq-read-reads.Learnt
 tzq-read-determined κs a asked x y p q = ap (λ z. (z, x .1)) (p ∙ sym q)
@@ -184,7 +129,7 @@ tzq-premiere-ticks-determined κs a asked x y p q = ap (λ z. (z, x .1)) (p ∙ 
 
 pub tzq-seconds-determined : Determined tzq-seconds.ended tzq-seconds-reads.Asked tzq-seconds-reads.Learnt
 tzq-seconds-determined κs a asked x y p q =
-    let one = seconds-one (timecode (a .0)) (p .answer) (q .answer) (p .right) (q .right) in
+    let one = seconds-one (timecodeFrom (a .0)) (p .answer) (q .answer) (p .right) (q .right) in
     ap (λ z. (z, x .1)) (p .handed ∙ ap handedSeconds one ∙ sym (q .handed))
 
 pub tzq-convert-determined : Determined tzq-convert.ended tzq-convert-reads.Asked tzq-convert-reads.Learnt

@@ -4,9 +4,12 @@ use mathlib.Core.Path.{_≡_}
 use mathlib.Core.Bool.{false}
 use Rattle.answers.specs.declared.Counted.{Counted}
 use Rattle.answers.specs.Refusals as answers
-use Rattle.rates.specs.declared.Timecode.{Timecode}
 use Rattle.rates.specs.declared.Rated.{Rated}
 use Rattle.rates.specs.Rates as rates
+use Rattle.timecodes.specs.declared.Timecode.{Timecode}
+use Rattle.timecodes.specs.declared.Answer.{Answer}
+use Rattle.timecodes.specs.Timecode.{timecode}
+use Rattle.timecodes.specs.Timecode as timecodes
 use Rattle.film.specs.declared.Filmed.{Filmed}
 use Rattle.film.specs.declared.Filmed.the-variants as filmed
 use Rattle.film.specs.Film.{perfsPerFrame, perfsPerFoot, allowsPerfField}
@@ -18,8 +21,6 @@ use Rattle.reading.specs.declared.Read.{Read}
 use Rattle.reading.specs.Answer as reading
 use Rattle.arithmetic.specs.declared.Compared.{Compared}
 use Rattle.arithmetic.specs.Compare as compare
-use Rattle.chains.specs.declared.Converted.{Converted}
-use Rattle.chains.specs.Chain as chains
 use Rattle.label_writer.specs.declared.Sectioned.{Sectioned}
 use Rattle.label_writer.specs.Sections as sections
 use Rattle.written.specs.declared.Written.{Written}
@@ -36,13 +37,17 @@ use Rattle.exports.specs.declared.handed.TzqLength.{TzqLength}
 use Rattle.exports.specs.declared.handed.TzqRate.{TzqRate}
 use Rattle.exports.specs.declared.handed.TzqFormat.{TzqFormat}
 
--- a timecode is a count and a rate
-abbrev pub timecode : TzqTimecode → Timecode
-timecode t = record { count = t .count; rate = t .rate }
+-- the timecode that C handed over: a count and a rate
+abbrev pub timecodeFrom : TzqTimecode → Timecode
+timecodeFrom t = timecode (t .count) (t .rate)
 
 -- a refusal returns its number with count 0
 unfoldable pub handedCount : Counted → TzqCount
 handedCount a = record { refused = answers.numberOf a; count = answers.countOf a }
+
+-- of a timecode its count
+unfoldable pub handedAnswer : Answer → TzqCount
+handedAnswer a = record { refused = timecodes.numberOf a; count = timecodes.timecodeOf a .count }
 
 -- a footage answer carries the count together with the film format chosen
 unfoldable pub handedRead : Read → TzqRead
@@ -50,21 +55,21 @@ handedRead a = record { refused = reading.numberOf a; count = reading.countOf a;
 
 -- a refused comparison has order 0
 unfoldable pub handedOrder : Compared → TzqOrder
-handedOrder a = record { refused = compare.numberOf a; order = compare.valueOf a }
+handedOrder a = record { refused = compare.numberOf a; order = compare.orderIn a }
 
 -- any other number in the answer is 0
 unfoldable pub handedTicks : Ticked → TzqTicks
-handedTicks a = record { refused = ticks.numberOf a; ticks = ticks.valueOf a }
+handedTicks a = record { refused = ticks.numberOf a; ticks = ticks.ticksIn a }
 
 -- a fraction 0/1
 unfoldable pub handedSeconds : Timed → TzqSeconds
 handedSeconds a =
     record { refused = seconds.numberOf a; numerator = seconds.numeratorOf a; denominator = seconds.denominatorOf a }
 
--- a timecode is a count and a rate; of a refusal both are 0
-unfoldable pub handedTimecode : Converted → TzqConverted
+-- a timecode with its rate; of a refusal both are 0
+unfoldable pub handedTimecode : Answer → TzqConverted
 handedTimecode a =
-    record { refused = chains.numberOf a; count = chains.timecodeOf a .count; rate = chains.timecodeOf a .rate }
+    record { refused = timecodes.numberOf a; count = timecodes.timecodeOf a .count; rate = timecodes.timecodeOf a .rate }
 
 -- the fields of the label, by name; of a refusal all are 0
 unfoldable pub handedSections : Sectioned → TzqSections

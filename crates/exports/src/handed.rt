@@ -1,16 +1,16 @@
 // What is handed to C: a struct of numbers for each kind of answer, the refusal's number first.
 ghost use mathlib.Core.Path.{_≡_};
-ghost use Rattle.exports.specs.Handed.{timecode, handedCount, handedRead, handedOrder, handedTicks, handedSeconds, handedTimecode, handedSections, handedLength, handedRate, handedFormat};
+ghost use Rattle.exports.specs.Handed.{timecodeFrom, handedCount, handedAnswer, handedRead, handedOrder, handedTicks, handedSeconds, handedTimecode, handedSections, handedLength, handedRate, handedFormat};
 use answers::Counted;
 use arithmetic::Compared;
-use chains::Converted;
 use film::Filmed;
 use label_writer::Sectioned;
 use rates::Rated;
-use rates::Timecode;
 use reading::Read;
 use time::Ticked;
 use time::Timed;
+use timecodes::Answer;
+use timecodes::Timecode;
 use written::Written;
 
 // A count and a rate.
@@ -110,8 +110,8 @@ fn wide(n: u8) -> u64
 }
 
 // The timecode that C handed over.
-pub fn timecode(t: TzqTimecode) -> Timecode
-    ensures answer { λ r. ⌜ r ≡ timecode t ⌝ }
+pub(crate) fn timecode_from(t: TzqTimecode) -> Timecode
+    ensures answer { λ r. ⌜ r ≡ timecodeFrom t ⌝ }
 {
     Timecode {
         count: t.count,
@@ -120,7 +120,7 @@ pub fn timecode(t: TzqTimecode) -> Timecode
 }
 
 // A count or its refusal.
-pub fn handed_count(a: Counted) -> TzqCount
+pub(crate) fn handed_count(a: Counted) -> TzqCount
     ensures answer { λ r. ⌜ r ≡ handedCount a ⌝ }
 {
     match a {
@@ -132,19 +132,35 @@ pub fn handed_count(a: Counted) -> TzqCount
     }
 }
 
+// A timecode's count or its refusal: the rate is the caller's own.
+pub(crate) fn handed_answer(a: Answer) -> TzqCount
+    ensures answer { λ r. ⌜ r ≡ handedAnswer a ⌝ }
+{
+    match a {
+        Answer::At(tc) => TzqCount {
+            refused: 0,
+            count: tc.count,
+        },
+        Answer::Refused(e) => TzqCount {
+            refused: wide(e.number),
+            count: 0,
+        },
+    }
+}
+
 // What a text reads as, or its refusal.
-pub fn handed_read(a: Read) -> TzqRead
+pub(crate) fn handed_read(a: Read) -> TzqRead
     ensures answer { λ r. ⌜ r ≡ handedRead a ⌝ }
 {
     match a {
-        Read::Label(count) => TzqRead {
+        Read::Label(tc) => TzqRead {
             refused: 0,
-            count,
+            count: tc.count,
             format: 0,
         },
-        Read::Footage(count, format) => TzqRead {
+        Read::Footage(tc, format) => TzqRead {
             refused: 0,
-            count,
+            count: tc.count,
             format: format.number(),
         },
         Read::Refused(e) => TzqRead {
@@ -156,7 +172,7 @@ pub fn handed_read(a: Read) -> TzqRead
 }
 
 // An order or its refusal.
-pub fn handed_order(a: Compared) -> TzqOrder
+pub(crate) fn handed_order(a: Compared) -> TzqOrder
     ensures answer { λ r. ⌜ r ≡ handedOrder a ⌝ }
 {
     match a {
@@ -169,7 +185,7 @@ pub fn handed_order(a: Compared) -> TzqOrder
 }
 
 // Ticks or their refusal.
-pub fn handed_ticks(a: Ticked) -> TzqTicks
+pub(crate) fn handed_ticks(a: Ticked) -> TzqTicks
     ensures answer { λ r. ⌜ r ≡ handedTicks a ⌝ }
 {
     match a {
@@ -182,7 +198,7 @@ pub fn handed_ticks(a: Ticked) -> TzqTicks
 }
 
 // Seconds or their refusal.
-pub fn handed_seconds(a: Timed) -> TzqSeconds
+pub(crate) fn handed_seconds(a: Timed) -> TzqSeconds
     ensures answer { λ r. ⌜ r ≡ handedSeconds a ⌝ }
 {
     match a {
@@ -200,16 +216,16 @@ pub fn handed_seconds(a: Timed) -> TzqSeconds
 }
 
 // A timecode at the end of a conversion, or its refusal.
-pub fn handed_timecode(a: Converted) -> TzqConverted
+pub(crate) fn handed_timecode(a: Answer) -> TzqConverted
     ensures answer { λ r. ⌜ r ≡ handedTimecode a ⌝ }
 {
     match a {
-        Converted::At(tc) => TzqConverted {
+        Answer::At(tc) => TzqConverted {
             refused: 0,
             count: tc.count,
             rate: tc.rate,
         },
-        Converted::Refused(e) => TzqConverted {
+        Answer::Refused(e) => TzqConverted {
             refused: wide(e.number),
             count: 0,
             rate: 0,
@@ -218,7 +234,7 @@ pub fn handed_timecode(a: Converted) -> TzqConverted
 }
 
 // Sections or their refusal.
-pub fn handed_sections(a: Sectioned) -> TzqSections
+pub(crate) fn handed_sections(a: Sectioned) -> TzqSections
     ensures answer { λ r. ⌜ r ≡ handedSections a ⌝ }
 {
     match a {
@@ -242,7 +258,7 @@ pub fn handed_sections(a: Sectioned) -> TzqSections
 }
 
 // A length or its refusal.
-pub fn handed_length(a: Written) -> TzqLength
+pub(crate) fn handed_length(a: Written) -> TzqLength
     ensures answer { λ r. ⌜ r ≡ handedLength a ⌝ }
 {
     match a {
@@ -255,7 +271,7 @@ pub fn handed_length(a: Written) -> TzqLength
 }
 
 // A row or its refusal.
-pub fn handed_rate(a: Rated) -> TzqRate
+pub(crate) fn handed_rate(a: Rated) -> TzqRate
     ensures answer { λ r. ⌜ r ≡ handedRate a ⌝ }
 {
     match a {
@@ -277,7 +293,7 @@ pub fn handed_rate(a: Rated) -> TzqRate
 }
 
 // What is known of a film format, or its refusal.
-pub fn handed_format(a: Filmed) -> TzqFormat
+pub(crate) fn handed_format(a: Filmed) -> TzqFormat
     ensures answer { λ r. ⌜ r ≡ handedFormat a ⌝ }
 {
     match a {

@@ -2,7 +2,7 @@
 ghost use mathlib.Core.Path.{_≡_};
 ghost use Rattle.reading.specs.Reading.{readText};
 ghost use Rattle.runtime_reading.specs.Reading.{readRuntime};
-ghost use Rattle.exports.specs.Handed.{handedCount, handedRead};
+ghost use Rattle.exports.specs.Handed.{handedAnswer, handedRead};
 use crate::handed;
 use crate::handed::TzqCount;
 use crate::handed::TzqRead;
@@ -30,7 +30,7 @@ pub extern "C" fn tzq_read_as(text: &[u8], format: u64, rate: u64) -> TzqRead
 // 5: the count is out of bounds.
 #[no_mangle]
 pub extern "C" fn tzq_read_runtime(text: &[u8], rate: u64) -> TzqCount
-    ensures answer { λ r. ⌜ r ≡ handedCount (readRuntime (now (text .entry)) rate) ⌝ }
+    ensures answer { λ r. ⌜ r ≡ handedAnswer (readRuntime (now (text .entry)) rate) ⌝ }
 {
-    handed::handed_count(runtime_reading::read_runtime(text, rate))
+    handed::handed_answer(runtime_reading::read_runtime(text, rate))
 }

@@ -3,7 +3,7 @@ ghost use mathlib.Core.Path.{_≡_};
 ghost use Rattle.time.specs.Frames.{framesAt, ticksAt, secondsAt};
 ghost use Rattle.time.specs.Ticks.{ticksOf};
 ghost use Rattle.chains.specs.Chain.{convertOf};
-ghost use Rattle.exports.specs.Handed.{timecode, handedCount, handedTicks, handedTimecode, SecondsHanded};
+ghost use Rattle.exports.specs.Handed.{timecodeFrom, handedAnswer, handedTicks, handedTimecode, SecondsHanded};
 use crate::handed;
 use crate::handed::TzqConverted;
 use crate::handed::TzqCount;
@@ -14,48 +14,48 @@ use crate::handed::TzqTimecode;
 // A count at a rate. Refuses 6: no such rate; 5: the count is out of bounds.
 #[no_mangle]
 pub extern "C" fn tzq_with_frames(count: i64, rate: u64) -> TzqCount
-    ensures answer { λ r. ⌜ r ≡ handedCount (framesAt count rate) ⌝ }
+    ensures answer { λ r. ⌜ r ≡ handedAnswer (framesAt count rate) ⌝ }
 {
-    handed::handed_count(time::with_frames(count, rate))
+    handed::handed_answer(time::with_frames(count, rate))
 }
 
 // The frame nearest to a number of ticks. Refuses 6: no such rate; 5: the resulting count is out of bounds.
 #[no_mangle]
 pub extern "C" fn tzq_with_premiere_ticks(ticks: i64, rate: u64) -> TzqCount
-    ensures answer { λ r. ⌜ r ≡ handedCount (ticksAt ticks rate) ⌝ }
+    ensures answer { λ r. ⌜ r ≡ handedAnswer (ticksAt ticks rate) ⌝ }
 {
-    handed::handed_count(time::with_premiere_ticks(ticks, rate))
+    handed::handed_answer(time::with_premiere_ticks(ticks, rate))
 }
 
 // The frame nearest to p/q seconds. Refuses 6: no such rate; 5: p or q, or then the resulting count, is out of bounds.
 #[no_mangle]
 pub extern "C" fn tzq_with_seconds(p: i64, q: u64, rate: u64) -> TzqCount
-    ensures answer { λ r. ⌜ r ≡ handedCount (secondsAt p q rate) ⌝ }
+    ensures answer { λ r. ⌜ r ≡ handedAnswer (secondsAt p q rate) ⌝ }
 {
-    handed::handed_count(time::with_seconds(p, q, rate))
+    handed::handed_answer(time::with_seconds(p, q, rate))
 }
 
 // The ticks of a timecode, exactly. Refuses 6: no such rate; 5: the count is out of bounds.
 #[no_mangle]
 pub extern "C" fn tzq_premiere_ticks(tc: TzqTimecode) -> TzqTicks
-    ensures answer { λ r. ⌜ r ≡ handedTicks (ticksOf (timecode tc)) ⌝ }
+    ensures answer { λ r. ⌜ r ≡ handedTicks (ticksOf (timecodeFrom tc)) ⌝ }
 {
-    handed::handed_ticks(time::premiere_ticks(handed::timecode(tc)))
+    handed::handed_ticks(time::premiere_ticks(handed::timecode_from(tc)))
 }
 
 // The seconds of a timecode, exactly, in lowest terms. Refuses 6: no such rate; 5: the count is out of bounds.
 #[no_mangle]
 pub extern "C" fn tzq_seconds(tc: TzqTimecode) -> TzqSeconds
-    ensures answer { λ r. ⌜ SecondsHanded (timecode tc) r ⌝ }
+    ensures answer { λ r. ⌜ SecondsHanded (timecodeFrom tc) r ⌝ }
 {
-    handed::handed_seconds(time::seconds(handed::timecode(tc)))
+    handed::handed_seconds(time::seconds(handed::timecode_from(tc)))
 }
 
 // The timecode through a list of rates, the nearest frame at each in turn. Refuses 6: its own rate or any listed number is no rate;
 // 5: its own count, or that after any step, is out of bounds.
 #[no_mangle]
 pub extern "C" fn tzq_convert(tc: TzqTimecode, list: &[u64]) -> TzqConverted
-    ensures answer { λ r. ⌜ r ≡ handedTimecode (convertOf (timecode tc) (now (list .entry))) ⌝ }
+    ensures answer { λ r. ⌜ r ≡ handedTimecode (convertOf (timecodeFrom tc) (now (list .entry))) ⌝ }
 {
-    handed::handed_timecode(chains::convert(handed::timecode(tc), list))
+    handed::handed_timecode(chains::convert(handed::timecode_from(tc), list))
 }

@@ -1,14 +1,14 @@
 -- `chains::all_rates` meets its contract: from the place at hand on, the rest passes the test just where the whole does.
 -- Assumes nothing.
-use mathlib.Core.Path.{_≡_, refl, sym, _∙_}
+use mathlib.Core.Path.{_≡_, refl}
 use mathlib.Core.Bool.{true, false}
 use Prim.Native.Nat.{_-_, _≤_, _<_}
 use native.Mathlib.Omega.{arith}
 use borrow.Author.Needs.{needs}
-use borrow.Author.Tests.{not-true, not-false}
 use lib.ListN.{length, getD, drop, drop-of-length-le}
+use Rattle.laws.specs.Every.{every}
+use Rattle.numbers.proofs.Tests.{fails, passes}
 use Rattle.rates.specs.Rates.{isRate}
-use Rattle.rates.specs.Every.{every}
 use Rattle.chains.proofs.Walk.{from-here}
 use Rattle.chains.proofs.all_rates.Statement.{statement}
 use Rattle.chains.proofs.all_rates.Tie as tie
@@ -36,7 +36,7 @@ returns c =
     let k = c .before .before .before .before in
     let l = k .before .before .args .list .now in
     let below : k .loop .i < length l = search needs in
-    let none : isRate (getD l (k .loop .i) 0) ≡ false = sym (c .before .is-rate .ensures) ∙ not-true _ (c .if1 .taken) in
+    let none : isRate (getD l (k .loop .i) 0) ≡ false = fails (c .before .is-rate .ensures) (c .if1 .taken) in
     rw (from-here l (k .loop .i) below, none) at (k .loop .inv .1)
 
 add-i : tie.Need-add-i Inv-loop μ-loop
@@ -50,7 +50,7 @@ loop-again c =
     let k = c .before .before .before .before in
     let l = k .before .before .args .list .now in
     let below : k .loop .i < length l = search needs in
-    let one : isRate (getD l (k .loop .i) 0) ≡ true = sym (c .before .is-rate .ensures) ∙ not-false _ (c .if1 .left) in
+    let one : isRate (getD l (k .loop .i) 0) ≡ true = passes (c .before .is-rate .ensures) (c .if1 .left) in
     (omega arith, rw (from-here l (k .loop .i) below, one) at (k .loop .inv .1))
 
 returns-2 : tie.Need-returns-2 Inv-loop μ-loop

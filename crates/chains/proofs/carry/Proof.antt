@@ -6,18 +6,18 @@ use Prim.Native.Nat.{_+_, _-_, _≤_, _<_}
 use native.Mathlib.Omega.{arith}
 use borrow.Author.Needs.{needs}
 use lib.ListN.{length, getD, drop, drop-of-length-le}
+use Rattle.laws.specs.Every.{at-every}
 use Rattle.rates.specs.Rates.{isRate}
-use Rattle.rates.specs.Every.{at-every}
-use Rattle.chains.specs.declared.Converted.the-variants.{At, Refused}
-use Rattle.time.specs.Instant.{Bounded}
+use Rattle.timecodes.specs.declared.Answer.the-variants.{At, Refused}
+use Rattle.timecodes.specs.Admitted.{Valid}
 use Rattle.chains.specs.Chain.{stepOf, carried}
-use Rattle.chains.specs.ChainLaws.{step-bounded, carried-none, carried-next, carried-stop}
+use Rattle.chains.specs.ChainLaws.{stepOf-valid, carried-none, carried-next, carried-stop}
 use Rattle.chains.proofs.Walk.{from-here}
 use Rattle.chains.proofs.carry.Statement.{statement}
 use Rattle.chains.proofs.carry.Tie as tie
 
 abbrev Inv-loop : tie.InvT-loop
-Inv-loop list at₀ i₀ at i = (i ≤ length list) × Bounded at × (carried at (drop i list) ≡ carried at₀ list)
+Inv-loop list at₀ i₀ at i = (i ≤ length list) × Valid at × (carried at (drop i list) ≡ carried at₀ list)
 
 abbrev μ-loop : tie.MeasureT-loop
 μ-loop list at₀ i₀ at i = length list - i
@@ -39,7 +39,7 @@ next-rate c =
     at-every isRate (s .args .list .now) 0 (s .pre .1) (c .before .loop .i) (search needs)
 
 step-requires : tie.Need-step-requires Inv-loop μ-loop
-step-requires c κs = (c .before .before .loop .inv .1, next-rate (c .before))
+step-requires c κs = c .before .before .loop .inv .1
 
 enum-known-s : tie.Need-enum-known-s Inv-loop μ-loop
 enum-known-s c = search needs
@@ -72,7 +72,7 @@ loop-again c =
     let below : k .loop .i < length l = search needs in
     let took : stepOf (k .loop .at) next ≡ At there = sym (c .before .before .before .step .ensures) ∙ c .before .s .given .1 in (
       omega arith,
-      step-bounded (k .loop .at) there next (next-rate (c .before .before .before .before .before)) took,
+      stepOf-valid (k .loop .at) there next (next-rate (c .before .before .before .before .before)) took,
       sym (carried-next (k .loop .at) there next (drop (k .loop .i + 1) l) took)
           ∙ (rw (from-here l (k .loop .i) below) at (k .loop .inv .2)),
     )

@@ -7,11 +7,11 @@ use borrow.Author.Needs.{needs}
 use Rattle.exports.proofs.sums.tzq_cmp.Statement.{statement}
 use Rattle.exports.proofs.sums.tzq_cmp.Tie as tie
 
-timecode-requires : tie.Need-timecode-requires
-timecode-requires c κs = search needs
+timecode-from-requires : tie.Need-timecode-from-requires
+timecode-from-requires c κs = search needs
 
-timecode-requires-2 : tie.Need-timecode-requires-2
-timecode-requires-2 c κs = search needs
+timecode-from-requires-2 : tie.Need-timecode-from-requires-2
+timecode-from-requires-2 c κs = search needs
 
 cmp-requires : tie.Need-cmp-requires
 cmp-requires c κs = search needs
@@ -22,9 +22,9 @@ handed-order-requires c κs = search needs
 returns : tie.Need-returns
 returns c =
     c .handed-order .ensures
-    ∙ ap handedOrder (c .before .cmp .ensures ∙ ap₂ compareOf (c .before .before .before .timecode .ensures) (c .before .before .timecode2 .ensures))
+    ∙ ap handedOrder (c .before .cmp .ensures ∙ ap₂ compareOf (c .before .before .before .timecode-from .ensures) (c .before .before .timecode-from2 .ensures))
 
 pub tzq-cmp-spec : {M : Type 1} → statement M
 tzq-cmp-spec =
     tie.close
-    (tie.spec timecode-requires timecode-requires-2 cmp-requires handed-order-requires returns)
+    (tie.spec timecode-from-requires timecode-from-requires-2 cmp-requires handed-order-requires returns)

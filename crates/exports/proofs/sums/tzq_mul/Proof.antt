@@ -4,28 +4,28 @@ use mathlib.Core.Path.{_≡_, ap, ap₂, _∙_}
 use lib.IntN.{ℤ}
 use mir.Syntax.{w64}
 use mir.Val.{toZ, ofZ}
-use Rattle.rates.specs.declared.Timecode.{Timecode}
+use Rattle.timecodes.specs.declared.Timecode.{Timecode}
 use Rattle.arithmetic.specs.Product.{mulOf}
-use Rattle.exports.specs.Handed.{handedCount}
+use Rattle.exports.specs.Handed.{handedAnswer}
 use borrow.Author.Needs.{needs}
 use Rattle.exports.proofs.sums.tzq_mul.Statement.{statement}
 use Rattle.exports.proofs.sums.tzq_mul.Tie as tie
 
-timecode-requires : tie.Need-timecode-requires
-timecode-requires c κs = search needs
+timecode-from-requires : tie.Need-timecode-from-requires
+timecode-from-requires c κs = search needs
 
 mul-requires : tie.Need-mul-requires
 mul-requires c κs = search needs
 
-handed-count-requires : tie.Need-handed-count-requires
-handed-count-requires c κs = search needs
+handed-answer-requires : tie.Need-handed-answer-requires
+handed-answer-requires c κs = search needs
 
 returns : tie.Need-returns
 returns c =
     let a = c .before .before .before .args in
     let back : toZ w64 (ofZ w64 (a .p)) ≡ a .p = search needs in
-    c .handed-count .ensures
-    ∙ ap handedCount (c .before .mul .ensures ∙ ap₂ (λ (t : Timecode) (z : ℤ). mulOf t z (a .q)) (c .before .before .timecode .ensures) back)
+    c .handed-answer .ensures
+    ∙ ap handedAnswer (c .before .mul .ensures ∙ ap₂ (λ (t : Timecode) (z : ℤ). mulOf t z (a .q)) (c .before .before .timecode-from .ensures) back)
 
 pub tzq-mul-spec : {M : Type 1} → statement M
-tzq-mul-spec = tie.close (tie.spec timecode-requires mul-requires handed-count-requires returns)
+tzq-mul-spec = tie.close (tie.spec timecode-from-requires mul-requires handed-answer-requires returns)

@@ -2,22 +2,22 @@
 -- Assumes nothing.
 use mathlib.Core.Path.{ap, _∙_}
 use Rattle.arithmetic.specs.Count.{negOf}
-use Rattle.exports.specs.Handed.{handedCount}
+use Rattle.exports.specs.Handed.{handedAnswer}
 use borrow.Author.Needs.{needs}
 use Rattle.exports.proofs.sums.tzq_neg.Statement.{statement}
 use Rattle.exports.proofs.sums.tzq_neg.Tie as tie
 
-timecode-requires : tie.Need-timecode-requires
-timecode-requires c κs = search needs
+timecode-from-requires : tie.Need-timecode-from-requires
+timecode-from-requires c κs = search needs
 
 neg-requires : tie.Need-neg-requires
 neg-requires c κs = search needs
 
-handed-count-requires : tie.Need-handed-count-requires
-handed-count-requires c κs = search needs
+handed-answer-requires : tie.Need-handed-answer-requires
+handed-answer-requires c κs = search needs
 
 returns : tie.Need-returns
-returns c = c .handed-count .ensures ∙ ap handedCount (c .before .neg .ensures ∙ ap negOf (c .before .before .timecode .ensures))
+returns c = c .handed-answer .ensures ∙ ap handedAnswer (c .before .neg .ensures ∙ ap negOf (c .before .before .timecode-from .ensures))
 
 pub tzq-neg-spec : {M : Type 1} → statement M
-tzq-neg-spec = tie.close (tie.spec timecode-requires neg-requires handed-count-requires returns)
+tzq-neg-spec = tie.close (tie.spec timecode-from-requires neg-requires handed-answer-requires returns)

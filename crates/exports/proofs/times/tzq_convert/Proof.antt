@@ -1,15 +1,15 @@
 -- `exports::tzq_convert` meets its contract: the answer of `chains::convert`, handed over.
 -- Assumes nothing.
 use mathlib.Core.Path.{ap, _∙_}
-use Rattle.rates.specs.declared.Timecode.{Timecode}
+use Rattle.timecodes.specs.declared.Timecode.{Timecode}
 use Rattle.chains.specs.Chain.{convertOf}
 use Rattle.exports.specs.Handed.{handedTimecode}
 use borrow.Author.Needs.{needs}
 use Rattle.exports.proofs.times.tzq_convert.Statement.{statement}
 use Rattle.exports.proofs.times.tzq_convert.Tie as tie
 
-timecode-requires : tie.Need-timecode-requires
-timecode-requires c κs = search needs
+timecode-from-requires : tie.Need-timecode-from-requires
+timecode-from-requires c κs = search needs
 
 convert-requires : tie.Need-convert-requires
 convert-requires c κs = search needs
@@ -20,8 +20,8 @@ handed-timecode-requires c κs = search needs
 returns : tie.Need-returns
 returns c =
     let l = c .before .before .before .before .args .list .now in
-    c .handed-timecode .ensures ∙ ap handedTimecode (c .before .convert .ensures ∙ ap (λ (t : Timecode). convertOf t l) (c .before .before .timecode .ensures))
+    c .handed-timecode .ensures ∙ ap handedTimecode (c .before .convert .ensures ∙ ap (λ (t : Timecode). convertOf t l) (c .before .before .timecode-from .ensures))
 
 pub tzq-convert-spec : {M : Type 1} → statement M
 tzq-convert-spec =
-    tie.close (tie.spec timecode-requires convert-requires handed-timecode-requires returns)
+    tie.close (tie.spec timecode-from-requires convert-requires handed-timecode-requires returns)

@@ -1,14 +1,14 @@
 -- `exports::tzq_seconds` meets its contract: the answer of `time::seconds`, handed over.
 -- Assumes nothing.
-use Rattle.rates.specs.declared.Timecode.{Timecode}
+use Rattle.timecodes.specs.declared.Timecode.{Timecode}
 use mathlib.Core.Path.{subst}
 use Rattle.time.specs.Seconds.{SecondsOf}
 use borrow.Author.Needs.{needs}
 use Rattle.exports.proofs.times.tzq_seconds.Statement.{statement}
 use Rattle.exports.proofs.times.tzq_seconds.Tie as tie
 
-timecode-requires : tie.Need-timecode-requires
-timecode-requires c κs = search needs
+timecode-from-requires : tie.Need-timecode-from-requires
+timecode-from-requires c κs = search needs
 
 seconds-requires : tie.Need-seconds-requires
 seconds-requires c κs = search needs
@@ -20,10 +20,10 @@ returns : tie.Need-returns
 returns c =
     record {
       answer = c .before .seconds .result;
-      right = subst (λ (t : Timecode). SecondsOf t (c .before .seconds .result)) (c .before .before .timecode .ensures) (c .before .seconds .ensures);
+      right = subst (λ (t : Timecode). SecondsOf t (c .before .seconds .result)) (c .before .before .timecode-from .ensures) (c .before .seconds .ensures);
       handed = c .handed-seconds .ensures;
     }
 
 pub tzq-seconds-spec : {M : Type 1} → statement M
 tzq-seconds-spec =
-    tie.close (tie.spec timecode-requires seconds-requires handed-seconds-requires returns)
+    tie.close (tie.spec timecode-from-requires seconds-requires handed-seconds-requires returns)

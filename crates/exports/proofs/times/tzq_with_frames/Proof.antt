@@ -5,7 +5,7 @@ use lib.IntN.{ℤ}
 use mir.Syntax.{w64}
 use mir.Val.{toZ, ofZ}
 use Rattle.time.specs.Frames.{framesAt}
-use Rattle.exports.specs.Handed.{handedCount}
+use Rattle.exports.specs.Handed.{handedAnswer}
 use borrow.Author.Needs.{needs}
 use Rattle.exports.proofs.times.tzq_with_frames.Statement.{statement}
 use Rattle.exports.proofs.times.tzq_with_frames.Tie as tie
@@ -13,14 +13,14 @@ use Rattle.exports.proofs.times.tzq_with_frames.Tie as tie
 with-frames-requires : tie.Need-with-frames-requires
 with-frames-requires c κs = search needs
 
-handed-count-requires : tie.Need-handed-count-requires
-handed-count-requires c κs = search needs
+handed-answer-requires : tie.Need-handed-answer-requires
+handed-answer-requires c κs = search needs
 
 returns : tie.Need-returns
 returns c =
     let a = c .before .before .args in
     let back : toZ w64 (ofZ w64 (a .count)) ≡ a .count = search needs in
-    c .handed-count .ensures ∙ ap handedCount (c .before .with-frames .ensures ∙ ap (λ (z : ℤ). framesAt z (a .rate)) back)
+    c .handed-answer .ensures ∙ ap handedAnswer (c .before .with-frames .ensures ∙ ap (λ (z : ℤ). framesAt z (a .rate)) back)
 
 pub tzq-with-frames-spec : {M : Type 1} → statement M
-tzq-with-frames-spec = tie.close (tie.spec with-frames-requires handed-count-requires returns)
+tzq-with-frames-spec = tie.close (tie.spec with-frames-requires handed-answer-requires returns)

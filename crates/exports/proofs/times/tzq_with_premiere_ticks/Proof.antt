@@ -5,7 +5,7 @@ use lib.IntN.{ℤ}
 use mir.Syntax.{w64}
 use mir.Val.{toZ, ofZ}
 use Rattle.time.specs.Frames.{ticksAt}
-use Rattle.exports.specs.Handed.{handedCount}
+use Rattle.exports.specs.Handed.{handedAnswer}
 use borrow.Author.Needs.{needs}
 use Rattle.exports.proofs.times.tzq_with_premiere_ticks.Statement.{statement}
 use Rattle.exports.proofs.times.tzq_with_premiere_ticks.Tie as tie
@@ -13,15 +13,15 @@ use Rattle.exports.proofs.times.tzq_with_premiere_ticks.Tie as tie
 with-premiere-ticks-requires : tie.Need-with-premiere-ticks-requires
 with-premiere-ticks-requires c κs = search needs
 
-handed-count-requires : tie.Need-handed-count-requires
-handed-count-requires c κs = search needs
+handed-answer-requires : tie.Need-handed-answer-requires
+handed-answer-requires c κs = search needs
 
 returns : tie.Need-returns
 returns c =
     let a = c .before .before .args in
     let back : toZ w64 (ofZ w64 (a .ticks)) ≡ a .ticks = search needs in
-    c .handed-count .ensures ∙ ap handedCount (c .before .with-premiere-ticks .ensures ∙ ap (λ (z : ℤ). ticksAt z (a .rate)) back)
+    c .handed-answer .ensures ∙ ap handedAnswer (c .before .with-premiere-ticks .ensures ∙ ap (λ (z : ℤ). ticksAt z (a .rate)) back)
 
 pub tzq-with-premiere-ticks-spec : {M : Type 1} → statement M
 tzq-with-premiere-ticks-spec =
-    tie.close (tie.spec with-premiere-ticks-requires handed-count-requires returns)
+    tie.close (tie.spec with-premiere-ticks-requires handed-answer-requires returns)

@@ -5,7 +5,7 @@ use lib.IntN.{ℤ}
 use mir.Syntax.{w64}
 use mir.Val.{toZ, ofZ}
 use Rattle.time.specs.Frames.{secondsAt}
-use Rattle.exports.specs.Handed.{handedCount}
+use Rattle.exports.specs.Handed.{handedAnswer}
 use borrow.Author.Needs.{needs}
 use Rattle.exports.proofs.times.tzq_with_seconds.Statement.{statement}
 use Rattle.exports.proofs.times.tzq_with_seconds.Tie as tie
@@ -13,14 +13,14 @@ use Rattle.exports.proofs.times.tzq_with_seconds.Tie as tie
 with-seconds-requires : tie.Need-with-seconds-requires
 with-seconds-requires c κs = search needs
 
-handed-count-requires : tie.Need-handed-count-requires
-handed-count-requires c κs = search needs
+handed-answer-requires : tie.Need-handed-answer-requires
+handed-answer-requires c κs = search needs
 
 returns : tie.Need-returns
 returns c =
     let a = c .before .before .args in
     let back : toZ w64 (ofZ w64 (a .p)) ≡ a .p = search needs in
-    c .handed-count .ensures ∙ ap handedCount (c .before .with-seconds .ensures ∙ ap (λ (z : ℤ). secondsAt z (a .q) (a .rate)) back)
+    c .handed-answer .ensures ∙ ap handedAnswer (c .before .with-seconds .ensures ∙ ap (λ (z : ℤ). secondsAt z (a .q) (a .rate)) back)
 
 pub tzq-with-seconds-spec : {M : Type 1} → statement M
-tzq-with-seconds-spec = tie.close (tie.spec with-seconds-requires handed-count-requires returns)
+tzq-with-seconds-spec = tie.close (tie.spec with-seconds-requires handed-answer-requires returns)

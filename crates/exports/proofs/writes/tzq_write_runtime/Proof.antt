@@ -1,7 +1,7 @@
 -- `exports::tzq_write_runtime` meets its contract: the answer and the line of `runtime_writer::write_runtime`, handed over.
 -- Assumes nothing.
 use mathlib.Core.Path.{ap, _∙_}
-use Rattle.rates.specs.declared.Timecode.{Timecode}
+use Rattle.timecodes.specs.declared.Timecode.{Timecode}
 use Rattle.written.specs.Written.{answerTo, lineTo}
 use Rattle.runtime_writer.specs.RuntimeText.{runtimeDraft}
 use Rattle.exports.specs.Handed.{handedLength}
@@ -9,8 +9,8 @@ use borrow.Author.Needs.{needs}
 use Rattle.exports.proofs.writes.tzq_write_runtime.Statement.{statement}
 use Rattle.exports.proofs.writes.tzq_write_runtime.Tie as tie
 
-timecode-requires : tie.Need-timecode-requires
-timecode-requires c κs = search needs
+timecode-from-requires : tie.Need-timecode-from-requires
+timecode-from-requires c κs = search needs
 
 write-runtime-requires : tie.Need-write-runtime-requires
 write-runtime-requires c κs = search needs
@@ -25,7 +25,7 @@ returns : tie.Need-returns
 returns c =
     let a = c .before .before .before .before .before .before .before .args in
     let w = c .before .before .before .write-runtime .ensures in
-    let same = c .before .before .before .before .before .timecode .ensures in (
+    let same = c .before .before .before .before .before .timecode-from .ensures in (
       c .handed-length .ensures ∙ ap handedLength (w .0 ∙ ap (λ (t : Timecode). answerTo (a .line .now) (a .place) (runtimeDraft t (a .precision))) same),
       w .1 ∙ ap (λ (t : Timecode). lineTo (a .line .now) (a .place) (runtimeDraft t (a .precision))) same,
     )
@@ -33,4 +33,4 @@ returns c =
 pub tzq-write-runtime-spec : {M : Type 1} → statement M
 tzq-write-runtime-spec =
     tie.close
-    (tie.spec timecode-requires write-runtime-requires handed-length-requires same-length returns)
+    (tie.spec timecode-from-requires write-runtime-requires handed-length-requires same-length returns)

@@ -1,0 +1,33 @@
+-- `exports::handed_answer` meets its contract: each arm gives the numbers of its case.
+-- Assumes nothing.
+use mathlib.Core.Path.{_≡_}
+use mir.Syntax.{w64}
+use mir.Val.{toZ, ofZ}
+use Rattle.exports.specs.Handed.{handedAnswer}
+use borrow.Author.Needs.{needs}
+use Rattle.exports.proofs.handed.handed_answer.Statement.{statement}
+use Rattle.exports.proofs.handed.handed_answer.Tie as tie
+
+enum-known-a : tie.Need-enum-known-a
+enum-known-a c = search needs
+
+enum-known-a-2 : tie.Need-enum-known-a-2
+enum-known-a-2 c = search needs
+
+wide-requires : tie.Need-wide-requires
+wide-requires c κs = search needs
+
+returns : tie.Need-returns
+unfolding handedAnswer
+returns c =
+    let z = c .before .before .a .given .0 .0 .count in
+    let back : toZ w64 (ofZ w64 z) ≡ z = search needs in
+    simp (back, c .before .before .a .given .1)
+
+returns-2 : tie.Need-returns-2
+unfolding handedAnswer
+returns-2 c = simp (c .wide .ensures, c .before .before .a2 .given .1)
+
+pub handed-answer-spec : {M : Type 1} → statement M
+handed-answer-spec =
+    tie.close (tie.spec enum-known-a enum-known-a-2 wide-requires returns returns-2)
