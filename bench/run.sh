@@ -37,7 +37,7 @@ theirs() { "$judge" < target/bench-judge.in > target/bench-judge.out 2> /dev/nul
 
 # the two programs, three times each in turn, after one of each that is not counted
 programs() {
-    rt check line > target/bench-line.log 2>&1 || { cat target/bench-line.log >&2; exit 1; }
+    bin/prove line
     judge=$(compare/judge.sh build)
     labels
     ours
@@ -53,7 +53,7 @@ programs() {
 echo "processor: $(processor) ($(nproc) at hand), $(uname -m)"
 if emulated; then echo "emulated: yes, so the times say nothing"; else echo "emulated: no"; fi
 echo "load: $(cut -d ' ' -f 1-3 /proc/loadavg)"
-rt staticlib exports > target/c-staticlib.log 2>&1 || { cat target/c-staticlib.log >&2; exit 1; }
+library
 compile target/bench bench/bench.c bench/plain.c
 run target/bench
 if [ -d crates/line ]; then programs; fi

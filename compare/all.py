@@ -11,6 +11,7 @@ import os
 import re
 import subprocess
 import sys
+import time
 from collections import Counter
 from multiprocessing import Pool
 from pathlib import Path
@@ -120,12 +121,24 @@ def report(found):
     print(f"{found.compared} compared, {found.listed.total()} listed differences, {len(found.unlisted)} unlisted")
 
 
+def tell(found, began):
+    """How far it is, in one line on standard error that is kept up to date, where that is a terminal."""
+    so_far = int(time.monotonic() - began)
+    if sys.stderr.isatty():
+        print(f"\r{found.compared:,} compared, {so_far // 60}:{so_far % 60:02} so far", end="", file=sys.stderr, flush=True)
+
+
 def main():
     size, judge, *ask = sys.argv[1:]
+    began = time.monotonic()
     found = Found(unlisted=listed_wrongly([judge], ask))
+    print(f"comparing {'half a' if size == 'quick' else '26'} million inputs", file=sys.stderr, flush=True)
     with Pool(os.cpu_count()) as pool:
         for one in pool.imap_unordered(work, (([judge], ask, job) for job in commands.jobs(size == "quick"))):
             found.add(one)
+            tell(found, began)
+    if sys.stderr.isatty():
+        print(file=sys.stderr)
     report(found)
     sys.exit(1 if found.unlisted else 0)
 

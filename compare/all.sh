@@ -2,6 +2,8 @@
 # The crate and our program on millions of inputs, each difference held to docs/DIFFERENCES.md: compare/all.sh [quick]
 # Its last line is 'N compared, M listed differences, 0 unlisted'; the status is 1 if any is unlisted.
 #
+# On standard error it tells how far it is; where that is no terminal, only what begins.
+#
 # Needs what compare/judge.sh needs, and Python 3.10 or later, which apt-get installs if there is none. Our program is
 # bin/ask, or the command that ASK names (ASK='python3 compare/forms.py' puts the model in its place).
 set -eu
@@ -26,5 +28,6 @@ if ! "${ask[@]}" < /dev/null > /dev/null; then # which also builds it
     exit 2
 fi
 
+echo "building the judge from the crate's source (a minute where it is not built yet)" >&2
 judge=$(compare/judge.sh build)
 PYTHONDONTWRITEBYTECODE=1 exec python3 compare/all.py "${1-full}" "$judge" "${ask[@]}"

@@ -1,4 +1,4 @@
-/* Calls every function of Tzaquedda and prints what it answers; the cases are the document's. bin/c-demo compares the output with demo.out. */
+/* Calls every function of Tzaquedda and prints what it answers; the cases are those of docs/BEHAVIOUR.md. bin/c-demo compares the output with `expected`. */
 #include <inttypes.h>
 #include <stdio.h>
 #include <string.h>
