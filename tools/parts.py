@@ -69,13 +69,15 @@ class Item:
         """statement, relation, record, data, definition or law."""
         if self.word in ("record", "data"):
             return self.word
-        if self.name[0].isupper() and self.type().endswith("Type 0"):
-            return "statement" if self.type() == "Type 0" else "relation"
+        if self.name[0].isupper() and re.search(r"Type \d$", self.type()):
+            return "statement" if self.type() == "Type 0" and not self.around else "relation"
         return "definition" if self.word in ("abbrev", "unfoldable") else "law"
 
 
 def uncommented(line):
     """A line of antt without its comment."""
+    if "--" not in line:
+        return line.rstrip()
     quoted = False
     for i, c in enumerate(line):
         if c == '"' and (i == 0 or line[i - 1] != "\\"):
@@ -134,6 +136,23 @@ def antt_items(text):
     return items
 
 
+def is_statement(path, item):
+    """Whether an item of specs/ says something by itself: an abbreviation of a type, or a record without parameters among the promises."""
+    if not item.pub or item.name == "Promises":
+        return False
+    bare = item.kind() == "record" and not item.around and re.match(r"\S+ : Type 0 where", plain(item.head))
+    return item.kind() == "statement" or bool(bare and (path.startswith("crates/promises/") or path.endswith("/Statements.antt")))
+
+
+def statements(tree):
+    """Every statement of every crate, in the order of crates.txt: (file, item)."""
+    for crate in crates_of(tree):
+        for path in sorted(p for p in tree if p.startswith(f"crates/{crate}/specs/")):
+            for item in antt_items(tree[path]):
+                if is_statement(path, item):
+                    yield path, item
+
+
 def antt_uses(text):
     """What an antt file's `use` lines bring in: alias -> path of a module, and name -> path of the module that has it."""
     aliases, names = {}, {}
@@ -173,39 +192,22 @@ class Function:
 
 
 LITERAL = re.compile(r'b?"(?:\\.|[^"\\])*"|b\'(?:\\.|[^\'\\])\'', re.S)
+LITERAL_OR_COMMENT = re.compile(LITERAL.pattern + "|//[^\n]*", re.S)
+LITERAL_OR_BRACKET = re.compile(LITERAL.pattern + r"|[()\[\]{};]", re.S)
 
 
 def uncommented_rt(text):
     """A Rattle source with each comment blanked out, so that lines and places stay."""
-    out, i = [], 0
-    while i < len(text):
-        literal = LITERAL.match(text, i)
-        if literal:
-            out.append(literal.group())
-            i = literal.end()
-        elif text.startswith("//", i):
-            end = text.find("\n", i)
-            end = len(text) if end < 0 else end
-            out.append(" " * (end - i))
-            i = end
-        else:
-            out.append(text[i])
-            i += 1
-    return "".join(out)
+    return LITERAL_OR_COMMENT.sub(lambda m: " " * len(m.group()) if m.group().startswith("//") else m.group(), text)
 
 
 def behind(text, at, until):
-    """The place behind the first byte `until` from `at` on that stands in no literal and in no bracket opened since."""
+    """The place behind the first `until` from `at` on that stands in no literal and in no bracket opened since."""
     depth = 0
-    while at < len(text):
-        skip = LITERAL.match(text, at)
-        if skip:
-            at = skip.end()
-            continue
-        depth += (text[at] in "([{") - (text[at] in ")]}")
-        at += 1
-        if depth == 0 and text[at - 1] == until:
-            return at
+    for m in LITERAL_OR_BRACKET.finditer(text, at):
+        depth += (m.group() in "([{") - (m.group() in ")]}")
+        if depth == 0 and m.group() == until:
+            return m.end()
     raise ValueError("a bracket that nothing closes")
 
 
