@@ -2,7 +2,7 @@
 """Runs the inputs of commands.py through the crate and through our program, and holds each difference to the list.
 
 `compare/all.sh` calls it with `full` or `quick`, the judge's path, and the program that answers `ask`'s commands. Where the
-two answers are the same, the document is asked too for one in ten; where they differ, always: ours must be the document's
+two answers are the same, the model is asked too for one in ten; where they differ, always: ours must be the model's
 answer, and the crate's what the rule of a listed kind says (kinds.py). All else is unlisted. The inputs that
 docs/DIFFERENCES.md shows come first, and each must be of its own kind.
 """
@@ -35,7 +35,7 @@ def answers(program, asked):
 
 
 def differences(judge, ask, asked):
-    """Where the crate, our program and the document are not of one mind: the command, the number of the kind or none, and
+    """Where the crate, our program and the model are not of one mind: the command, the number of the kind or none, and
     the three answers."""
     from_judge = answers(judge, [forms.for_judge(command) for command in asked])
     for n, (command, crate, ours) in enumerate(zip(asked, from_judge, answers(ask, asked))):
@@ -45,11 +45,11 @@ def differences(judge, ask, asked):
             continue
         bare = forms.for_model(command)
         meant = model.answer(bare)
-        document = forms.shown(command, meant.encode())
-        if same and document == wanted:
+        right = forms.shown(command, meant.encode())
+        if same and right == wanted:
             continue
-        listed = not same and is_same(ours, document)
-        yield command, kinds.kind(bare, meant, crate.decode()) if listed else None, crate, ours, document
+        listed = not same and is_same(ours, right)
+        yield command, kinds.kind(bare, meant, crate.decode()) if listed else None, crate, ours, right
 
 
 def is_same(ours, wanted):
@@ -116,8 +116,8 @@ def report(found):
     for number in range(1, max(found.listed, default=0) + 1):
         shortest = f", the shortest {found.shortest[number]!r}" if number in found.shortest else ""
         print(f"kind {number}: {found.listed[number]}{shortest}")
-    for command, crate, ours, document in sorted(found.unlisted, key=lambda one: by_length(one[0]))[:20]:
-        print(f"unlisted: {command!r}: crate {crate!r}, ours {ours!r}, document {document!r}")
+    for command, crate, ours, right in sorted(found.unlisted, key=lambda one: by_length(one[0]))[:20]:
+        print(f"unlisted: {command!r}: crate {crate!r}, ours {ours!r}, model {right!r}")
     print(f"{found.compared} compared, {found.listed.total()} listed differences, {len(found.unlisted)} unlisted")
 
 

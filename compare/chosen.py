@@ -1,4 +1,4 @@
-"""Random numbers around each limit of the document: rates and formats, counts, fractions."""
+"""Random numbers around each limit: rates and formats, counts, fractions."""
 
 import model
 

@@ -15,7 +15,7 @@ import model
 
 WRITERS = (b"label", b"footage", b"runtime")
 
-# what the crate's errors are called in the document; a text that cannot be given to the crate, a value that it has none of,
+# what the crate's errors are called here; a text that cannot be given to the crate, a value that it has none of,
 # and a panic are nothing that `ask` can answer
 MEANT = {
     b"error UnknownStrFormat": b"refused 1",
@@ -72,7 +72,7 @@ def from_crate(command, answer):
 
 
 def from_model(command):
-    """What `ask` answers if it agrees with the document."""
+    """What `ask` answers if it agrees with the model."""
     return shown(command, model.answer(for_model(command)).encode())
 
 

@@ -1,7 +1,7 @@
 """The kinds of difference that docs/DIFFERENCES.md lists, each as a rule.
 
-`kind` is asked about an answer of the crate that is not the document's, and gives the number of the kind that it is of, or
-none: then it is unlisted. A rule does not skip an input, it says what the crate answers there: the document's formulas
+`kind` is asked about an answer of the crate that is not the model's, and gives the number of the kind that it is of, or
+none: then it is unlisted. A rule does not skip an input, it says what the crate answers there: the model's formulas
 without its bounds (`unbounded`), but for the crate's faults, which are formulas here (`crate_label`, `crate_runtimes`,
 `crate_read`). Known by shape only: where the crate panics on huge numbers (14, 17), and which way it rounds half a second
 at precision 0 (6) and half a frame of a fraction of over 6 digits (13).
@@ -14,7 +14,7 @@ from math import prod
 import model
 
 
-def document_without_bounds():
+def model_without_bounds():
     """The model a second time, where every number and every field is taken."""
     spec = importlib.util.spec_from_file_location("unbounded", model.__file__)
     unbounded = importlib.util.module_from_spec(spec)
@@ -24,21 +24,21 @@ def document_without_bounds():
     return unbounded
 
 
-unbounded = document_without_bounds()
+unbounded = model_without_bounds()
 
 PANIC = "panic"
 NO_SUCH_VALUE = "not understood"
 
 
-def kind(command, document, crate):
-    """The number of a difference: the command as the judge takes it, the document's answer, the crate's answer."""
+def kind(command, right, crate):
+    """The number of a difference: the command as the judge takes it, the model's answer, the crate's answer."""
     word, _, rest = command.partition(b" ")
-    if document == "refused 6" and crate == NO_SUCH_VALUE:
+    if right == "refused 6" and crate == NO_SUCH_VALUE:
         return 20
     if word in model.TEXTS:
         *numbers, text = rest.split(b" ", model.TEXTS[word][1])
-        return of_text(word, [int(n) for n in numbers], text, document, crate)
-    return of_numbers(word, [int(n) for n in rest.split(b" ")], document, crate)
+        return of_text(word, [int(n) for n in numbers], text, right, crate)
+    return of_numbers(word, [int(n) for n in rest.split(b" ")], right, crate)
 
 
 # -- Writing labels at rates 5 and 11 (1, 2) --
@@ -89,11 +89,11 @@ def crate_runtimes(rate, count, precision):
     return [front + f"{rest / n:.{precision}f}".strip("0")]
 
 
-def runtime_kind(precision, document, crate):
+def runtime_kind(precision, right, crate):
     """No fraction asked for, a bare point, a 1 that is not carried, a half."""
     if precision == 0:
         return 6
-    if crate + "0" == document:
+    if crate + "0" == right:
         return 4
     return 3 if re.search(r":[0-9]{2}1\.$", crate) else 5
 
@@ -147,11 +147,11 @@ def crate_read(word, numbers, text):
     return [ERRORS.get(answer, answer)]
 
 
-def of_text(word, numbers, text, document, crate):
-    if document == "refused 6":
+def of_text(word, numbers, text, right, crate):
+    if right == "refused 6":
         return None
     if crate == "error Utf8":
-        return 15 if document == "refused 1" and not is_utf8(text) else None
+        return 15 if right == "refused 1" and not is_utf8(text) else None
     expected = crate_read(word, numbers, text)
     if crate == PANIC:
         return 14 if not expected[0].startswith("error") and max(fields(text)) >= 10**9 else None
@@ -159,12 +159,12 @@ def of_text(word, numbers, text, document, crate):
         return None
     if crate.startswith("error"):
         # both refuse, or the crate alone, a perf field of more digits
-        return 15 if document.startswith("refused") else 10
-    if document == "refused 1":
+        return 15 if right.startswith("refused") else 10
+    if right == "refused 1":
         return 8 if b"|" in text else 9
-    if document == "refused 2":
+    if right == "refused 2":
         return 12 if re.search(rb"[0-9]{10}", text.partition(b".")[0]) else 13
-    return 16 if document == "refused 5" else 11
+    return 16 if right == "refused 5" else 11
 
 
 def is_utf8(text):
@@ -196,14 +196,14 @@ class Given:
         self.zero_divisor = word in DIVISORS and numbers[2] == 0
 
 
-def of_numbers(word, numbers, document, crate):
+def of_numbers(word, numbers, right, crate):
     given = Given(word, numbers)
     if crate == PANIC:
-        return panic_kind(word, given, document)
-    if document == "refused 6" or given.q == 0 or given.zero_divisor:
+        return panic_kind(word, given, right)
+    if right == "refused 6" or given.q == 0 or given.zero_divisor:
         return None
     if crate in crate_compute(word, numbers):
-        return bound_kind(word, given) if document == "refused 5" else fault_kind(word, numbers, document, crate)
+        return bound_kind(word, given) if right == "refused 5" else fault_kind(word, numbers, right, crate)
     if word == b"ticks" and given.past_count and crate == str(wrapped(unbounded.ticks(*numbers))):
         return 17
     return None
@@ -222,9 +222,9 @@ def crate_compute(word, numbers):
     return [str(function(*numbers))]
 
 
-def panic_kind(word, given, document):
+def panic_kind(word, given, right):
     """A divisor of 0, a fraction over 0, or numbers past their bounds that pass 64 bits."""
-    if document == "refused 6":
+    if right == "refused 6":
         # the first timecode is made before the other rates are looked at
         return 17 if word in (b"add", b"sub", b"cmp", b"convert") and is_huge(given.counts[0]) else None
     if given.q == 0:
@@ -241,11 +241,11 @@ def bound_kind(word, given):
     return 18 if given.past_fraction else 7 if word == b"runtime" else 16
 
 
-def fault_kind(word, numbers, document, crate):
+def fault_kind(word, numbers, right, crate):
     """1 to 6: all is within its bounds."""
     if word == b"label":
         return label_kind(*numbers)
-    return runtime_kind(numbers[2], document, crate) if word == b"runtime" else None
+    return runtime_kind(numbers[2], right, crate) if word == b"runtime" else None
 
 
 def wrapped(number):

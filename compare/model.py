@@ -1,9 +1,9 @@
 #!/usr/bin/env python3
-"""Document 01 as a model in whole numbers, written apart from the port and from the crate.
+"""The rules of docs/BEHAVIOUR.md as a model in whole numbers, written apart from the port and from the crate.
 
 `python3 compare/model.py < commands > answers` answers the commands of compare/README.md, one line each: a number, a text,
-or `refused N` with document 01's number; `not understood` for what is no command. `python3 compare/model.py cases` runs the
-document's cases. Sentences in quotation marks are the document's.
+or `refused N`; `not understood` for what is no command. `python3 compare/model.py cases` runs the worked cases. Rules stand in
+quotation marks.
 
 Texts are bytes. Writers give the text itself, without a line to lay it down in, so 8 is never given here.
 """
@@ -43,7 +43,7 @@ BOUND = 400_000_000
 
 
 class Refused(Exception):
-    """A refusal, with the document's number."""
+    """A refusal, with its number."""
 
     def __init__(self, number):
         super().__init__(number)
@@ -229,7 +229,7 @@ def sections(rate, count):
         minute, label = minute + 1, label + drop
     hours, minutes = divmod(10 * tens + minute, 60)
     seconds, frames = divmod(label, timebase)
-    # what the document defines them by
+    # what they are defined by
     assert minutes < 60 and seconds < 60 and frames < timebase and not is_dropped(rate, minutes, seconds, frames)
     assert label_count(rate, hours, minutes, seconds, frames) == abs(count)
     return hours, minutes, seconds, frames
@@ -498,7 +498,7 @@ def answer(line):
         return f"refused {refusal.number}"
 
 
-# -- Cases: the document's, those that are commands --
+# -- The worked cases that are commands --
 
 CASES = """
 label 5 1799 = 00:00:59;29

@@ -2,9 +2,9 @@
 """Makes the stored sample: some thousands of commands of `ask`, and the answers that are right.
 
 `python3 compare/sample.py DIR` writes DIR/stdin and DIR/stdout, the same on every run. An answer is the crate's where the
-crate and the document agree, and the document's where the difference is of a listed kind (kinds.py); an unlisted one ends
+crate and the model agree, and the model's where the difference is of a listed kind (kinds.py); an unlisted one ends
 the run. Our own program is not asked. What the crate has nothing for (minutes out of bounds, lines that are no commands) is
-as document 01 and compare/README.md say.
+as docs/BEHAVIOUR.md and compare/README.md say.
 """
 
 import subprocess
@@ -71,8 +71,8 @@ def with_line(command):
     return command + b" 2 20" if command.startswith(forms.WRITERS) else command
 
 
-def of_document():
-    """The document's cases and the list's inputs."""
+def of_cases():
+    """The worked cases and the list's inputs."""
     cases = (case.rpartition(" = ")[0].encode() for case in model.CASES.strip().split("\n"))
     return [*map(with_line, cases), *(command for command, _ in comparison.shown_in_list())]
 
@@ -122,20 +122,20 @@ def is_plain(command):
 
 
 def right_answers(judge, asked):
-    """The document's answers, once it is shown that the crate's are the same or of a listed kind."""
+    """The model's answers, once it is shown that the crate's are the same or of a listed kind."""
     from_judge = comparison.answers([judge], [forms.for_judge(command) for command in asked])
     for command, crate in zip(asked, from_judge):
-        document = forms.from_model(command)
+        right = forms.from_model(command)
         bare = forms.for_model(command)
-        if document != forms.from_crate(command, crate) and not kinds.kind(bare, model.answer(bare), crate.decode()):
-            sys.exit(f"unlisted: {command!r}: crate {crate!r}, document {document!r}")
-        yield document
+        if right != forms.from_crate(command, crate) and not kinds.kind(bare, model.answer(bare), crate.decode()):
+            sys.exit(f"unlisted: {command!r}: crate {crate!r}, right {right!r}")
+        yield right
 
 
 def main():
     (folder,) = sys.argv[1:]
     judge = subprocess.run([HERE / "judge.sh", "build"], stdout=subprocess.PIPE, check=True, text=True).stdout.strip()
-    made = dict.fromkeys([*of_document(), *of_readers(), *of_writers(), *of_operations()])
+    made = dict.fromkeys([*of_cases(), *of_readers(), *of_writers(), *of_operations()])
     asked = [command for command in made if is_plain(command)]
     answered = list(right_answers(judge, asked))
     for minute in (-1, 1440, 2**63 - 1):

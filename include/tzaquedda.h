@@ -1,10 +1,11 @@
 /* Tzaquedda for C: timecode, feet and frames, runtimes, ticks and seconds as frame counts at twelve rates.
  *
- * Link with the static library that `rt staticlib exports` writes (target/staticlib/libexports.a, x86-64 Linux):
+ * Link with the static library that `bin/prove --library exports` makes (target/staticlib/libexports.a, x86-64 Linux):
  *
  *     cc -I include your.c target/staticlib/libexports.a
  *
- * examples/c/demo.c calls every function once or more; bin/c-demo builds and runs it.
+ * examples/c/demo.c calls every function once or more; bin/c-demo builds and runs it. docs/BEHAVIOUR.md has the rules, worked cases and
+ * all limits.
  *
  * Every function is total: it answers for all arguments, keeps nothing between calls, allocates nothing, and may be called from any
  * number of threads at once. A pointer must not be null and must point at as many elements as the length behind it says (a pointer to

@@ -1,6 +1,6 @@
 //! The crate as judge: reads commands, one a line, and answers each in a line with what vtc 0.1.14 says.
 //!
-//! The commands are listed in compare/README.md. RATE and FORMAT are document 01's numbers. What the crate refuses is
+//! The commands are listed in compare/README.md. RATE and FORMAT are the numbers of docs/BEHAVIOUR.md. What the crate refuses is
 //! `error KIND`, where it panics is `panic`, and what is no command is `not understood`.
 
 use num::Rational64;
@@ -25,7 +25,7 @@ const TABLE: [(i64, i64, i64, bool); 12] = [
     (60, 1, 60, false),
 ];
 
-/// The crate's rates in the order of document 01: its constants, and 50, for which it has none.
+/// The crate's rates in the order of our table: its constants, and 50, for which it has none.
 fn crate_rates() -> [Framerate; 12] {
     let f50 = Framerate::with_playback(50, Ntsc::None).expect("50 is a rate of the crate");
     let rates = [
