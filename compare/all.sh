@@ -28,6 +28,5 @@ if ! "${ask[@]}" < /dev/null > /dev/null; then # which also builds it
     exit 2
 fi
 
-echo "building the judge from the crate's source (a minute where it is not built yet)" >&2
 judge=$(compare/judge.sh build)
 PYTHONDONTWRITEBYTECODE=1 exec python3 compare/all.py "${1-full}" "$judge" "${ask[@]}"

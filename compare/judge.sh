@@ -45,7 +45,13 @@ build() {
 }
 
 # one build at a time; quiet unless it fails (not `( .. ) || ..`, which would turn set -e off inside)
+judge=$out/build/release/judge
 mkdir -p "$out"
+first=
+if [ ! -x "$judge" ]; then
+    first=1
+    echo "building the judge from the crate's source: a minute or two, once" >&2
+fi
 set +e
 ( set -e; flock 9; build < /dev/null > "$out/build.log" 2>&1 9>&- ) 9> "$out/lock"
 built=$?
@@ -54,8 +60,8 @@ if [ "$built" -ne 0 ]; then
     cat "$out/build.log" >&2
     exit 1
 fi
+[ -z "$first" ] || echo "the judge is built ($SECONDS s)" >&2
 
-judge=$out/build/release/judge
 case ${1-} in
     build) echo "$judge" ;;
     '') exec "$judge" 2> /dev/null ;; # the crate's dbg! writes there
