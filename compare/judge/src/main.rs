@@ -9,7 +9,7 @@ use std::io::{self, BufRead, BufReader, BufWriter, Write};
 use std::panic;
 use vtc::{rates, FeetFramesStr, FilmFormat, Framerate, Ntsc, Timecode, TimecodeParseError, TimecodeParseResult};
 
-/// Document 01's rates: frames a second as a fraction, timebase, whether labels are dropped.
+/// The twelve rates: frames a second as a fraction, timebase, whether labels are dropped.
 const TABLE: [(i64, i64, i64, bool); 12] = [
     (24000, 1001, 24, false),
     (24, 1, 24, false),
