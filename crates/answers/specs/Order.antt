@@ -30,6 +30,11 @@ first (c ∷ rest) = cond (c .holds) (c .refusal .number) (first rest)
 abbrev pub judged : List Condition → Verdict
 judged conditions = unless Refused conditions Passed
 
+-- the number of a verdict; 0: the call goes on
+abbrev pub verdictNumber : Verdict → ℕ
+verdictNumber Passed = 0
+verdictNumber (Refused e) = e .number
+
 -- no condition holds
 abbrev pub Clear : List Condition → Type 0
 Clear [] = Unit {0}

@@ -8,7 +8,7 @@ use native.Mathlib.Omega.{arith}
 use Rattle.answers.specs.declared.Refusal.{Refusal}
 use Rattle.answers.specs.declared.Verdict.{Verdict}
 use Rattle.answers.specs.declared.Verdict.the-variants.{Passed, Refused}
-use Rattle.answers.specs.Order.{Condition, unless, first, judged, Clear}
+use Rattle.answers.specs.Order.{Condition, unless, first, judged, verdictNumber, Clear}
 
 -- ---- the verdict, and what is answered behind it
 
@@ -83,6 +83,10 @@ unless-number numberOf refused told (c ∷ rest) answer none = by (c .holds) (un
         → numberOf (cond t (refused (c .refusal)) (unless refused rest answer)) ≡ cond t (c .refusal .number) (first rest)
     by true later = told (c .refusal)
     by false later = later
+
+-- a verdict's number is that of the first condition
+pub judged-first : (conditions : List Condition) (v : Verdict) → judged conditions ≡ v → first conditions ≡ verdictNumber v
+judged-first conditions v h = sym (unless-number verdictNumber Refused (λ e. refl) conditions Passed refl) ∙ ap verdictNumber h
 
 -- ---- tests and their negations
 

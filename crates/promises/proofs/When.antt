@@ -1,147 +1,96 @@
--- Demand 1, exactly when: each function's tests in its order, one behind the other.
+-- Demand 1, exactly when: each definition is its list of conditions before an answer, so its number is that of the first that holds.
 -- Assumes nothing.
-use Prim.Native.Nat.{ℕ, _-_}
-use mathlib.Core.Path.{_≡_, refl, ap}
-use mathlib.Core.Bool.{Bool, true, false, cond, not}
-use mathlib.Core.List.{List}
-use lib.Dec.{leb}
-use lib.IntN.{ℤ}
-use lib.ListN.{getD}
-use Rattle.answers.specs.declared.Counted.{Counted}
-use Rattle.answers.specs.Refusals.{noSuch, outOfBounds, zeroDivisor, isCount, orElse, numberOf}
-use Rattle.rates.specs.declared.Timecode.{Timecode}
-use Rattle.rates.specs.declared.Framerate.{Framerate}
-use Rattle.rates.specs.declared.Rated.the-variants as rated-is
-use Rattle.rates.specs.Rates.{isRate, rateRow, rateAt}
-use Rattle.rates.specs.Rates as rated
-use Rattle.rates.specs.Every.{every}
-use Rattle.film.specs.declared.FilmFormat.{FilmFormat}
-use Rattle.film.specs.declared.FilmFormat.the-variants.{FF35mm4perf}
-use Rattle.film.specs.declared.Filmed.{Filmed}
+use Prim.Native.Nat.{ℕ}
+use mathlib.Core.Path.{_≡_, refl, sym, _∙_, ap}
+use mathlib.Core.List.{List, [], _∷_}
+use lib.IntN.{ℤ, _+ℤ_, _-ℤ_}
+use lib.ListN.{length}
+use Rattle.answers.specs.declared.Verdict.{Verdict}
+use Rattle.answers.specs.declared.Verdict.the-variants as verdict
+use Rattle.answers.specs.declared.Counted.the-variants as counted
+use Rattle.answers.specs.Order.{Condition, unless, first, judged}
+use Rattle.answers.specs.OrderLaws.{judged-first, unless-number}
+use Rattle.answers.specs.Refusals as answers
+use Rattle.rates.specs.declared.Rated.the-variants as rated
+use Rattle.rates.specs.Rates.{badRate, rateAt}
+use Rattle.rates.specs.Rates as rates
+use Rattle.timecodes.specs.declared.Timecode.{Timecode}
+use Rattle.timecodes.specs.declared.Answer.the-variants.{At, Refused}
+use Rattle.timecodes.specs.Timecode.{numberOf}
+use Rattle.timecodes.specs.Admitted.{admits, admitsBoth}
 use Rattle.film.specs.declared.Filmed.the-variants as filmed
-use Rattle.film.specs.Film.{isFormat, formats, formatAt}
+use Rattle.film.specs.Film.{badFormat, formatIn, formatAt}
 use Rattle.film.specs.Film as film
-use Rattle.reading.specs.Shaped.{formatIn}
-use Rattle.minutes.specs.Minutes.{minuteAt}
+use Rattle.minutes.specs.Minutes.{badMinute, minuteAt}
+use Rattle.time.specs.declared.Ticked.the-variants as ticked
 use Rattle.time.specs.declared.Timed.{Timed}
-use Rattle.time.specs.declared.Timed.the-variants as timed-is
-use Rattle.time.specs.Bounds.{isSeconds, isFactor}
-use Rattle.time.specs.Instant.{instant}
-use Rattle.time.specs.Frames.{framesAt, ticksAt, secondsAt}
+use Rattle.time.specs.declared.Timed.the-variants as timed
+use Rattle.time.specs.Frames.{framesWhen, framesAt, ticksWhen, ticksAt, secondsWhen, secondsAt}
 use Rattle.time.specs.Ticks.{ticksOf}
-use Rattle.time.specs.Seconds.{OrElse, IsSeconds, SecondsOf}
-use Rattle.time.specs.Seconds as timed
-use Rattle.arithmetic.specs.Divisor.{isDivisor}
-use Rattle.arithmetic.specs.Pair.{instantsOf}
-use Rattle.arithmetic.specs.Sum.{behind, joined}
-use Rattle.arithmetic.specs.Product.{mulOf}
-use Rattle.arithmetic.specs.Truncating.{divOf, remOf}
-use Rattle.arithmetic.specs.Flooring.{divqOf}
-use Rattle.arithmetic.specs.Remainder.{remqOf}
+use Rattle.time.specs.Ticks as ticks
+use Rattle.time.specs.Seconds.{IsSeconds, SecondsOf}
+use Rattle.time.specs.Seconds as seconds
+use Rattle.arithmetic.specs.Sum.{joinedWhen, joined}
+use Rattle.arithmetic.specs.Product.{mulWhen, mulOf}
+use Rattle.arithmetic.specs.Truncating.{divWhen, divOf, remOf}
+use Rattle.arithmetic.specs.Flooring.{divqWhen, divqOf}
+use Rattle.arithmetic.specs.Remainder.{remqWhen, remqOf}
+use Rattle.arithmetic.specs.declared.Compared.the-variants as compared
 use Rattle.arithmetic.specs.Compare.{compareOf}
-use Rattle.arithmetic.specs.Count.{negOf, absOf, rebaseOf}
-use Rattle.chains.specs.Chain.{convertOf}
-use Rattle.written.specs.Written.{answerTo}
+use Rattle.arithmetic.specs.Compare as compare
+use Rattle.arithmetic.specs.Count.{negOf, absOf, rebaseWhen, rebaseOf}
+use Rattle.chains.specs.Chain.{convertWhen, convertOf}
+use Rattle.written.proofs.Statements.{number-behind}
+use Rattle.label_writer.specs.declared.Sectioned.the-variants as sectioned-is
 use Rattle.label_writer.specs.Sections.{sectioned}
-use Rattle.label_writer.specs.LabelText.{labelDraft}
-use Rattle.footage_writer.specs.FootageText.{countDraft, footageDraft, inFormat}
-use Rattle.runtime_writer.specs.RuntimeText.{countDraft as runtimeCount, runtimeDraft}
-use Rattle.promises.specs.When.{givenBy, RefusedWhen}
-use Rattle.promises.proofs.Behind.{counts, result, pairs, orders, ticks, sections, ends, drafts, room, steps}
+use Rattle.label_writer.specs.Sections as sections
+use Rattle.label_writer.specs.LabelText.{labelText, labelWhen, labelDraft}
+use Rattle.footage_writer.specs.FootageText.{footageText, footageWhen, footageDraft}
+use Rattle.runtime_writer.specs.RuntimeText.{runtimeText, runtimeWhen, runtimeDraft}
+use Rattle.promises.specs.When.{RefusedWhen}
 
--- ---- of one timecode, and of two
-timecode-number : (tc : Timecode) (rest : Counted) (k : ℕ) → numberOf rest ≡ k
-    → numberOf (orElse (isRate (tc .rate)) noSuch (orElse (isCount (tc .count)) outOfBounds rest))
-    ≡ cond (not (isRate (tc .rate))) 6 (cond (not (isCount (tc .count))) 5 k)
-timecode-number tc rest k h =
-    counts (isRate (tc .rate)) noSuch (orElse (isCount (tc .count)) outOfBounds rest) (cond (not (isCount (tc .count))) 5 k)
-    (counts (isCount (tc .count)) outOfBounds rest k h)
+-- an answer that is a timecode
+given : (conditions : List Condition) (tc : Timecode) → numberOf (unless Refused conditions (At tc)) ≡ first conditions
+given conditions tc = unless-number numberOf Refused (λ e. refl) conditions (At tc) refl
 
-pair-number : (f : ℤ → ℤ → Counted) (a b : Timecode) (k : ℕ) → numberOf (f (instant a) (instant b)) ≡ k
-    → numberOf (behind (instantsOf a b) f)
-    ≡ cond (not (isRate (a .rate))) 6
-    (cond (not (isRate (b .rate))) 6 (cond (not (isCount (a .count))) 5 (cond (not (isCount (b .count))) 5 k)))
-unfolding instantsOf
-pair-number f a b k h =
-    pairs f (isRate (a .rate)) noSuch _ _
-    (pairs f (isRate (b .rate)) noSuch _ _
-    (pairs f (isCount (a .count)) outOfBounds _ _ (pairs f (isCount (b .count)) outOfBounds _ k h)))
+-- seconds, whose fraction is told by what it is
+second-number : (tc : Timecode) (answer : Timed) → SecondsOf tc answer → seconds.numberOf answer ≡ first (admits tc)
+second-number tc answer h = by (judged (admits tc)) refl answer h
+  where
+    taken : (answer : Timed) → IsSeconds _ answer → seconds.numberOf answer ≡ 0
+    taken (timed.Seconds p q) k = refl
+    taken (timed.Refused e) k = absurd k
 
--- ---- a film format's number
-module _ (line : List ℕ) (place : ℕ) (count : ℤ) where
-  -- the count is written in the format that a number has
-  formatted : Filmed → ℕ
-  formatted format = givenBy (inFormat format (λ chosen. countDraft chosen count)) line place
-
-  format-by : (t : Bool) (format : FilmFormat) (k : ℕ)
-      → givenBy (countDraft (formatIn (cond t (filmed.Format format) (filmed.Refused noSuch))) count) line place ≡ k
-      → formatted (cond t (filmed.Format format) (filmed.Refused noSuch)) ≡ cond (not t) 6 k
-  unfolding answerTo formatted
-  format-by true format k h = h
-  format-by false format k h = refl
-
-  format-number : (format k : ℕ) → givenBy (countDraft (formatIn (formatAt format)) count) line place ≡ k
-      → givenBy (inFormat (formatAt format) (λ chosen. countDraft chosen count)) line place ≡ cond (not (isFormat format)) 6 k
-  unfolding formatAt formatted
-  format-number format k h = format-by (isFormat format) (getD formats (format - 1) FF35mm4perf) k h
-
--- ---- a row, and a format
-row-number : (t : Bool) (row : Framerate) → rated.numberOf (cond t (rated-is.Row row) (rated-is.Refused noSuch)) ≡ cond (not t) 6 0
-row-number true row = refl
-row-number false row = refl
-
-format-of : (t : Bool) (format : FilmFormat) → film.numberOf (cond t (filmed.Format format) (filmed.Refused noSuch)) ≡ cond (not t) 6 0
-format-of true format = refl
-format-of false format = refl
-
--- ---- seconds, whose fraction is told by what it is
-second-number : (tc : Timecode) (r c : Bool) (answer : Timed)
-    → OrElse r noSuch (OrElse c outOfBounds (IsSeconds (instant tc))) answer → timed.numberOf answer ≡ cond (not r) 6 (cond (not c) 5 0)
-second-number tc true true (timed-is.Seconds p q) h = refl
-second-number tc true true (timed-is.Refused e) h = absurd h
-second-number tc true false answer h = ap timed.numberOf h
-second-number tc false c answer h = ap timed.numberOf h
+    by : (v : Verdict) → judged (admits tc) ≡ v → (answer : Timed) → SecondsOf tc answer → seconds.numberOf answer ≡ first (admits tc)
+    by verdict.Passed e answer h = taken answer (h .seconds e) ∙ sym (judged-first (admits tc) verdict.Passed e)
+    by (verdict.Refused r) e answer h = ap seconds.numberOf (h .refused r e) ∙ sym (judged-first (admits tc) (verdict.Refused r) e)
 
 pub refused-when : RefusedWhen
-unfolding sectioned rateAt formatAt labelDraft footageDraft countDraft runtimeDraft runtimeCount framesAt ticksAt secondsAt ticksOf SecondsOf
-    minuteAt joined instantsOf compareOf mulOf divOf remOf divqOf remqOf negOf absOf rebaseOf convertOf
+unfolding labelDraft footageDraft runtimeDraft sectioned framesAt ticksAt secondsAt ticksOf joined compareOf mulOf divOf remOf divqOf remqOf negOf absOf rebaseOf convertOf rateAt formatAt minuteAt
 refused-when = record {
-  write-label =
-      λ tc line place.
-      drafts line place (isRate (tc .rate)) noSuch _ _ (drafts line place (isCount (tc .count)) outOfBounds _ _ (room line place _));
-  write-footage =
-      λ tc format line place.
-      drafts line place (isRate (tc .rate)) noSuch _ _
-      (format-number line place (tc .count) format _ (drafts line place (isCount (tc .count)) outOfBounds _ _ (room line place _)));
+  write-label = λ tc line place. number-behind (labelWhen tc) line place (labelText (tc .rate) (tc .count));
+  write-footage = λ tc format line place. number-behind (footageWhen tc format) line place (footageText (formatIn format) (tc .count));
   write-runtime =
-      λ tc precision line place.
-      drafts line place (isRate (tc .rate)) noSuch _ _
-      (drafts line place (isCount (tc .count)) outOfBounds _ _ (drafts line place (leb precision 6) outOfBounds _ _ (room line place _)));
-  sections = λ tc. sections (isRate (tc .rate)) noSuch _ _ (sections (isCount (tc .count)) outOfBounds _ _ refl);
-  with-frames = λ count rate. counts (isRate rate) noSuch _ _ (counts (isCount count) outOfBounds _ _ refl);
-  with-premiere-ticks = λ t rate. counts (isRate rate) noSuch _ _ (result _);
-  with-seconds = λ p q rate. counts (isRate rate) noSuch _ _ (counts (isSeconds p q) outOfBounds _ _ (result _));
-  premiere-ticks = λ tc. ticks (isRate (tc .rate)) noSuch _ _ (ticks (isCount (tc .count)) outOfBounds _ _ refl);
-  seconds = λ tc answer h. second-number tc (isRate (tc .rate)) (isCount (tc .count)) answer h;
-  add = λ a b. pair-number _ a b _ (result _);
-  sub = λ a b. pair-number _ a b _ (result _);
-  cmp =
-      λ a b.
-      orders (isRate (a .rate)) noSuch _ _
-      (orders (isRate (b .rate)) noSuch _ _
-      (orders (isCount (a .count)) outOfBounds _ _ (orders (isCount (b .count)) outOfBounds _ _ refl)));
-  mul = λ tc p q. timecode-number tc _ _ (counts (isFactor p q) outOfBounds _ _ (result _));
-  div = λ tc n. timecode-number tc _ _ (counts (isDivisor n) zeroDivisor _ _ refl);
-  rem = λ tc n. timecode-number tc _ _ (counts (isDivisor n) zeroDivisor _ _ refl);
-  divq =
-      λ tc p q. timecode-number tc _ _ (counts (isFactor p q) outOfBounds _ _ (counts (isDivisor p) zeroDivisor _ _ (result _)));
-  remq =
-      λ tc p q. timecode-number tc _ _ (counts (isFactor p q) outOfBounds _ _ (counts (isDivisor p) zeroDivisor _ _ (result _)));
-  neg = λ tc. timecode-number tc _ _ refl;
-  abs = λ tc. timecode-number tc _ _ refl;
-  rebase = λ tc rate. counts (isRate rate) noSuch _ _ (timecode-number tc _ _ refl);
-  framerate-at = λ rate. row-number (isRate rate) (rateRow rate);
-  format-at = λ format. format-of (isFormat format) (getD formats (format - 1) FF35mm4perf);
-  minute-start = λ minute. counts (leb minute 1439) outOfBounds _ _ refl;
-  convert = λ tc list. ends (isRate (tc .rate)) noSuch _ _ (ends (every isRate list) noSuch _ _ (steps tc list));
+      λ tc precision line place. number-behind (runtimeWhen tc precision) line place (runtimeText (tc .rate) precision (tc .count));
+  sections = λ tc. unless-number sections.numberOf sectioned-is.Refused (λ e. refl) (admits tc) _ refl;
+  with-frames = λ count rate. given (framesWhen count rate) _;
+  with-premiere-ticks = λ t rate. given (ticksWhen t rate) _;
+  with-seconds = λ p q rate. given (secondsWhen p q rate) _;
+  premiere-ticks = λ tc. unless-number ticks.numberOf ticked.Refused (λ e. refl) (admits tc) _ refl;
+  seconds = second-number;
+  add = λ a b. given (joinedWhen _+ℤ_ a b) _;
+  sub = λ a b. given (joinedWhen _-ℤ_ a b) _;
+  cmp = λ a b. unless-number compare.numberOf compared.Refused (λ e. refl) (admitsBoth a b) _ refl;
+  mul = λ tc p q. given (mulWhen tc p q) _;
+  div = λ tc n. given (divWhen tc n) _;
+  rem = λ tc n. given (divWhen tc n) _;
+  divq = λ tc p q. given (divqWhen tc p q) _;
+  remq = λ tc p q. given (remqWhen tc p q) _;
+  neg = λ tc. given (admits tc) _;
+  abs = λ tc. given (admits tc) _;
+  rebase = λ tc rate. given (rebaseWhen tc rate) _;
+  convert = λ tc list. given (convertWhen tc list) _;
+  framerate-at = λ rate. unless-number rates.numberOf rated.Refused (λ e. refl) (badRate rate ∷ []) _ refl;
+  format-at = λ format. unless-number film.numberOf filmed.Refused (λ e. refl) (badFormat format ∷ []) _ refl;
+  minute-start = λ minute. unless-number answers.numberOf counted.Refused (λ e. refl) (badMinute minute ∷ []) _ refl;
 }

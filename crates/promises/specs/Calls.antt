@@ -1,8 +1,6 @@
 -- Demand 1, calls: any bytes and any numbers get an answer, and one only; nothing relies on the caller having checked.
 -- Assumes nothing.
-use denote.Triple.Entry.{Args}
-use denote.Triple.Clauses.{Ended}
-use Rattle.outcomes.specs.Outcome.{Times, Asks, Tells, Determined}
+use Rattle.promises.specs.Answers.{Answers}
 use Rattle.reading.proofs.read_text as read-text
 use Rattle.reading.proofs.read_text.Reads as read-text-reads
 use Rattle.runtime_reading.proofs.read_runtime as read-runtime
@@ -15,6 +13,8 @@ use Rattle.footage_writer.proofs.write_footage as write-footage
 use Rattle.footage_writer.proofs.write_footage.Reads as write-footage-reads
 use Rattle.runtime_writer.proofs.write_runtime as write-runtime
 use Rattle.runtime_writer.proofs.write_runtime.Reads as write-runtime-reads
+use Rattle.time.proofs.is_fraction as is-fraction
+use Rattle.time.proofs.is_fraction.Reads as is-fraction-reads
 use Rattle.time.proofs.with_frames as with-frames
 use Rattle.time.proofs.with_frames.Reads as with-frames-reads
 use Rattle.time.proofs.with_premiere_ticks as with-premiere-ticks
@@ -53,6 +53,10 @@ use Rattle.answers.proofs.number as answers-number
 use Rattle.answers.proofs.number.Reads as answers-number-reads
 use Rattle.answers.proofs.count as answers-count
 use Rattle.answers.proofs.count.Reads as answers-count-reads
+use Rattle.timecodes.proofs.number as timecodes-number
+use Rattle.timecodes.proofs.number.Reads as timecodes-number-reads
+use Rattle.timecodes.proofs.timecode_of as timecodes-timecode-of
+use Rattle.timecodes.proofs.timecode_of.Reads as timecodes-timecode-of-reads
 use Rattle.written.proofs.number as written-number
 use Rattle.written.proofs.number.Reads as written-number-reads
 use Rattle.written.proofs.length as written-length
@@ -64,13 +68,7 @@ use Rattle.film.proofs.format_at.Reads as format-at-reads
 use Rattle.minutes.proofs.minute_start as minute-start
 use Rattle.minutes.proofs.minute_start.Reads as minute-start-reads
 
--- what the contract asks of the caller holds of every argument, and any two outcomes that it allows are equal: the answer, and every lent byte.
--- (That the function ends with such an outcome is its own theorem.)
-pub record Answers (T : Ended) (asks : Asks T) (tells : Tells T) : Type 0 where
-  pub asks-nothing : (κs : Times T) (a : Args (T .signature) κs) → asks κs a
-  pub one-outcome : Determined T asks tells
-
--- every function that a user calls
+-- every function that a user calls answers every call, and in one way
 pub record OneAnswer : Type 0 where
   -- reading
   pub read-text : Answers read-text.ended read-text-reads.Asked read-text-reads.Learnt
@@ -81,6 +79,7 @@ pub record OneAnswer : Type 0 where
   pub write-footage : Answers write-footage.ended write-footage-reads.Asked write-footage-reads.Learnt
   pub write-runtime : Answers write-runtime.ended write-runtime-reads.Asked write-runtime-reads.Learnt
   -- time
+  pub is-fraction : Answers is-fraction.ended is-fraction-reads.Asked is-fraction-reads.Learnt
   pub with-frames : Answers with-frames.ended with-frames-reads.Asked with-frames-reads.Learnt
   pub with-premiere-ticks : Answers with-premiere-ticks.ended with-premiere-ticks-reads.Asked with-premiere-ticks-reads.Learnt
   pub with-seconds : Answers with-seconds.ended with-seconds-reads.Asked with-seconds-reads.Learnt
@@ -103,6 +102,8 @@ pub record OneAnswer : Type 0 where
   -- what an answer holds
   pub answers-number : Answers answers-number.ended answers-number-reads.Asked answers-number-reads.Learnt
   pub answers-count : Answers answers-count.ended answers-count-reads.Asked answers-count-reads.Learnt
+  pub timecodes-number : Answers timecodes-number.ended timecodes-number-reads.Asked timecodes-number-reads.Learnt
+  pub timecodes-timecode-of : Answers timecodes-timecode-of.ended timecodes-timecode-of-reads.Asked timecodes-timecode-of-reads.Learnt
   pub written-number : Answers written-number.ended written-number-reads.Asked written-number-reads.Learnt
   pub written-length : Answers written-length.ended written-length-reads.Asked written-length-reads.Learnt
   -- the tables

@@ -1,0 +1,176 @@
+-- The promises speak of what runs, from C: whatever the contract of a function for C allows is the answer of the definition, handed over.
+-- Assumes nothing.
+use denote.Triple.Entry.{Args}
+use mathlib.Core.Path.{_≡_}
+use Rattle.outcomes.specs.Outcome.{Times, Outcome, Allowed}
+use Rattle.arithmetic.specs.Compare.{compareOf}
+use Rattle.arithmetic.specs.Count.{absOf, negOf, rebaseOf}
+use Rattle.arithmetic.specs.Flooring.{divqOf}
+use Rattle.arithmetic.specs.Product.{mulOf}
+use Rattle.arithmetic.specs.Remainder.{remqOf}
+use Rattle.arithmetic.specs.Sum.{addOf, subOf}
+use Rattle.arithmetic.specs.Truncating.{divOf, remOf}
+use Rattle.chains.specs.Chain.{convertOf}
+use Rattle.exports.specs.Handed.{SecondsHanded, handedAnswer, handedCount, handedFormat, handedLength, handedOrder, handedRate, handedRead, handedSections, handedTicks, handedTimecode, timecodeFrom}
+use Rattle.film.specs.Film.{formatAt}
+use Rattle.footage_writer.specs.FootageText.{footageDraft}
+use Rattle.label_writer.specs.LabelText.{labelDraft}
+use Rattle.label_writer.specs.Sections.{sectioned}
+use Rattle.minutes.specs.Minutes.{minuteAt}
+use Rattle.rates.specs.Rates.{dropFrames, rateAt}
+use Rattle.reading.specs.Reading.{readText}
+use Rattle.reading.specs.declared.Stated.the-variants.{Format, Nothing}
+use Rattle.runtime_reading.specs.Reading.{readRuntime}
+use Rattle.runtime_writer.specs.RuntimeText.{runtimeDraft}
+use Rattle.time.specs.Frames.{framesAt, secondsAt, ticksAt}
+use Rattle.time.specs.Ticks.{ticksOf}
+use Rattle.written.specs.Written.{answerTo, lineTo}
+use Rattle.exports.proofs.reads.tzq_read as tzq-read
+use Rattle.exports.proofs.reads.tzq_read.Reads as tzq-read-reads
+use Rattle.exports.proofs.reads.tzq_read_as as tzq-read-as
+use Rattle.exports.proofs.reads.tzq_read_as.Reads as tzq-read-as-reads
+use Rattle.exports.proofs.reads.tzq_read_runtime as tzq-read-runtime
+use Rattle.exports.proofs.reads.tzq_read_runtime.Reads as tzq-read-runtime-reads
+use Rattle.exports.proofs.writes.tzq_sections as tzq-sections
+use Rattle.exports.proofs.writes.tzq_sections.Reads as tzq-sections-reads
+use Rattle.exports.proofs.writes.tzq_write_label as tzq-write-label
+use Rattle.exports.proofs.writes.tzq_write_label.Reads as tzq-write-label-reads
+use Rattle.exports.proofs.writes.tzq_write_footage as tzq-write-footage
+use Rattle.exports.proofs.writes.tzq_write_footage.Reads as tzq-write-footage-reads
+use Rattle.exports.proofs.writes.tzq_write_runtime as tzq-write-runtime
+use Rattle.exports.proofs.writes.tzq_write_runtime.Reads as tzq-write-runtime-reads
+use Rattle.exports.proofs.times.tzq_with_frames as tzq-with-frames
+use Rattle.exports.proofs.times.tzq_with_frames.Reads as tzq-with-frames-reads
+use Rattle.exports.proofs.times.tzq_with_premiere_ticks as tzq-with-premiere-ticks
+use Rattle.exports.proofs.times.tzq_with_premiere_ticks.Reads as tzq-with-premiere-ticks-reads
+use Rattle.exports.proofs.times.tzq_with_seconds as tzq-with-seconds
+use Rattle.exports.proofs.times.tzq_with_seconds.Reads as tzq-with-seconds-reads
+use Rattle.exports.proofs.times.tzq_premiere_ticks as tzq-premiere-ticks
+use Rattle.exports.proofs.times.tzq_premiere_ticks.Reads as tzq-premiere-ticks-reads
+use Rattle.exports.proofs.times.tzq_seconds as tzq-seconds
+use Rattle.exports.proofs.times.tzq_seconds.Reads as tzq-seconds-reads
+use Rattle.exports.proofs.sums.tzq_add as tzq-add
+use Rattle.exports.proofs.sums.tzq_add.Reads as tzq-add-reads
+use Rattle.exports.proofs.sums.tzq_sub as tzq-sub
+use Rattle.exports.proofs.sums.tzq_sub.Reads as tzq-sub-reads
+use Rattle.exports.proofs.sums.tzq_cmp as tzq-cmp
+use Rattle.exports.proofs.sums.tzq_cmp.Reads as tzq-cmp-reads
+use Rattle.exports.proofs.sums.tzq_mul as tzq-mul
+use Rattle.exports.proofs.sums.tzq_mul.Reads as tzq-mul-reads
+use Rattle.exports.proofs.sums.tzq_div as tzq-div
+use Rattle.exports.proofs.sums.tzq_div.Reads as tzq-div-reads
+use Rattle.exports.proofs.sums.tzq_rem as tzq-rem
+use Rattle.exports.proofs.sums.tzq_rem.Reads as tzq-rem-reads
+use Rattle.exports.proofs.sums.tzq_divq as tzq-divq
+use Rattle.exports.proofs.sums.tzq_divq.Reads as tzq-divq-reads
+use Rattle.exports.proofs.sums.tzq_remq as tzq-remq
+use Rattle.exports.proofs.sums.tzq_remq.Reads as tzq-remq-reads
+use Rattle.exports.proofs.sums.tzq_neg as tzq-neg
+use Rattle.exports.proofs.sums.tzq_neg.Reads as tzq-neg-reads
+use Rattle.exports.proofs.sums.tzq_abs as tzq-abs
+use Rattle.exports.proofs.sums.tzq_abs.Reads as tzq-abs-reads
+use Rattle.exports.proofs.sums.tzq_rebase as tzq-rebase
+use Rattle.exports.proofs.sums.tzq_rebase.Reads as tzq-rebase-reads
+use Rattle.exports.proofs.times.tzq_convert as tzq-convert
+use Rattle.exports.proofs.times.tzq_convert.Reads as tzq-convert-reads
+use Rattle.exports.proofs.tables.tzq_rate as tzq-rate
+use Rattle.exports.proofs.tables.tzq_rate.Reads as tzq-rate-reads
+use Rattle.exports.proofs.tables.tzq_drop_frames_per_minute as tzq-drop-frames-per-minute
+use Rattle.exports.proofs.tables.tzq_drop_frames_per_minute.Reads as tzq-drop-frames-per-minute-reads
+use Rattle.exports.proofs.tables.tzq_format as tzq-format
+use Rattle.exports.proofs.tables.tzq_format.Reads as tzq-format-reads
+use Rattle.exports.proofs.tables.tzq_minute_start as tzq-minute-start
+use Rattle.exports.proofs.tables.tzq_minute_start.Reads as tzq-minute-start-reads
+
+-- a is what the function is called with, x what comes of it: the answer, and the last value of each thing lent
+pub record TiesC : Type 0 where
+  -- texts read
+  pub tzq-read :
+      (κs : Times tzq-read.ended) (a : Args (tzq-read.ended .signature) κs) (x : Outcome tzq-read.ended κs a)
+      → Allowed tzq-read.ended tzq-read-reads.Learnt κs a x → x .0 ≡ handedRead (readText (a .0 .now) Nothing (a .1 .0))
+  pub tzq-read-as :
+      (κs : Times tzq-read-as.ended) (a : Args (tzq-read-as.ended .signature) κs) (x : Outcome tzq-read-as.ended κs a)
+      → Allowed tzq-read-as.ended tzq-read-as-reads.Learnt κs a x → x .0 ≡ handedRead (readText (a .0 .now) (Format (a .1 .0)) (a .1 .1 .0))
+  pub tzq-read-runtime :
+      (κs : Times tzq-read-runtime.ended) (a : Args (tzq-read-runtime.ended .signature) κs) (x : Outcome tzq-read-runtime.ended κs a)
+      → Allowed tzq-read-runtime.ended tzq-read-runtime-reads.Learnt κs a x → x .0 ≡ handedAnswer (readRuntime (a .0 .now) (a .1 .0))
+  -- texts written
+  pub tzq-sections :
+      (κs : Times tzq-sections.ended) (a : Args (tzq-sections.ended .signature) κs) (x : Outcome tzq-sections.ended κs a)
+      → Allowed tzq-sections.ended tzq-sections-reads.Learnt κs a x → x .0 ≡ handedSections (sectioned (timecodeFrom (a .0)))
+  pub tzq-write-label :
+      (κs : Times tzq-write-label.ended) (a : Args (tzq-write-label.ended .signature) κs) (x : Outcome tzq-write-label.ended κs a)
+      → Allowed tzq-write-label.ended tzq-write-label-reads.Learnt κs a x → (x .0 ≡ handedLength (answerTo (a .1 .0 .now) (a .1 .1 .0) (labelDraft (timecodeFrom (a .0))))) × (x .1 .1 .0 ≡ lineTo (a .1 .0 .now) (a .1 .1 .0) (labelDraft (timecodeFrom (a .0))))
+  pub tzq-write-footage :
+      (κs : Times tzq-write-footage.ended) (a : Args (tzq-write-footage.ended .signature) κs) (x : Outcome tzq-write-footage.ended κs a)
+      → Allowed tzq-write-footage.ended tzq-write-footage-reads.Learnt κs a x → (x .0 ≡ handedLength (answerTo (a .1 .1 .0 .now) (a .1 .1 .1 .0) (footageDraft (timecodeFrom (a .0)) (a .1 .0)))) × (x .1 .1 .1 .0 ≡ lineTo (a .1 .1 .0 .now) (a .1 .1 .1 .0) (footageDraft (timecodeFrom (a .0)) (a .1 .0)))
+  pub tzq-write-runtime :
+      (κs : Times tzq-write-runtime.ended) (a : Args (tzq-write-runtime.ended .signature) κs) (x : Outcome tzq-write-runtime.ended κs a)
+      → Allowed tzq-write-runtime.ended tzq-write-runtime-reads.Learnt κs a x → (x .0 ≡ handedLength (answerTo (a .1 .1 .0 .now) (a .1 .1 .1 .0) (runtimeDraft (timecodeFrom (a .0)) (a .1 .0)))) × (x .1 .1 .1 .0 ≡ lineTo (a .1 .1 .0 .now) (a .1 .1 .1 .0) (runtimeDraft (timecodeFrom (a .0)) (a .1 .0)))
+  -- time
+  pub tzq-with-frames :
+      (κs : Times tzq-with-frames.ended) (a : Args (tzq-with-frames.ended .signature) κs) (x : Outcome tzq-with-frames.ended κs a)
+      → Allowed tzq-with-frames.ended tzq-with-frames-reads.Learnt κs a x → x .0 ≡ handedAnswer (framesAt (a .0) (a .1 .0))
+  pub tzq-with-premiere-ticks :
+      (κs : Times tzq-with-premiere-ticks.ended) (a : Args (tzq-with-premiere-ticks.ended .signature) κs) (x : Outcome tzq-with-premiere-ticks.ended κs a)
+      → Allowed tzq-with-premiere-ticks.ended tzq-with-premiere-ticks-reads.Learnt κs a x → x .0 ≡ handedAnswer (ticksAt (a .0) (a .1 .0))
+  pub tzq-with-seconds :
+      (κs : Times tzq-with-seconds.ended) (a : Args (tzq-with-seconds.ended .signature) κs) (x : Outcome tzq-with-seconds.ended κs a)
+      → Allowed tzq-with-seconds.ended tzq-with-seconds-reads.Learnt κs a x → x .0 ≡ handedAnswer (secondsAt (a .0) (a .1 .0) (a .1 .1 .0))
+  pub tzq-premiere-ticks :
+      (κs : Times tzq-premiere-ticks.ended) (a : Args (tzq-premiere-ticks.ended .signature) κs) (x : Outcome tzq-premiere-ticks.ended κs a)
+      → Allowed tzq-premiere-ticks.ended tzq-premiere-ticks-reads.Learnt κs a x → x .0 ≡ handedTicks (ticksOf (timecodeFrom (a .0)))
+  pub tzq-seconds :
+      (κs : Times tzq-seconds.ended) (a : Args (tzq-seconds.ended .signature) κs) (x : Outcome tzq-seconds.ended κs a)
+      → Allowed tzq-seconds.ended tzq-seconds-reads.Learnt κs a x → SecondsHanded (timecodeFrom (a .0)) (x .0)
+  -- arithmetic
+  pub tzq-add :
+      (κs : Times tzq-add.ended) (a : Args (tzq-add.ended .signature) κs) (x : Outcome tzq-add.ended κs a)
+      → Allowed tzq-add.ended tzq-add-reads.Learnt κs a x → x .0 ≡ handedAnswer (addOf (timecodeFrom (a .0)) (timecodeFrom (a .1 .0)))
+  pub tzq-sub :
+      (κs : Times tzq-sub.ended) (a : Args (tzq-sub.ended .signature) κs) (x : Outcome tzq-sub.ended κs a)
+      → Allowed tzq-sub.ended tzq-sub-reads.Learnt κs a x → x .0 ≡ handedAnswer (subOf (timecodeFrom (a .0)) (timecodeFrom (a .1 .0)))
+  pub tzq-cmp :
+      (κs : Times tzq-cmp.ended) (a : Args (tzq-cmp.ended .signature) κs) (x : Outcome tzq-cmp.ended κs a)
+      → Allowed tzq-cmp.ended tzq-cmp-reads.Learnt κs a x → x .0 ≡ handedOrder (compareOf (timecodeFrom (a .0)) (timecodeFrom (a .1 .0)))
+  pub tzq-mul :
+      (κs : Times tzq-mul.ended) (a : Args (tzq-mul.ended .signature) κs) (x : Outcome tzq-mul.ended κs a)
+      → Allowed tzq-mul.ended tzq-mul-reads.Learnt κs a x → x .0 ≡ handedAnswer (mulOf (timecodeFrom (a .0)) (a .1 .0) (a .1 .1 .0))
+  pub tzq-div :
+      (κs : Times tzq-div.ended) (a : Args (tzq-div.ended .signature) κs) (x : Outcome tzq-div.ended κs a)
+      → Allowed tzq-div.ended tzq-div-reads.Learnt κs a x → x .0 ≡ handedAnswer (divOf (timecodeFrom (a .0)) (a .1 .0))
+  pub tzq-rem :
+      (κs : Times tzq-rem.ended) (a : Args (tzq-rem.ended .signature) κs) (x : Outcome tzq-rem.ended κs a)
+      → Allowed tzq-rem.ended tzq-rem-reads.Learnt κs a x → x .0 ≡ handedAnswer (remOf (timecodeFrom (a .0)) (a .1 .0))
+  pub tzq-divq :
+      (κs : Times tzq-divq.ended) (a : Args (tzq-divq.ended .signature) κs) (x : Outcome tzq-divq.ended κs a)
+      → Allowed tzq-divq.ended tzq-divq-reads.Learnt κs a x → x .0 ≡ handedAnswer (divqOf (timecodeFrom (a .0)) (a .1 .0) (a .1 .1 .0))
+  pub tzq-remq :
+      (κs : Times tzq-remq.ended) (a : Args (tzq-remq.ended .signature) κs) (x : Outcome tzq-remq.ended κs a)
+      → Allowed tzq-remq.ended tzq-remq-reads.Learnt κs a x → x .0 ≡ handedAnswer (remqOf (timecodeFrom (a .0)) (a .1 .0) (a .1 .1 .0))
+  pub tzq-neg :
+      (κs : Times tzq-neg.ended) (a : Args (tzq-neg.ended .signature) κs) (x : Outcome tzq-neg.ended κs a)
+      → Allowed tzq-neg.ended tzq-neg-reads.Learnt κs a x → x .0 ≡ handedAnswer (negOf (timecodeFrom (a .0)))
+  pub tzq-abs :
+      (κs : Times tzq-abs.ended) (a : Args (tzq-abs.ended .signature) κs) (x : Outcome tzq-abs.ended κs a)
+      → Allowed tzq-abs.ended tzq-abs-reads.Learnt κs a x → x .0 ≡ handedAnswer (absOf (timecodeFrom (a .0)))
+  pub tzq-rebase :
+      (κs : Times tzq-rebase.ended) (a : Args (tzq-rebase.ended .signature) κs) (x : Outcome tzq-rebase.ended κs a)
+      → Allowed tzq-rebase.ended tzq-rebase-reads.Learnt κs a x → x .0 ≡ handedAnswer (rebaseOf (timecodeFrom (a .0)) (a .1 .0))
+  -- chains
+  pub tzq-convert :
+      (κs : Times tzq-convert.ended) (a : Args (tzq-convert.ended .signature) κs) (x : Outcome tzq-convert.ended κs a)
+      → Allowed tzq-convert.ended tzq-convert-reads.Learnt κs a x → x .0 ≡ handedTimecode (convertOf (timecodeFrom (a .0)) (a .1 .0 .now))
+  -- the tables
+  pub tzq-rate :
+      (κs : Times tzq-rate.ended) (a : Args (tzq-rate.ended .signature) κs) (x : Outcome tzq-rate.ended κs a)
+      → Allowed tzq-rate.ended tzq-rate-reads.Learnt κs a x → x .0 ≡ handedRate (rateAt (a .0))
+  pub tzq-drop-frames-per-minute :
+      (κs : Times tzq-drop-frames-per-minute.ended) (a : Args (tzq-drop-frames-per-minute.ended .signature) κs) (x : Outcome tzq-drop-frames-per-minute.ended κs a)
+      → Allowed tzq-drop-frames-per-minute.ended tzq-drop-frames-per-minute-reads.Learnt κs a x → x .0 ≡ dropFrames (a .0)
+  pub tzq-format :
+      (κs : Times tzq-format.ended) (a : Args (tzq-format.ended .signature) κs) (x : Outcome tzq-format.ended κs a)
+      → Allowed tzq-format.ended tzq-format-reads.Learnt κs a x → x .0 ≡ handedFormat (formatAt (a .0))
+  pub tzq-minute-start :
+      (κs : Times tzq-minute-start.ended) (a : Args (tzq-minute-start.ended .signature) κs) (x : Outcome tzq-minute-start.ended κs a)
+      → Allowed tzq-minute-start.ended tzq-minute-start-reads.Learnt κs a x → x .0 ≡ handedCount (minuteAt (a .0))
