@@ -5,14 +5,15 @@ use mathlib.Core.Path.{_≡_, sym, _∙_}
 use mathlib.Core.List.{List}
 use native.Mathlib.Omega.{arith}
 use lib.ListN.{length, set, length-set}
-use Rattle.lent.specs.Line.{front}
-use Rattle.lent.proofs.Laws.{front-nil, front-snoc}
+use Rattle.lent.specs.Line.{front, laid}
+use Rattle.lent.proofs.Laws.{front-nil, front-snoc, laid-in}
 use Rattle.digits.specs.Digits.{digitsOf}
 use Rattle.digits.proofs.Values.{digits-length}
 
 -- i digits of `rest` are left to be set in the line l, which was l₀
 pub record Spelling (l₀ : List ℕ) (k n : ℕ) (l : List ℕ) (i rest : ℕ) : Type 0 where
   pub long : length l ≡ length l₀
+  pub room : k ≤ length l₀
   pub inside : i ≤ length l₀
   pub left : front l₀ (digitsOf k n) ≡ front l (digitsOf i rest)
 
@@ -26,12 +27,14 @@ spelling-turn l₀ k n l (suc i) rest s h =
     let e : length d ≡ i = digits-length i (rest / 10) in
     record {
       long = simp length-set (s .long);
+      room = s .room;
       inside = omega arith;
       left = s .left ∙ front-snoc l d (48 + rest % 10) (omega arith) ∙ rw (p, e);
     }
 
 pub spelling-done : (l₀ : List ℕ) (k n : ℕ) (l : List ℕ) (i rest : ℕ) → Spelling l₀ k n l i rest → i ≤ 0
-    → l ≡ front l₀ (digitsOf k n)
+    → l ≡ laid l₀ (digitsOf k n)
 unfolding digitsOf
-spelling-done l₀ k n l zero rest s h = sym (s .left ∙ front-nil l)
+spelling-done l₀ k n l zero rest s h =
+    sym (laid-in l₀ (digitsOf k n) (omega (arith, digits-length k n)) ∙ s .left ∙ front-nil l)
 spelling-done l₀ k n l (suc i) rest s h = absurd (omega arith)

@@ -1,6 +1,9 @@
 -- Digits and numbers are each other's inverse, and a number's width is the least that is enough.
 -- Assumes nothing.
-use Rattle.digits.specs.Statements.{AllDigits, DigitsBack, ValueBack, DecimalLength, WidthIs}
+use Prim.Native.Nat.{max}
+use mathlib.Core.Path.{sym, ap, _∙_}
+use Rattle.digits.specs.Statements.{AllDigits, DigitsBack, ValueBack, DecimalLength, WidthIs, DecimalPadded}
+use Rattle.digits.specs.Digits as digits
 use Rattle.digits.proofs.Values as values
 use Rattle.digits.proofs.Width as width
 
@@ -18,3 +21,10 @@ decimal-length = width.decimal-length
 
 pub width-is : WidthIs
 width-is n = (width.width-some n, width.width-enough n, width.width-at-most n)
+
+pub decimal-padded : DecimalPadded
+decimal-padded k n =
+    record {
+      digits = width.decimal-field k n;
+      long = width.decimal-length k n ∙ ap (λ x. max k (digits.width x)) (sym (width.decimal-back k n));
+    }

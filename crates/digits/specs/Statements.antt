@@ -5,7 +5,7 @@ use mathlib.Core.Path.{_≡_}
 use mathlib.Core.List.{List}
 use mathlib.Core.Bool.{true}
 use lib.ListN.{length}
-use Rattle.digits.specs.Digits.{allDigits, valueOf, digitsOf, width, decimal}
+use Rattle.digits.specs.Digits.{allDigits, IsField, valueOf, digitsOf, width, decimal}
 
 -- every byte of a number's digits is a digit
 abbrev pub AllDigits : Type 0
@@ -26,3 +26,12 @@ DecimalLength = (k n : ℕ) → length (decimal k n) ≡ max k (width n)
 -- a number's width is the least number of digits, one or more, that are enough for it
 abbrev pub WidthIs : Type 0
 WidthIs = (n : ℕ) → (0 < width n) × (n < 10 ^ width n) × ((w : ℕ) → 0 < w → n < 10 ^ w → width n ≤ w)
+
+-- a field padded to k digits: just as wide as its number, or k digits where that has fewer (a field padded to one digit is unpadded)
+pub record Padded (k : ℕ) (field : List ℕ) : Type 0 where
+  pub digits : IsField field
+  pub long : length field ≡ max k (width (valueOf field))
+
+-- a number written in k digits at least is so padded
+abbrev pub DecimalPadded : Type 0
+DecimalPadded = (k n : ℕ) → Padded k (decimal k n)

@@ -1,10 +1,11 @@
-// Decimal digits both ways: a run of them read as its value and count, a number laid down at least so many wide. Refuses nothing itself.
+// Decimal digits both ways: a run of them read as its value and count, a number laid down at least so many wide. Refuses nothing
+// itself.
 ghost use mathlib.Core.Path.{_≡_};
 ghost use mathlib.Core.Bool.{true};
 ghost use mathlib.Core.List.{_∷_, []};
-ghost use Prim.Native.Nat.{_-_, _≤_, _<_, _^_, min, max};
-ghost use lib.ListN.{length, take, drop};
-ghost use Rattle.lent.specs.Line.{front};
+ghost use Prim.Native.Nat.{_-_, _<_, _^_, min, max};
+ghost use lib.ListN.{take, drop};
+ghost use Rattle.lent.specs.Line.{laid};
 ghost use Rattle.digits.specs.Digits.{isDigit, valueFrom, digitFirst, runOf, digitsOf, width};
 
 // The digits that stand at a place: the value of at most the first nine of them, and how many there are.
@@ -76,11 +77,13 @@ pub fn width_of(least: usize, n: u64) -> usize
     k
 }
 
-// The last k digits of n at the front of a part; every other byte stays. Asks k bytes of room: only crates above call it.
+// The last k digits of n at the front of a part; every other byte stays. Where they have no room nothing changes.
 pub fn put_digits(part: &mut [u8], k: usize, n: u64)
-    requires room { ⌜ k ≤ length (now part) ⌝ }
-    ensures line { λ _. ⌜ now (part .exit) ≡ front (now (part .entry)) (digitsOf k n) ⌝ }
+    ensures line { λ _. ⌜ now (part .exit) ≡ laid (now (part .entry)) (digitsOf k n) ⌝ }
 {
+    if part.len() < k {
+        return;
+    }
     let mut i = k;
     let mut rest = n;
     while 0 < i {

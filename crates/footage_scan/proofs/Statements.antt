@@ -1,101 +1,130 @@
--- A text reads as its shape says, in one way only, and is refused exactly where it has none or a field is too long.
+-- A text reads as its shape says, in one way only, and each fit is given exactly: the scan of a text by a footage's grammar.
 -- Assumes nothing.
 use Prim.Native.Nat.{ℕ, _^_, _<_}
-use mathlib.Core.Path.{_≡_, refl, sym, ap, _∙_, subst}
-use mathlib.Core.Logic.{⊎-elim}
-use mathlib.Core.List.{List}
+use mathlib.Core.Path.{_≡_, refl, sym, ap, ap₂, _∙_}
+use mathlib.Core.List.{List, [], _∷_, _++_, append-nil, append-assoc}
 use mathlib.Core.Bool.{Bool, true, false}
 use native.Mathlib.Omega.{arith}
-use Rattle.digits.specs.Digits.{fieldValue}
-use Rattle.digits.proofs.Runs.{field-below}
-use Rattle.scanner.specs.Shapes.{plain, minus}
+use lib.ListN.{length}
+use borrow.Author.Tests.{lt-ltb}
+use Rattle.digits.specs.Digits.{allDigits, decimal}
+use Rattle.digits.proofs.Width.{decimal-back}
+use Rattle.scanner.specs.declared.text.Fit.the-variants.{Fits, TooLong, NoShape}
+use Rattle.scanner.specs.Long.{isLong, fieldsLong}
+use Rattle.scanner.specs.Shapes.{last, more, pointed, TextParts, textParts, withMinus, TextShape, someLong, HasTextShape}
+use Rattle.scanner.proofs.Long.{not-long, written-short}
+use Rattle.scanner.proofs.Bodies.{point-some}
+use Rattle.scanner.proofs.Statements.{one-text-shape, text-bounded, fields-count, fit-told, text-short, text-long, text-none}
 use Rattle.footage_scan.specs.declared.FootageScan.{FootageScan}
-use Rattle.footage_scan.specs.declared.FootageScan.the-variants.{Footage}
-use Rattle.footage_scan.specs.Shape.{FootageParts, FootageFields, whole, marked, FootageShape, hasPerf, someLong}
-use Rattle.footage_scan.specs.Footage.{numberOf, feetOf, framesOf, unlessLong, footageScan}
-use Rattle.footage_scan.specs.Statements.{FootageReads, HasFootageShape, FootageFits, FootageTooLong, FootageNoShape, OneFootageShape, FootageBelow, FootageBack}
-use Rattle.footage_scan.proofs.Shape.{footage-given, footage-found}
-use Rattle.footage_scan.proofs.OneShape.{one-shape}
-use Rattle.footage_scan.proofs.Short.{short-read, back}
+use Rattle.footage_scan.specs.Shape.{footageGrammar, footageParts, asText, hasPerf, HasFootageShape, FootageParts, FootageShape}
+use Rattle.footage_scan.specs.Footage.{fittingFootage, footageFrom, footageScan}
+use Rattle.footage_scan.specs.Statements.{FootageReads, FootageFits, FootageTooLong, FootageNoShape, OneFootageShape, FootageBelow, FootageTextBack}
 
+-- ---- a footage's grammar asks for two fields
+pub record Two (fields : List (List ℕ)) : Type 0 where
+  pub feet : List ℕ
+  pub frames : List ℕ
+  pub is : feet ∷ frames ∷ [] ≡ fields
+
+two : (fields : List (List ℕ)) → length fields ≡ 2 → Two fields
+two [] e = absurd (omega arith)
+two (d ∷ []) e = absurd (omega arith)
+two (d ∷ f ∷ []) e = record { feet = d; frames = f; is = refl }
+two (d ∷ f ∷ r ∷ fs) e = absurd (omega arith)
+
+two-fields : (l : List ℕ) (p : TextParts) → TextShape footageGrammar l p → Two (p .fields)
+two-fields l p t = let c = fields-count footageGrammar l p t in two (p .fields) (omega (arith, c .0, c .1))
+
+has-footage : (l : List ℕ) (long : Bool) → HasTextShape footageGrammar l long → HasFootageShape l long
+has-footage l long h =
+    let p = h .parts in
+    let t = two-fields l p (h .shape) in
+    let q = footageParts (p .minus) (t .feet) (t .frames) (p .tail) in
+    let e : asText q ≡ p = ap (λ (x : List (List ℕ)). textParts (p .minus) x (p .tail)) (t .is) in
+    record { parts = q; shape = rw e (h .shape); digits = ap (someLong footageGrammar) e ∙ h .digits }
+
+-- ---- each fit
 pub footage-reads : FootageReads
-footage-reads = short-read
-
--- ---- each verdict
-abbrev scanned : FootageParts → FootageScan
-scanned p = Footage (p .minus) (fieldValue (p .feet)) (fieldValue (p .frames)) (hasPerf (p .perf))
-
--- a text of the shape is not refused 1; it is refused 2 for a field, and taken if there is none such
-not-shapeless : (p : FootageParts) (long : Bool) → numberOf (unlessLong long (scanned p)) ≡ 1 → ⊥
-not-shapeless p true e = omega arith
-not-shapeless p false e = omega arith
-
-long-refused : (p : FootageParts) (long : Bool) → numberOf (unlessLong long (scanned p)) ≡ 2 → long ≡ true
-long-refused p true e = refl
-long-refused p false e = absurd (omega arith)
-
-short-taken : (p : FootageParts) (long : Bool) → numberOf (unlessLong long (scanned p)) ≡ 0 → long ≡ false
-short-taken p true e = absurd (omega arith)
-short-taken p false e = refl
-
--- a text that is not refused 1 has the shape; its number says whether a field is too long
-found-with : (l : List ℕ) (wanted : Bool) (n : ℕ) → (n ≡ 1 → ⊥)
-    → ((p : FootageParts) (long : Bool) → numberOf (unlessLong long (scanned p)) ≡ n → long ≡ wanted)
-    → numberOf (footageScan l) ≡ n → HasFootageShape l wanted
-found-with l wanted n other is e =
-    ⊎-elim
-    (λ z. absurd (other (sym e ∙ ap numberOf z)))
-    (λ s. record { parts = s .0; shape = s .1; digits = is (s .0) (someLong (s .0)) (ap numberOf (sym (footage-given l (s .0) (s .1))) ∙ e) })
-    (footage-found l)
+unfolding footageScan
+footage-reads l p shape short = ap footageFrom (text-short footageGrammar l (asText p) shape short)
 
 pub footage-fits : FootageFits
+unfolding footageScan
 footage-fits l = (
-  λ e. found-with l false 0 (λ z. omega arith) short-taken e,
-  λ s. ap numberOf (footage-reads l (s .parts) (s .shape) (s .digits)),
+  λ e. has-footage l false (fit-told footageGrammar l Fits e),
+  λ h. ap (λ (x : FootageScan). x .fit) (footage-reads l (h .parts) (h .shape) (h .digits)),
 )
 
 pub footage-too-long : FootageTooLong
+unfolding footageScan
 footage-too-long l = (
-  λ e. found-with l true 2 (λ z. omega arith) long-refused (ap numberOf e),
-  λ s. footage-given l (s .parts) (s .shape) ∙ ap (λ (t : Bool). unlessLong t (scanned (s .parts))) (s .digits),
+  λ e. has-footage l true (fit-told footageGrammar l TooLong (ap (λ (x : FootageScan). x .fit) e)),
+  λ h. ap footageFrom (text-long footageGrammar l (record { parts = asText (h .parts); shape = h .shape; digits = h .digits })),
 )
 
 pub footage-no-shape : FootageNoShape
+unfolding footageScan
 footage-no-shape l = (
-  λ e p shape. not-shapeless p (someLong p) (ap numberOf (sym (footage-given l p shape) ∙ e)),
-  λ h. ⊎-elim (λ e. e) (λ s. absurd (h (s .0) (s .1))) (footage-found l),
+  λ e p. fit-told footageGrammar l NoShape (ap (λ (x : FootageScan). x .fit) e) (asText p),
+  λ h. ap footageFrom
+      (text-none footageGrammar l (λ p t. let q = has-footage l (someLong footageGrammar p) (record { parts = p; shape = t; digits = refl }) in h (q .parts) (q .shape))),
 )
 
 pub one-footage-shape : OneFootageShape
-one-footage-shape = one-shape
-
--- ---- bounds
-abbrev Below : FootageScan → Type 0
-Below g = (feetOf g < 10 ^ 9) × (framesOf g < 10 ^ 9)
-
-fields-below : (m : Bool) (l : List ℕ) (p : FootageParts) → FootageFields m l p → Below (scanned p)
-fields-below m l p (whole {feet = d} {frames = e} i j) = (field-below d (i .digits), field-below e (j .digits))
-fields-below m l p (marked {feet = d} {frames = e} i j k) = (field-below d (i .digits), field-below e (j .digits))
-
-shape-below : (l : List ℕ) (p : FootageParts) → FootageShape l p → Below (scanned p)
-shape-below l p (plain {l = k} t) = fields-below false k p t
-shape-below l p (minus {l = k} t) = fields-below true k p t
-
-judged-below : (long : Bool) (g : FootageScan) → Below g → Below (unlessLong long g)
-judged-below true g b = (omega arith, omega arith)
-judged-below false g b = b
+one-footage-shape l p q s t =
+    let e = one-text-shape footageGrammar l (asText p) (asText q) s t in
+    let fields : p .feet ∷ p .frames ∷ [] ≡ q .feet ∷ q .frames ∷ [] = ap (λ (x : TextParts). x .fields) e in
+    let feet : p .feet ≡ q .feet = cc in
+    let frames : p .frames ≡ q .frames = cc in
+    ap₂ (λ (x y : List ℕ). footageParts (p .minus) x y (p .perf)) feet frames
+    ∙ ap₂ (λ (m : Bool) (x : List ℕ). footageParts m (q .feet) (q .frames) x) (ap (λ (x : TextParts). x .minus) e) (ap (λ (x : TextParts). x .tail) e)
 
 pub footage-below : FootageBelow
-footage-below l =
-    ⊎-elim
-    (λ e. subst Below (sym e) (omega arith, omega arith))
-    (λ s. subst Below (sym (footage-given l (s .0) (s .1))) (judged-below (someLong (s .0)) (scanned (s .0)) (shape-below l (s .0) (s .1))))
-    (footage-found l)
+unfolding footageScan
+footage-below l = let b = text-bounded footageGrammar l in (b .below 2, b .below 3)
 
--- so those of a footage that was taken
-pub taken-below : (l : List ℕ) (m : Bool) (feet frames : ℕ) (perf : Bool) → footageScan l ≡ Footage m feet frames perf
-    → (feet < 10 ^ 9) × (frames < 10 ^ 9)
-taken-below l m feet frames perf e = subst Below e (footage-below l)
+-- ---- written and read
+module _ (m : Bool) (feet frames : ℕ) (h : feet < 10 ^ 9) (k : frames < 10 ^ 9) where
+  abbrev d : List ℕ
+  d = decimal 1 feet
 
-pub footage-back : FootageBack
-footage-back = back
+  abbrev e : List ℕ
+  e = decimal 2 frames
+
+  -- with any digits behind a `.`, or none
+  text-back : (w : List ℕ) → allDigits w ≡ true → isLong (length w) ≡ false
+      → footageScan (withMinus m ((d ++ 43 ∷ e) ++ pointed w)) ≡ fittingFootage m feet frames (hasPerf w)
+  unfolding fieldsLong
+  text-back w digits short =
+      let i = written-short 1 feet (omega arith) h in
+      let j = written-short 2 frames (omega arith) k in
+      footage-reads (withMinus m ((d ++ 43 ∷ e) ++ pointed w)) (footageParts m d e w)
+      (record {
+        body = (d ++ 43 ∷ e) ++ pointed w;
+        shape = record { front = d ++ 43 ∷ e; shape = more (i .is) 43 refl (last (j .is)); enough = omega arith; digits = digits; allowed = λ z. omega arith; all = refl };
+        text = refl;
+      })
+      (rw (short, not-long d i, not-long e j))
+      ∙ rw (decimal-back 1 feet, decimal-back 2 frames)
+
+pub footage-text-back : FootageTextBack
+unfolding allDigits
+footage-text-back m feet frames h k = (
+  ap (λ (x : List ℕ). footageScan (withMinus m x)) (sym (append-nil (decimal 1 feet ++ 43 ∷ decimal 2 frames)))
+      ∙ text-back m feet frames h k [] refl refl,
+  λ perf j. let f = written-short 1 perf (omega arith) j in
+      let w = decimal 1 perf in
+      ap (λ (x : List ℕ). footageScan (withMinus m x))
+      (sym (append-assoc (decimal 1 feet) (43 ∷ decimal 2 frames) (46 ∷ w)) ∙ ap (λ (x : List ℕ). (decimal 1 feet ++ 43 ∷ decimal 2 frames) ++ x) (sym (point-some w (f .is .some))))
+      ∙ text-back m feet frames h k w (f .is .digits) (not-long w f)
+      ∙ ap (fittingFootage m feet frames) (lt-ltb 0 (length w) (f .is .some)),
+)
+
+-- ---- what the fit alone tells
+pub footage-fit-long : (l : List ℕ) → footageScan l .fit ≡ TooLong → HasFootageShape l true
+unfolding footageScan
+footage-fit-long l e = has-footage l true (fit-told footageGrammar l TooLong e)
+
+pub footage-fit-none : (l : List ℕ) → footageScan l .fit ≡ NoShape → (p : FootageParts) → ¬ FootageShape l p
+unfolding footageScan
+footage-fit-none l e p = fit-told footageGrammar l NoShape e (asText p)

@@ -1,49 +1,46 @@
--- Text shapes, footage: the shape as a grammar. No reader stands here.
+-- Footage (BEHAVIOUR: Text shapes): the shape as a grammar. No reader stands here.
 -- Assumes nothing.
 use Prim.Native.Nat.{ℕ}
-use mathlib.Core.List.{List, _∷_, _++_}
-use mathlib.Core.Bool.{Bool, true, false, _||_}
+use mathlib.Core.Path.{_≡_}
+use mathlib.Core.List.{List, [], _∷_}
+use mathlib.Core.Bool.{Bool}
+use lib.Dec.{ltb}
 use lib.ListN.{length}
-use Rattle.digits.specs.Digits.{IsField}
-use Rattle.scanner.specs.Shapes.{Signed}
-use Rattle.scanner.specs.Long.{isLong}
+use Rattle.scanner.specs.declared.fields.Dividers.the-variants.{Plus}
+use Rattle.scanner.specs.declared.text.Grammar.{Grammar}
+use Rattle.scanner.specs.Shapes.{TextParts, textParts, TextShape, someLong}
 
--- the digits of a perf field, where it is present
-pub data PerfField : Type 0 where
-  absent : PerfField
-  present : (perf : List ℕ) → PerfField
+-- two fields divided by `+`, optionally `.` and a perf field
+abbrev pub footageGrammar : Grammar
+footageGrammar = record { dividers = Plus; least = 2; most = 2; tail = 9 }
 
--- what a footage is made of: its sign, and the digits of its fields
+-- what a footage is made of: its sign, and the digits of its feet, its frames and its perf field (none: there is no perf field)
 pub record FootageParts : Type 0 where
   pub minus : Bool
   pub feet : List ℕ
   pub frames : List ℕ
-  pub perf : PerfField
+  pub perf : List ℕ
 
-abbrev pub parts : (minus : Bool) (feet frames : List ℕ) → PerfField → FootageParts
-parts minus feet frames perf = record { minus = minus; feet = feet; frames = frames; perf = perf }
+abbrev pub footageParts : (minus : Bool) (feet frames perf : List ℕ) → FootageParts
+footageParts minus feet frames perf = record { minus = minus; feet = feet; frames = frames; perf = perf }
 
--- feet, `+`, frames, optionally `.` and a perf field
-pub data FootageFields (minus : Bool) : List ℕ → FootageParts → Type 0 where
-  whole : {feet frames : List ℕ} → IsField feet → IsField frames
-      → FootageFields minus (feet ++ 43 ∷ frames) (parts minus feet frames absent)
-  marked : {feet frames perf : List ℕ} → IsField feet → IsField frames → IsField perf
-      → FootageFields minus (feet ++ 43 ∷ (frames ++ 46 ∷ perf)) (parts minus feet frames (present perf))
+abbrev pub asText : FootageParts → TextParts
+asText p = textParts (p .minus) (p .feet ∷ p .frames ∷ []) (p .perf)
 
--- Footage: optional `-`, then these
+-- Footage: optional `-`, feet, `+`, frames, optionally `.` and a perf field
 abbrev pub FootageShape : (l : List ℕ) → FootageParts → Type 0
-FootageShape l footage = Signed FootageFields l footage
+FootageShape l p = TextShape footageGrammar l (asText p)
 
 -- whether a perf field is present
-abbrev pub hasPerf : PerfField → Bool
-hasPerf absent = false
-hasPerf (present perf) = true
-
--- the perf field, where it is present, has over 9 digits
-abbrev pub perfLong : PerfField → Bool
-perfLong absent = false
-perfLong (present perf) = isLong (length perf)
+abbrev pub hasPerf : (perf : List ℕ) → Bool
+hasPerf perf = ltb 0 (length perf)
 
 -- some field has over 9 digits
-abbrev pub someLong : FootageParts → Bool
-someLong footage = isLong (length (footage .feet)) || isLong (length (footage .frames)) || perfLong (footage .perf)
+abbrev pub footageLong : FootageParts → Bool
+footageLong p = someLong footageGrammar (asText p)
+
+-- a text has the shape, and some field has over 9 digits, or none has
+pub record HasFootageShape (l : List ℕ) (long : Bool) : Type 0 where
+  pub parts : FootageParts
+  pub shape : FootageShape l parts
+  pub digits : footageLong parts ≡ long

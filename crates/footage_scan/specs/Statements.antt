@@ -1,4 +1,4 @@
--- What a text reads as, by its shape: each text in one way, and both refusals exactly. Proofs: proofs/Statements.antt.
+-- What a text reads as, by its shape: each text in one way, and each fit exactly. Proofs: proofs/Statements.antt.
 -- Assumes nothing.
 use Prim.Native.Nat.{ℕ, _^_, _<_}
 use mathlib.Core.Path.{_≡_}
@@ -6,35 +6,28 @@ use mathlib.Core.Logic.{_↔_}
 use mathlib.Core.List.{List, _∷_, _++_}
 use mathlib.Core.Bool.{Bool, true, false}
 use Rattle.digits.specs.Digits.{valueOf, decimal}
-use Rattle.answers.specs.Refusals.{noShape, tooLong}
-use Rattle.scanner.specs.Shapes.{signed}
-use Rattle.footage_scan.specs.declared.FootageScan.the-variants.{Footage, Refused}
-use Rattle.footage_scan.specs.Shape.{FootageParts, FootageShape, hasPerf, someLong}
-use Rattle.footage_scan.specs.Footage.{numberOf, feetOf, framesOf, footageScan}
+use Rattle.scanner.specs.declared.text.Fit.the-variants.{Fits, TooLong, NoShape}
+use Rattle.scanner.specs.Shapes.{withMinus}
+use Rattle.footage_scan.specs.Shape.{FootageParts, FootageShape, hasPerf, footageLong, HasFootageShape}
+use Rattle.footage_scan.specs.Footage.{fittingFootage, misfitFootage, footageScan}
 
 -- a text of the shape, no field of over 9 digits, reads as its sign, the values of its feet and frames, and whether it has a perf field
 abbrev pub FootageReads : Type 0
 FootageReads =
-    (l : List ℕ) (p : FootageParts) → FootageShape l p → someLong p ≡ false
-    → footageScan l ≡ Footage (p .minus) (valueOf (p .feet)) (valueOf (p .frames)) (hasPerf (p .perf))
+    (l : List ℕ) (p : FootageParts) → FootageShape l p → footageLong p ≡ false
+    → footageScan l ≡ fittingFootage (p .minus) (valueOf (p .feet)) (valueOf (p .frames)) (hasPerf (p .perf))
 
--- a text has the shape, and some field has over 9 digits, or none has
-pub record HasFootageShape (l : List ℕ) (long : Bool) : Type 0 where
-  pub parts : FootageParts
-  pub shape : FootageShape l parts
-  pub digits : someLong parts ≡ long
-
--- a text is taken exactly when the shape fits, and no field has over 9 digits
+-- a text fits exactly when it has the shape, and no field has over 9 digits
 abbrev pub FootageFits : Type 0
-FootageFits = (l : List ℕ) → (numberOf (footageScan l) ≡ 0) ↔ HasFootageShape l false
+FootageFits = (l : List ℕ) → (footageScan l .fit ≡ Fits) ↔ HasFootageShape l false
 
--- refusal 2 exactly when the shape fits, but a field has over 9 digits
+-- it is too long exactly when it has the shape, but a field has over 9 digits
 abbrev pub FootageTooLong : Type 0
-FootageTooLong = (l : List ℕ) → (footageScan l ≡ Refused tooLong) ↔ HasFootageShape l true
+FootageTooLong = (l : List ℕ) → (footageScan l ≡ misfitFootage TooLong) ↔ HasFootageShape l true
 
--- refusal 1 exactly when the text has no such shape
+-- it has no shape exactly when it has not this one
 abbrev pub FootageNoShape : Type 0
-FootageNoShape = (l : List ℕ) → (footageScan l ≡ Refused noShape) ↔ ((p : FootageParts) → ¬ FootageShape l p)
+FootageNoShape = (l : List ℕ) → (footageScan l ≡ misfitFootage NoShape) ↔ ((p : FootageParts) → ¬ FootageShape l p)
 
 -- a text has the shape in one way only
 abbrev pub OneFootageShape : Type 0
@@ -42,12 +35,12 @@ OneFootageShape = (l : List ℕ) (p q : FootageParts) → FootageShape l p → F
 
 -- whatever the text, the numbers answered are below 10^9
 abbrev pub FootageBelow : Type 0
-FootageBelow = (l : List ℕ) → (feetOf (footageScan l) < 10 ^ 9) × (framesOf (footageScan l) < 10 ^ 9)
+FootageBelow = (l : List ℕ) → (footageScan l .feet < 10 ^ 9) × (footageScan l .frames < 10 ^ 9)
 
 -- a footage that is written, its numbers below 10^9, is read as these numbers: without a perf field and with one
-abbrev pub FootageBack : Type 0
-FootageBack =
+abbrev pub FootageTextBack : Type 0
+FootageTextBack =
     (minus : Bool) (feet frames : ℕ) → feet < 10 ^ 9 → frames < 10 ^ 9
-    → (footageScan (signed minus (decimal 1 feet ++ 43 ∷ decimal 2 frames)) ≡ Footage minus feet frames false)
+    → (footageScan (withMinus minus (decimal 1 feet ++ 43 ∷ decimal 2 frames)) ≡ fittingFootage minus feet frames false)
     × ((perf : ℕ) → perf < 10 ^ 9
-    → footageScan (signed minus (decimal 1 feet ++ 43 ∷ (decimal 2 frames ++ 46 ∷ decimal 1 perf))) ≡ Footage minus feet frames true)
+    → footageScan (withMinus minus (decimal 1 feet ++ 43 ∷ (decimal 2 frames ++ 46 ∷ decimal 1 perf))) ≡ fittingFootage minus feet frames true)

@@ -1,89 +1,73 @@
--- The parts that are laid down are the document's text, and how long they are.
+-- How long the parts of a footage are, which formats have a marker, and what is drafted for a format.
 -- Assumes nothing.
-use Prim.Native.Nat.{ℕ, _+_, _≤_, _<_, max}
-use mathlib.Core.Path.{_≡_, refl, ap, ap₂}
-use mathlib.Core.List.{_∷_, _++_}
+use Prim.Native.Nat.{ℕ, _+_, _^_, _≤_, _<_}
+use mathlib.Core.Path.{_≡_, refl, sym, ap, _∙_}
 use mathlib.Core.Bool.{Bool, true, false}
+use mathlib.Core.List.{[], _∷_, _++_}
 use native.Mathlib.Omega.{arith}
 use lib.ListN.{length, length-append}
-use lib.IntN.{ℤ, natAbs}
-use Rattle.numbers.specs.Sign.{isNeg}
+use Rattle.answers.specs.declared.Refusal.{Refusal}
+use Rattle.answers.specs.Order.{unless}
+use Rattle.answers.specs.OrderLaws.{unless-told, out-not}
+use Rattle.timecodes.specs.declared.Timecode.{Timecode}
+use Rattle.timecodes.specs.Admitted.{admits}
 use Rattle.film.specs.declared.FilmFormat.{FilmFormat}
 use Rattle.film.specs.declared.FilmFormat.the-variants.{FF35mm4perf, FF35mm3perf, FF35mm2perf, FF16mm}
+use Rattle.film.specs.declared.Filmed.the-variants.{Format, Refused}
 use Rattle.film.specs.declared.Footage.{Footage}
-use Rattle.film.specs.Film.{allowsPerfField}
-use Rattle.film.specs.Footage.{footageOf}
-use Rattle.film.specs.FootageLaws.{frames-le, perf-lt}
-use Rattle.digits.specs.Digits.{digitsOf, width, decimal}
-use Rattle.digits.proofs.Values.{digits-length}
-use Rattle.digits.proofs.Width.{width-at-most}
-use Rattle.written.specs.Parts.{signText}
-use Rattle.written.proofs.Parts.{decimal-short}
-use Rattle.footage_writer.specs.FootageText.{perfText, feetText, footageText}
-use Rattle.footage_writer.specs.Parts.{markerText, markerWidth, framesText, wideText, partsText}
+use Rattle.film.specs.Film.{allowsPerfField, badFormat, formatIn, formatAt}
+use Rattle.film.specs.FormatLaws.{formatAt-refused}
+use Rattle.digits.specs.Digits.{decimal}
+use Rattle.digits.proofs.Width.{decimal-length}
+use Rattle.written.specs.Parts.{signedText, fieldText}
+use Rattle.written.specs.Written.{Text, NoText}
+use Rattle.written.proofs.Parts.{wide-most, padded-most, field-most}
+use Rattle.footage_writer.specs.FootageText.{perfText, feetText, footageText, footageDraft}
 
--- ---- how long each part is
-pub marker-length : (marked : Bool) (perf : ℕ) → length (markerText marked perf) ≡ markerWidth marked
-marker-length true perf = omega (arith, digits-length 1 perf)
-marker-length false perf = refl
+-- ---- the marker
+-- a format with a perf field has one, and another has none
+pub marker-some : (format : FilmFormat) (perf : ℕ) → allowsPerfField format ≡ true → perfText format perf ≡ 46 ∷ decimal 1 perf
+marker-some FF35mm4perf perf e = let z : _≡_ {A = ℕ} 0 1 = cc in absurd (omega arith)
+marker-some FF35mm3perf perf e = refl
+marker-some FF35mm2perf perf e = let z : _≡_ {A = ℕ} 0 1 = cc in absurd (omega arith)
+marker-some FF16mm perf e = let z : _≡_ {A = ℕ} 0 1 = cc in absurd (omega arith)
 
-module _ (marked : Bool) (footage : Footage) where
-  pub frames-length : length (framesText marked footage) ≡ 3 + markerWidth marked
-  frames-length =
-      omega (
-        arith,
-        length-append (43 ∷ digitsOf 2 (footage .frames)) (markerText marked (footage .perf)),
-        digits-length 2 (footage .frames),
-        marker-length marked (footage .perf),
-      )
+pub marker-none : (format : FilmFormat) (perf : ℕ) → allowsPerfField format ≡ false → perfText format perf ≡ []
+marker-none FF35mm4perf perf e = refl
+marker-none FF35mm3perf perf e = let z : _≡_ {A = ℕ} 0 1 = cc in absurd (omega arith)
+marker-none FF35mm2perf perf e = refl
+marker-none FF16mm perf e = refl
 
-  pub wide-length : (w : ℕ) → length (wideText w marked footage) ≡ w + 3 + markerWidth marked
-  wide-length w =
-      omega (
-        arith,
-        length-append (digitsOf w (footage .feet)) (framesText marked footage),
-        digits-length w (footage .feet),
-        frames-length,
-      )
+pub marker-most : (format : FilmFormat) (perf : ℕ) → perf < 2 ^ 64 → length (perfText format perf) ≤ 21
+marker-most FF35mm4perf perf h = omega arith
+marker-most FF35mm3perf perf h = omega (arith, wide-most 1 perf _ (omega arith) h (decimal-length 1 perf))
+marker-most FF35mm2perf perf h = omega arith
+marker-most FF16mm perf h = omega arith
 
-  pub parts-length : (minus : Bool)
-      → length (signText minus) + max 1 (width (footage .feet)) + 3 + markerWidth marked ≡ length (partsText minus marked footage)
-  parts-length minus =
-      let w = max 1 (width (footage .feet)) in
-      omega (arith, length-append (signText minus) (wideText w marked footage), wide-length w)
+-- how long the text is
+pub feet-length : (minus : Bool) (format : FilmFormat) (footage : Footage)
+    → length (feetText minus format footage)
+    ≡ length (signedText minus (footage .feet)) + length (fieldText 43 (footage .frames)) + length (perfText format (footage .perf))
+unfolding feetText
+feet-length minus format footage =
+    let frames = fieldText 43 (footage .frames) in
+    let marker = perfText format (footage .perf) in
+    omega (arith, length-append (signedText minus (footage .feet)) (frames ++ marker), length-append frames marker)
 
--- feet within a count's bounds have at most nine digits
-pub feet-width : (feet : ℕ) → feet ≤ 400000000 → max 1 (width feet) ≤ 9
-feet-width feet h = omega (arith, width-at-most feet 9 (omega arith) (omega arith))
+-- ---- the draft
+module _ (tc : Timecode) (format : ℕ) where
+  -- in a format that there is, the timecode decides
+  pub draft-in : (chosen : FilmFormat) → formatAt format ≡ Format chosen → unless NoText (admits tc) (Text (footageText chosen (tc .count))) ≡ footageDraft tc format
+  unfolding formatAt footageDraft
+  draft-in chosen h =
+      let told = unless-told Refused (badFormat format ∷ []) (Format (formatIn format)) (Format chosen) apart h in
+      let same : formatIn format ≡ chosen = let e = told .1 in cc in
+      rw (told .0 .0) (ap (λ f. unless NoText (admits tc) (Text (footageText f (tc .count)))) (sym same))
+    where
+      apart : (e : Refusal) → Refused e ≡ Format chosen → ⊥
+      apart e p = let z : _≡_ {A = ℕ} 0 1 = cc in omega arith
 
--- the feet's digits and at most six bytes more
-pub parts-short : (minus marked : Bool) (w : ℕ) → length (signText minus) + w + 3 + markerWidth marked ≤ w + 6
-parts-short true true w = omega arith
-parts-short true false w = omega arith
-parts-short false true w = omega arith
-parts-short false false w = omega arith
-
--- ---- the parts are the text
--- only 3-perf has a marker, and feet modulo 3 is one digit
-pub marker-is : (format : FilmFormat) (perf : ℕ) → perf < 10 → perfText format perf ≡ markerText (allowsPerfField format) perf
-marker-is FF35mm4perf perf h = refl
-marker-is FF35mm3perf perf h = ap (λ d. 46 ∷ d) (decimal-short 1 perf (omega arith) (omega arith))
-marker-is FF35mm2perf perf h = refl
-marker-is FF16mm perf h = refl
-
--- feet as wide as they are, frames of two digits
-pub feet-is : (format : FilmFormat) (footage : Footage) → footage .frames < 100 → footage .perf < 10
-    → feetText format footage ≡ wideText (max 1 (width (footage .feet))) (allowsPerfField format) footage
-unfolding feetText decimal
-feet-is format footage f p =
-    ap₂ (λ d m. digitsOf (max 1 (width (footage .feet))) (footage .feet) ++ (43 ∷ d ++ m))
-    (decimal-short 2 (footage .frames) (omega arith) (omega arith))
-    (marker-is format (footage .perf) p)
-
-pub footage-is : (format : FilmFormat) (count : ℤ)
-    → footageText format count ≡ partsText (isNeg count) (allowsPerfField format) (footageOf format (natAbs count))
-unfolding footageText
-footage-is format count =
-    let f = natAbs count in
-    ap (λ t. signText (isNeg count) ++ t)
-    (feet-is format (footageOf format f) (omega (arith, frames-le format f)) (omega (arith, perf-lt format f)))
+  -- no such film format
+  pub draft-out : (e : Refusal) → formatAt format ≡ Refused e → NoText e ≡ footageDraft tc format
+  unfolding footageDraft
+  draft-out e h = let told = formatAt-refused format e h in rw (out-not (told .0)) (ap NoText (told .1))

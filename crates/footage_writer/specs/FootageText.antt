@@ -1,22 +1,21 @@
--- Writing footage: the text of a count in a film format, and when there is none.
+-- Writing footage (BEHAVIOUR: Footage): the text of a count in a film format, and when there is none.
 -- Assumes nothing.
 use Prim.Native.Nat.{ℕ}
+use mathlib.Core.Bool.{Bool}
 use mathlib.Core.List.{List, [], _∷_, _++_}
 use lib.IntN.{ℤ, natAbs}
 use Rattle.numbers.specs.Sign.{isNeg}
-use Rattle.answers.specs.Refusals.{noSuch, outOfBounds, isCount}
-use Rattle.rates.specs.declared.Timecode.{Timecode}
-use Rattle.rates.specs.Rates.{isRate}
+use Rattle.answers.specs.Order.{Condition, unless}
+use Rattle.timecodes.specs.declared.Timecode.{Timecode}
+use Rattle.timecodes.specs.Admitted.{admits}
 use Rattle.film.specs.declared.FilmFormat.{FilmFormat}
 use Rattle.film.specs.declared.FilmFormat.the-variants.{FF35mm4perf, FF35mm3perf, FF35mm2perf, FF16mm}
-use Rattle.film.specs.declared.Filmed.{Filmed}
-use Rattle.film.specs.declared.Filmed.the-variants.{Format, Refused}
 use Rattle.film.specs.declared.Footage.{Footage}
-use Rattle.film.specs.Film.{formatAt}
+use Rattle.film.specs.Film.{badFormat, formatIn}
 use Rattle.film.specs.Footage.{footageOf}
 use Rattle.digits.specs.Digits.{decimal}
-use Rattle.written.specs.Written.{Draft, Text, NoText, orElse}
-use Rattle.written.specs.Parts.{signText}
+use Rattle.written.specs.Written.{Draft, Text, NoText}
+use Rattle.written.specs.Parts.{signedText, fieldText}
 
 -- 3-perf adds `.` and feet modulo 3
 abbrev pub perfText : FilmFormat → (perf : ℕ) → List ℕ
@@ -25,26 +24,18 @@ perfText FF35mm3perf perf = 46 ∷ decimal 1 perf
 perfText FF35mm2perf perf = []
 perfText FF16mm perf = []
 
--- feet, unpadded; `+`; frames, two digits at least
-unfoldable pub feetText : FilmFormat → Footage → List ℕ
-feetText format footage =
-    decimal 1 (footage .feet) ++ (43 ∷ decimal 2 (footage .frames) ++ perfText format (footage .perf))
+-- feet, unpadded, the sign in front; `+`; frames, two digits at least
+unfoldable pub feetText : (minus : Bool) → FilmFormat → Footage → List ℕ
+feetText minus format footage =
+    signedText minus (footage .feet) ++ (fieldText 43 (footage .frames) ++ perfText format (footage .perf))
 
 -- the footage of the absolute count, `-` in front if the count is below 0
 unfoldable pub footageText : FilmFormat → (count : ℤ) → List ℕ
-footageText format count = signText (isNeg count) ++ feetText format (footageOf format (natAbs count))
+footageText format count = feetText (isNeg count) format (footageOf format (natAbs count))
 
--- 5: a count out of its bounds; then the text, where it has room
-unfoldable pub countDraft : FilmFormat → (count : ℤ) → Draft
-countDraft format count = orElse (isCount count) outOfBounds (Text (footageText format count))
+-- what leaves no text: 6, no such film format; 6, no such rate; then 5, a count out of its bounds
+abbrev pub footageWhen : Timecode → (format : ℕ) → List Condition
+footageWhen tc format = badFormat format ∷ admits tc
 
--- the film format of a number, or its refusal
-abbrev pub inFormat : Filmed → (FilmFormat → Draft) → Draft
-inFormat (Format format) rest = rest format
-inFormat (Refused e) rest = NoText e
-
--- before that 6: no such rate; 6: no such film format
 unfoldable pub footageDraft : Timecode → (format : ℕ) → Draft
-footageDraft tc format =
-    orElse (isRate (tc .rate)) noSuch
-    (inFormat (formatAt format) (λ chosen. countDraft chosen (tc .count)))
+footageDraft tc format = unless NoText (footageWhen tc format) (Text (footageText (formatIn format) (tc .count)))

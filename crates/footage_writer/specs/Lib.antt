@@ -1,3 +1,2 @@
 pub mod FootageText
-pub mod Parts
 pub mod Statements

@@ -1,9 +1,3 @@
-pub mod Steps
-pub mod Justified
-pub mod Shape
-pub mod Short
-pub mod Back
-pub mod Scanned
-pub mod Apart
 pub mod Statements
+pub mod Apart
 pub mod Determined

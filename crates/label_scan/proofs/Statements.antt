@@ -1,103 +1,96 @@
--- A text reads as its shape says, in one way only, and is refused exactly where it has none or a field is too long.
+-- A text reads as its shape says, in one way only, and each fit is given exactly: the scan of a text by a label's grammar.
 -- Assumes nothing.
-use Prim.Native.Nat.{ℕ}
-use mathlib.Core.Path.{_≡_, refl, sym, ap, _∙_}
-use mathlib.Core.Logic.{⊎-elim}
-use mathlib.Core.List.{List, [], _++_, map}
+use Prim.Native.Nat.{ℕ, _^_, _<_}
+use mathlib.Core.Path.{_≡_, refl, ap, _∙_}
+use mathlib.Core.List.{List, [], _∷_, _++_, append-nil}
 use mathlib.Core.Bool.{Bool, true, false}
 use native.Mathlib.Omega.{arith}
-use Rattle.digits.specs.Digits.{fieldValue, firstIs}
-use Rattle.answers.specs.Refusals.{noShape}
-use Rattle.scanner.specs.Scan.{isByte, isDivider}
-use Rattle.scanner.proofs.Fields.{apart-divider}
-use Rattle.scanner.proofs.OneShape.{fields-one, signed-one}
+use lib.ListN.{length}
+use Rattle.digits.specs.Digits.{allDigits, decimal}
+use Rattle.digits.proofs.Width.{decimal-back}
+use Rattle.scanner.specs.declared.text.Fit.the-variants.{Fits, TooLong, NoShape}
+use Rattle.scanner.specs.Long.{fieldsLong, ShortField}
+use Rattle.scanner.specs.Shapes.{last, more, TextParts, textParts, withMinus, TextShape, someLong, HasTextShape}
+use Rattle.scanner.proofs.Long.{not-long, written-short}
+use Rattle.scanner.proofs.Statements.{one-text-shape, fit-told, text-short, text-long, text-none}
 use Rattle.label_scan.specs.declared.LabelScan.{LabelScan}
-use Rattle.label_scan.specs.Shape.{LabelFields, label, LabelShape, rightJustified, someLong}
-use Rattle.label_scan.specs.Label.{fits, refused, verdictNumber, numberOf, unlessLong, labelScan}
-use Rattle.label_scan.specs.Statements.{LabelReads, HasLabelShape, LabelFits, LabelTooLong, LabelNoShape, OneLabelShape, LabelBack}
-use Rattle.label_scan.proofs.Shape.{readAs, no-sign, label-given, label-found}
-use Rattle.label_scan.proofs.Short.{short-read}
-use Rattle.label_scan.proofs.Back.{back}
+use Rattle.label_scan.specs.Shape.{labelGrammar, LabelShape, HasLabelShape}
+use Rattle.label_scan.specs.Label.{labelFrom, labelScan}
+use Rattle.label_scan.specs.Statements.{LabelReads, LabelFits, LabelTooLong, LabelNoShape, OneLabelShape, LabelBack}
 
+-- ---- a label's grammar allows no tail
+no-tail : (tail : List ℕ) → (0 < length tail → 0 < labelGrammar .tail) → [] ≡ tail
+no-tail [] h = refl
+no-tail (b ∷ tail) h = absurd (omega (arith, h (omega arith)))
+
+as-label : (l : List ℕ) (p : TextParts) → TextShape labelGrammar l p → LabelShape l (p .minus) (p .fields)
+as-label l p t = let e = no-tail (p .tail) (t .shape .allowed) in rw e t
+
+has-label : (l : List ℕ) (long : Bool) → HasTextShape labelGrammar l long → HasLabelShape l long
+has-label l long h =
+    let p = h .parts in
+    let e = no-tail (p .tail) (h .shape .shape .allowed) in
+    record { minus = p .minus; fields = p .fields; shape = as-label l p (h .shape); digits = ap (λ (x : List ℕ). someLong labelGrammar (textParts (p .minus) (p .fields) x)) e ∙ h .digits }
+
+-- ---- each fit
 pub label-reads : LabelReads
-label-reads = short-read
-
--- ---- each verdict
-module _ (m : Bool) (fields : List ℕ) where
-  -- a text of the shape is not refused 1; it is refused 2 for a field, and taken if there is none such
-  long-not-shapeless : (long : Bool) → unlessLong long (fits m fields) ≡ refused noShape → ⊥
-  long-not-shapeless true e = omega (arith, ap numberOf e)
-  long-not-shapeless false e = omega (arith, ap numberOf e)
-
-  long-refused : (long : Bool) → numberOf (unlessLong long (fits m fields)) ≡ 2 → long ≡ true
-  long-refused true e = refl
-  long-refused false e = absurd (omega (arith, e))
-
-  short-taken : (long : Bool) → numberOf (unlessLong long (fits m fields)) ≡ 0 → long ≡ false
-  short-taken true e = absurd (omega (arith, e))
-  short-taken false e = refl
-
--- the number that a text of the shape is given
-number-given : (l : List ℕ) (m : Bool) (fields : List (List ℕ)) (n : ℕ) → LabelShape l m fields → numberOf (labelScan l) ≡ n → numberOf (readAs m fields) ≡ n
-number-given l m fields n shape e = ap numberOf (sym (label-given l m fields shape)) ∙ e
-
-with-digits : (l : List ℕ) (long wanted : Bool) (n : ℕ)
-    → ((m : Bool) (fields : List ℕ) (t : Bool) → numberOf (unlessLong t (fits m fields)) ≡ n → t ≡ wanted)
-    → numberOf (labelScan l) ≡ n → HasLabelShape l long → HasLabelShape l wanted
-with-digits l long wanted n is e s =
-    record {
-      minus = s .minus;
-      fields = s .fields;
-      shape = s .shape;
-      digits =
-          is (s .minus) (rightJustified (map fieldValue (s .fields))) (someLong (s .fields))
-          (number-given l (s .minus) (s .fields) n (s .shape) e);
-    }
-
--- a text that is not refused 1 has the shape; its number says whether a field is too long
-found-with : (l : List ℕ) (wanted : Bool) (n : ℕ) → (n ≡ 1 → ⊥)
-    → ((m : Bool) (fields : List ℕ) (t : Bool) → numberOf (unlessLong t (fits m fields)) ≡ n → t ≡ wanted)
-    → numberOf (labelScan l) ≡ n → HasLabelShape l wanted
-found-with l wanted n other is e =
-    ⊎-elim
-    (λ z. absurd (other (sym e ∙ ap numberOf z)))
-    (λ s. with-digits l (s .0) wanted n is e (s .1))
-    (label-found l)
+unfolding labelScan
+label-reads l m fields shape short = ap labelFrom (text-short labelGrammar l (textParts m fields []) shape short)
 
 pub label-fits : LabelFits
+unfolding labelScan
 label-fits l = (
-  λ e. found-with l false 0 (λ z. omega arith) short-taken (ap verdictNumber e),
-  λ s. ap (λ (x : LabelScan). x .verdict) (label-reads l (s .minus) (s .fields) (s .shape) (s .digits)),
+  λ e. has-label l false (fit-told labelGrammar l Fits e),
+  λ h. ap (λ (x : LabelScan). x .fit) (label-reads l (h .minus) (h .fields) (h .shape) (h .digits)),
 )
 
 pub label-too-long : LabelTooLong
+unfolding labelScan
 label-too-long l = (
-  λ e. found-with l true 2 (λ z. omega arith) long-refused (ap numberOf e),
-  λ s. label-given l (s .minus) (s .fields) (s .shape)
-      ∙ ap (λ (t : Bool). unlessLong t (fits (s .minus) (rightJustified (map fieldValue (s .fields))))) (s .digits),
+  λ e. has-label l true (fit-told labelGrammar l TooLong (ap (λ (x : LabelScan). x .fit) e)),
+  λ h. ap labelFrom (text-long labelGrammar l (record { parts = textParts (h .minus) (h .fields) []; shape = h .shape; digits = h .digits })),
 )
 
 pub label-no-shape : LabelNoShape
+unfolding labelScan
 label-no-shape l = (
-  λ e m fields shape.
-      long-not-shapeless m (rightJustified (map fieldValue fields)) (someLong fields) (sym (label-given l m fields shape) ∙ e),
-  λ h. ⊎-elim (λ e. e) (λ s. absurd (h (s .1 .minus) (s .1 .fields) (s .1 .shape))) (label-found l),
+  λ e m fields. fit-told labelGrammar l NoShape (ap (λ (x : LabelScan). x .fit) e) (textParts m fields []),
+  λ h. ap labelFrom (text-none labelGrammar l (λ p shape. h (p .minus) (p .fields) (as-label l p shape))),
 )
-
--- ---- one shape
-fields-first : (l : List ℕ) (g : Bool × List (List ℕ)) → LabelFields false l g → firstIs (isByte 45) l ≡ false
-fields-first l g (label {fields = ds} t) = no-sign 4 l ds t
-
-one-fields : (m : Bool) (l k : List ℕ) (g h : Bool × List (List ℕ)) → LabelFields m l g → LabelFields m k h → l ≡ k → g ≡ h
-one-fields m l k g h (label {fields = ds} t) (label {fields = es} u) p =
-    let o = fields-one isDivider apart-divider [] [] refl refl refl refl 4 4 l k ds es t u (ap (λ (x : List ℕ). x ++ []) p) in
-    ap (λ (x : List (List ℕ)). (m, x)) (o .0)
 
 pub one-label-shape : OneLabelShape
 one-label-shape l m n ds es s t =
-    let e = signed-one LabelFields fields-first one-fields l (m, ds) (n, es) s t in
-    (ap (λ (x : Bool × List (List ℕ)). x .0) e, ap (λ (x : Bool × List (List ℕ)). x .1) e)
+    let e = one-text-shape labelGrammar l (textParts m ds []) (textParts n es []) s t in
+    (ap (λ (x : TextParts). x .minus) e, ap (λ (x : TextParts). x .fields) e)
 
 -- ---- written and read
+-- a number below 10^9 in two digits at least
+two-digits : (n : ℕ) → n < 10 ^ 9 → ShortField (decimal 2 n)
+two-digits n l = written-short 2 n (omega arith) l
+
 pub label-back : LabelBack
-label-back = back
+unfolding fieldsLong allDigits
+label-back sign h m s f a b c i j k l p q r =
+    let hours = two-digits h i in
+    let minutes = two-digits m j in
+    let seconds = two-digits s k in
+    let frames = two-digits f l in
+    let front = decimal 2 h ++ (a ∷ decimal 2 m ++ (b ∷ decimal 2 s ++ (c ∷ decimal 2 f))) in
+    let shape = more (hours .is) a p (more (minutes .is) b q (more (seconds .is) c r (last (frames .is)))) in
+    label-reads (withMinus sign front) sign (decimal 2 h ∷ decimal 2 m ∷ decimal 2 s ∷ decimal 2 f ∷ [])
+    (record {
+      body = front;
+      shape = record { front = front; shape = shape; enough = omega arith; digits = refl; allowed = λ z. omega arith; all = append-nil front };
+      text = refl;
+    })
+    (rw (not-long (decimal 2 h) hours, not-long (decimal 2 m) minutes, not-long (decimal 2 s) seconds, not-long (decimal 2 f) frames))
+    ∙ rw (decimal-back 2 h, decimal-back 2 m, decimal-back 2 s, decimal-back 2 f)
+
+-- ---- what the fit alone tells
+pub label-fit-long : (l : List ℕ) → labelScan l .fit ≡ TooLong → HasLabelShape l true
+unfolding labelScan
+label-fit-long l e = has-label l true (fit-told labelGrammar l TooLong e)
+
+pub label-fit-none : (l : List ℕ) → labelScan l .fit ≡ NoShape → (m : Bool) (fields : List (List ℕ)) → ¬ LabelShape l m fields
+unfolding labelScan
+label-fit-none l e m fields = fit-told labelGrammar l NoShape e (textParts m fields [])

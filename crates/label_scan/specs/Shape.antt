@@ -1,25 +1,25 @@
--- Text shapes, label: the shape as a grammar, and the fields that are kept. No reader stands here.
+-- Label (BEHAVIOUR: Text shapes): the shape as a grammar. No reader stands here.
 -- Assumes nothing.
 use Prim.Native.Nat.{ℕ}
-use mathlib.Core.List.{List}
+use mathlib.Core.Path.{_≡_}
+use mathlib.Core.List.{List, []}
 use mathlib.Core.Bool.{Bool}
-use Rattle.scanner.specs.Scan.{isDivider}
-use Rattle.scanner.specs.Shapes.{Signed, Fields}
+use Rattle.scanner.specs.declared.fields.Dividers.the-variants.{ColonOrSemicolon}
+use Rattle.scanner.specs.declared.text.Grammar.{Grammar}
 use Rattle.scanner.specs.Long.{fieldsLong}
-use Rattle.scanner.specs.Justified.{justified}
+use Rattle.scanner.specs.Shapes.{textParts, TextShape}
 
--- one to four fields, each two divided by `:` or `;`; the label is its sign and these
-pub data LabelFields (minus : Bool) : List ℕ → (label : Bool × List (List ℕ)) → Type 0 where
-  label : {l : List ℕ} {fields : List (List ℕ)} → Fields isDivider 4 l fields → LabelFields minus l (minus, fields)
+-- one to four fields, each two divided by `:` or `;`
+abbrev pub labelGrammar : Grammar
+labelGrammar = record { dividers = ColonOrSemicolon; least = 1; most = 4; tail = 0 }
 
 -- Label: optional `-`, then the fields
 abbrev pub LabelShape : (l : List ℕ) (minus : Bool) (fields : List (List ℕ)) → Type 0
-LabelShape l minus fields = Signed LabelFields l (minus, fields)
+LabelShape l minus fields = TextShape labelGrammar l (textParts minus fields [])
 
--- the last is frames, then leftward seconds, minutes, hours: right-justified, absent ones zero
-abbrev pub rightJustified : (values : List ℕ) → List ℕ
-rightJustified values = justified 4 values
-
--- some field has over 9 digits
-abbrev pub someLong : (fields : List (List ℕ)) → Bool
-someLong fields = fieldsLong fields
+-- a text has the shape, and some field has over 9 digits, or none has
+pub record HasLabelShape (l : List ℕ) (long : Bool) : Type 0 where
+  pub minus : Bool
+  pub fields : List (List ℕ)
+  pub shape : LabelShape l minus fields
+  pub digits : fieldsLong fields ≡ long

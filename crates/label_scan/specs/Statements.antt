@@ -1,4 +1,4 @@
--- What a text reads as, by its shape: each text in one way, and each verdict exactly. Proofs: proofs/Statements.antt.
+-- What a text reads as, by its shape: each text in one way, and each fit exactly. Proofs: proofs/Statements.antt.
 -- Assumes nothing.
 use Prim.Native.Nat.{ℕ, _^_, _<_}
 use mathlib.Core.Path.{_≡_}
@@ -6,37 +6,31 @@ use mathlib.Core.Logic.{_↔_}
 use mathlib.Core.List.{List, [], _∷_, _++_, map}
 use mathlib.Core.Bool.{Bool, true, false}
 use Rattle.digits.specs.Digits.{valueOf, decimal}
-use Rattle.answers.specs.Refusals.{noShape, tooLong}
+use Rattle.scanner.specs.declared.text.Fit.the-variants.{Fits, TooLong, NoShape}
+use Rattle.scanner.specs.Long.{fieldsLong}
+use Rattle.scanner.specs.Justified.{justified}
 use Rattle.scanner.specs.Scan.{isDivider}
-use Rattle.scanner.specs.Shapes.{signed}
-use Rattle.label_scan.specs.declared.Verdict.the-variants.{Fits}
-use Rattle.label_scan.specs.Shape.{LabelShape, rightJustified, someLong}
-use Rattle.label_scan.specs.Label.{fits, refused, labelScan}
+use Rattle.scanner.specs.Shapes.{withMinus}
+use Rattle.label_scan.specs.Shape.{LabelShape, HasLabelShape}
+use Rattle.label_scan.specs.Label.{fittingLabel, misfitLabel, labelScan}
 
 -- a text of the shape, no field of over 9 digits, reads as its sign and the values of its fields, right-justified, absent ones zero
 abbrev pub LabelReads : Type 0
 LabelReads =
-    (l : List ℕ) (minus : Bool) (fields : List (List ℕ)) → LabelShape l minus fields → someLong fields ≡ false
-    → labelScan l ≡ fits minus (rightJustified (map valueOf fields))
+    (l : List ℕ) (minus : Bool) (fields : List (List ℕ)) → LabelShape l minus fields → fieldsLong fields ≡ false
+    → labelScan l ≡ fittingLabel minus (justified (map valueOf fields))
 
--- a text has the shape, and some field has over 9 digits, or none has
-pub record HasLabelShape (l : List ℕ) (long : Bool) : Type 0 where
-  pub minus : Bool
-  pub fields : List (List ℕ)
-  pub shape : LabelShape l minus fields
-  pub digits : someLong fields ≡ long
-
--- a text is taken exactly when the shape fits, and no field has over 9 digits
+-- a text fits exactly when it has the shape, and no field has over 9 digits
 abbrev pub LabelFits : Type 0
-LabelFits = (l : List ℕ) → (labelScan l .verdict ≡ Fits) ↔ HasLabelShape l false
+LabelFits = (l : List ℕ) → (labelScan l .fit ≡ Fits) ↔ HasLabelShape l false
 
--- refusal 2 exactly when the shape fits, but a field has over 9 digits
+-- it is too long exactly when it has the shape, but a field has over 9 digits
 abbrev pub LabelTooLong : Type 0
-LabelTooLong = (l : List ℕ) → (labelScan l ≡ refused tooLong) ↔ HasLabelShape l true
+LabelTooLong = (l : List ℕ) → (labelScan l ≡ misfitLabel TooLong) ↔ HasLabelShape l true
 
--- refusal 1 exactly when the text has no such shape
+-- it has no shape exactly when it has not this one
 abbrev pub LabelNoShape : Type 0
-LabelNoShape = (l : List ℕ) → (labelScan l ≡ refused noShape) ↔ ((minus : Bool) (fields : List (List ℕ)) → ¬ LabelShape l minus fields)
+LabelNoShape = (l : List ℕ) → (labelScan l ≡ misfitLabel NoShape) ↔ ((minus : Bool) (fields : List (List ℕ)) → ¬ LabelShape l minus fields)
 
 -- a text has the shape in one way only
 abbrev pub OneLabelShape : Type 0
@@ -48,5 +42,5 @@ abbrev pub LabelBack : Type 0
 LabelBack =
     (minus : Bool) (h m s f a b c : ℕ) → h < 10 ^ 9 → m < 10 ^ 9 → s < 10 ^ 9 → f < 10 ^ 9
     → isDivider a ≡ true → isDivider b ≡ true → isDivider c ≡ true
-    → labelScan (signed minus (decimal 2 h ++ (a ∷ decimal 2 m ++ (b ∷ decimal 2 s ++ (c ∷ decimal 2 f)))))
-    ≡ fits minus (h ∷ m ∷ s ∷ f ∷ [])
+    → labelScan (withMinus minus (decimal 2 h ++ (a ∷ decimal 2 m ++ (b ∷ decimal 2 s ++ (c ∷ decimal 2 f)))))
+    ≡ fittingLabel minus (h ∷ m ∷ s ∷ f ∷ [])

@@ -1,31 +1,31 @@
--- What the tests of rate and count say of a timecode's sections, and what its sections say of its text.
+-- The fields of a label at a rate, its text by them, and how long the text is.
 -- Assumes nothing.
-use Prim.Native.Nat.{ℕ, _≤_, _<_}
+use Prim.Native.Nat.{ℕ, _+_, _≤_, _<_, max}
 use mathlib.Core.Path.{_≡_, refl}
-use mathlib.Core.Bool.{Bool, true, false}
-use mathlib.Core.List.{List, _∷_, _++_}
+use mathlib.Core.Bool.{Bool, true}
+use mathlib.Core.List.{List, _∷_, _++_, append-assoc}
 use native.Mathlib.Omega.{arith}
 use lib.IntN.{ℤ, natAbs}
+use lib.ListN.{length, length-append}
 use Rattle.numbers.specs.Sign.{isNeg}
-use Rattle.answers.specs.declared.Refusal.{Refusal}
-use Rattle.answers.specs.Refusals.{noSuch, outOfBounds, isCount}
-use Rattle.rates.specs.declared.Framerate.{Framerate}
-use Rattle.rates.specs.declared.Timecode.{Timecode}
 use Rattle.rates.specs.Rates.{isRate, rateRow, dropFrames}
 use Rattle.rates.specs.Rule.{sound}
 use Rattle.rates.specs.Laws.{drop-small}
+use Rattle.timecodes.specs.declared.Timecode.{Timecode}
+use Rattle.timecodes.specs.Admitted.{Valid}
+use Rattle.timecodes.specs.AdmittedLaws.{valid-admits, valid-count-le}
+use Rattle.answers.specs.OrderLaws.{unless-clear}
 use Rattle.labels.specs.Label.{hoursIn, minutesIn, secondsIn, framesIn, LabelOf}
-use Rattle.labels.specs.Sections.{sectionsOf}
+use Rattle.labels.specs.AtRate.{sectionsAt, sectionsAt-in}
 use Rattle.labels.specs.Statements.{Small}
 use Rattle.labels.proofs.Statements.{has-label, small-fields}
-use Rattle.digits.specs.Digits.{decimal}
-use Rattle.written.specs.Parts.{signText}
-use Rattle.written.specs.Written as written
+use Rattle.digits.specs.Digits.{width, decimal}
+use Rattle.written.specs.Parts.{signText, fieldText}
+use Rattle.written.specs.Clock.{clockText}
 use Rattle.written.specs.Written.{Text, NoText}
 use Rattle.label_writer.specs.declared.TimecodeSections.{TimecodeSections}
-use Rattle.label_writer.specs.declared.Sectioned.the-variants.{Sections, Refused}
-use Rattle.label_writer.specs.Sections.{labelFields, labelSections, orElse, sectioned}
-use Rattle.label_writer.specs.LabelText.{framesMark, fieldsText, sectionsText, labelText, labelDraft, TwoDigits}
+use Rattle.label_writer.specs.Sections.{labelFields, labelSections}
+use Rattle.label_writer.specs.LabelText.{framesMark, sectionsText, sectionsLength, labelText, labelWhen, labelDraft}
 
 -- ---- the fields of a label at a rate
 module _ (rate : ℕ) (count : ℤ) (h : isRate rate ≡ true) where
@@ -37,10 +37,15 @@ module _ (rate : ℕ) (count : ℤ) (h : isRate rate ≡ true) where
   label-small =
       small-fields (rateRow rate .timebase) (dropFrames rate) (natAbs count) (labelFields rate count) (sound rate h .timebase-most) (drop-small rate h) label-of
 
-  pub label-short : TwoDigits (labelSections rate count)
-  unfolding labelSections
-  label-short = let s = label-small in record { minutes = s .minutes; seconds = s .seconds; frames = s .frames }
+-- the sections by name, from a sign, and fields that were answered for the magnitude
+pub sections-made : (tc : Timecode) (n : ℕ) (minus : Bool) (fields : List ℕ) → Valid tc
+    → n ≡ natAbs (tc .count) → minus ≡ isNeg (tc .count) → fields ≡ sectionsAt (tc .rate) n
+    → record { negative = minus; hours = hoursIn fields; minutes = minutesIn fields; seconds = secondsIn fields; frames = framesIn fields }
+    ≡ labelSections (tc .rate) (tc .count)
+unfolding labelSections labelFields
+sections-made tc n minus fields v e m f = rw (f, m, e, sectionsAt-in (tc .rate) (natAbs (tc .count)) (v .rate) (valid-count-le tc v))
 
+-- ---- the text
 -- the label's text by its fields
 pub label-parts : (rate : ℕ) (count : ℤ)
     → labelText rate count
@@ -49,74 +54,19 @@ pub label-parts : (rate : ℕ) (count : ℤ)
     ++ (58 ∷ decimal 2 (minutesIn (labelFields rate count))
     ++ (58 ∷ decimal 2 (secondsIn (labelFields rate count))
     ++ (framesMark rate ∷ decimal 2 (framesIn (labelFields rate count))))))
-unfolding labelText sectionsText fieldsText labelSections
-label-parts rate count = refl
+unfolding labelText sectionsText clockText labelSections
+label-parts rate count = simp append-assoc
 
--- what `labels::sections` asks of a rate's row
-pub row-asks : (rate : ℕ) (row : Framerate) (d : ℕ) → isRate rate ≡ true → row ≡ rateRow rate → d ≡ dropFrames rate
-    → (row .timebase ≤ 60) × (d < row .timebase)
-row-asks rate row d h a b = rw (a, b) (sound rate h .timebase-most, drop-small rate h)
+-- its length, whichever the mark
+pub sections-length : (mark : ℕ) (s : TimecodeSections)
+    → length (sectionsText mark s) ≡ length (clockText (s .negative) (s .hours) (s .minutes) (s .seconds)) + length (fieldText mark (s .frames))
+unfolding sectionsText
+sections-length mark s = length-append (clockText (s .negative) (s .hours) (s .minutes) (s .seconds)) (fieldText mark (s .frames))
 
--- the sections by name, from a sign, and fields that were answered for the magnitude
-pub sections-made : (rate : ℕ) (count : ℤ) (row : Framerate) (d n : ℕ) (minus : Bool) (fields : List ℕ)
-    → row ≡ rateRow rate → d ≡ dropFrames rate → n ≡ natAbs count → minus ≡ isNeg count → fields ≡ sectionsOf (row .timebase) d n
-    → record { negative = minus; hours = hoursIn fields; minutes = minutesIn fields; seconds = secondsIn fields; frames = framesIn fields }
-    ≡ labelSections rate count
-unfolding labelSections labelFields
-sections-made rate count row d n minus fields a b e m f = rw (f, m, a, b, e)
+pub sections-same : (mark : ℕ) (s : TimecodeSections) → sectionsLength s ≡ length (sectionsText mark s)
+sections-same mark s = omega (arith, sections-length mark s, sections-length 58 s)
 
--- ---- the answer, by the tests
--- both tests passed, and the sections are the label's
-pub record Passed (tc : Timecode) (s : TimecodeSections) : Type 0 where
-  pub rate : isRate (tc .rate) ≡ true
-  pub count : isCount (tc .count) ≡ true
-  pub same : s ≡ labelSections (tc .rate) (tc .count)
-
-module _ (tc : Timecode) where
-  pub no-rate : isRate (tc .rate) ≡ false → Refused noSuch ≡ sectioned tc
-  unfolding sectioned
-  no-rate r = rw r
-
-  pub no-count : isRate (tc .rate) ≡ true → isCount (tc .count) ≡ false → Refused outOfBounds ≡ sectioned tc
-  unfolding sectioned
-  no-count r k = rw (r, k)
-
-  pub both : isRate (tc .rate) ≡ true → isCount (tc .count) ≡ true → Sections (labelSections (tc .rate) (tc .count)) ≡ sectioned tc
-  unfolding sectioned
-  both r k = rw (r, k)
-
-  pub draft-text : isRate (tc .rate) ≡ true → isCount (tc .count) ≡ true → labelDraft tc ≡ Text (labelText (tc .rate) (tc .count))
-  unfolding labelDraft
-  draft-text r k = rw (r, k)
-
-  -- ---- and back: what an answer says of the tests, and so of the text
-  passed-by : (r k : Bool) → isRate (tc .rate) ≡ r → isCount (tc .count) ≡ k → (s : TimecodeSections)
-      → orElse r noSuch (orElse k outOfBounds (Sections (labelSections (tc .rate) (tc .count)))) ≡ Sections s → Passed tc s
-  passed-by true true r k s p = record { rate = r; count = k; same = cc }
-  passed-by true false r k s p = let z : _≡_ {A = ℕ} 0 1 = cc in absurd (omega arith)
-  passed-by false t r k s p = let z : _≡_ {A = ℕ} 0 1 = cc in absurd (omega arith)
-
-  pub passed : (s : TimecodeSections) → sectioned tc ≡ Sections s → Passed tc s
-  unfolding sectioned
-  passed s p = passed-by (isRate (tc .rate)) (isCount (tc .count)) refl refl s p
-
-  -- sections are those of the text, and two digits are enough for all but hours
-  pub text-of : (s : TimecodeSections) → sectioned tc ≡ Sections s → labelDraft tc ≡ Text (sectionsText (framesMark (tc .rate)) s)
-  unfolding labelDraft labelText
-  text-of s p = let t = passed s p in rw (t .rate, t .count, t .same)
-
-  pub short-of : (s : TimecodeSections) → sectioned tc ≡ Sections s → TwoDigits s
-  short-of s p = let t = passed s p in rw (t .same) (label-short (tc .rate) (tc .count) (t .rate))
-
-  -- and a refusal is the text's
-  refused-by : (r k : Bool) (l : TimecodeSections) (d : written.Draft) (e : Refusal)
-      → orElse r noSuch (orElse k outOfBounds (Sections l)) ≡ Refused e
-      → written.orElse r noSuch (written.orElse k outOfBounds d) ≡ NoText e
-  refused-by true true l d e p = let z : _≡_ {A = ℕ} 0 1 = cc in absurd (omega arith)
-  refused-by true false l d e p = cc
-  refused-by false k l d e p = cc
-
-  pub no-text-of : (e : Refusal) → sectioned tc ≡ Refused e → labelDraft tc ≡ NoText e
-  unfolding sectioned labelDraft
-  no-text-of e p =
-      refused-by (isRate (tc .rate)) (isCount (tc .count)) (labelSections (tc .rate) (tc .count)) (Text (labelText (tc .rate) (tc .count))) e p
+-- that of a timecode that is admitted is drafted
+pub draft-text : (tc : Timecode) → Valid tc → labelDraft tc ≡ Text (labelText (tc .rate) (tc .count))
+unfolding labelDraft
+draft-text tc v = unless-clear NoText (labelWhen tc) (Text (labelText (tc .rate) (tc .count))) (valid-admits tc v)

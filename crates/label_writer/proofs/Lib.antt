@@ -1,4 +1,3 @@
-pub mod Texts
 pub mod Answers
 pub mod Statements
 pub mod Determined

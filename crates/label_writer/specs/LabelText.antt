@@ -1,15 +1,17 @@
--- Writing labels: the text of a label, and when there is none.
+-- Writing labels (BEHAVIOUR: Labels and counts): the text of a label, and when there is none.
 -- Assumes nothing.
-use Prim.Native.Nat.{ℕ, _<_}
-use mathlib.Core.List.{List, _∷_, _++_}
+use Prim.Native.Nat.{ℕ}
+use mathlib.Core.List.{List, _++_}
 use mathlib.Core.Bool.{cond}
+use lib.ListN.{length}
 use lib.IntN.{ℤ}
-use Rattle.answers.specs.Refusals.{noSuch, outOfBounds, isCount}
-use Rattle.rates.specs.declared.Timecode.{Timecode}
-use Rattle.rates.specs.Rates.{isRate, isDrop}
-use Rattle.digits.specs.Digits.{decimal}
-use Rattle.written.specs.Written.{Draft, Text, orElse}
-use Rattle.written.specs.Parts.{signText}
+use Rattle.answers.specs.Order.{Condition, unless}
+use Rattle.rates.specs.Rates.{isDrop}
+use Rattle.timecodes.specs.declared.Timecode.{Timecode}
+use Rattle.timecodes.specs.Admitted.{admits}
+use Rattle.written.specs.Written.{Draft, Text, NoText}
+use Rattle.written.specs.Parts.{fieldText}
+use Rattle.written.specs.Clock.{clockText}
 use Rattle.label_writer.specs.declared.TimecodeSections.{TimecodeSections}
 use Rattle.label_writer.specs.Sections.{labelSections}
 
@@ -17,29 +19,21 @@ use Rattle.label_writer.specs.Sections.{labelSections}
 abbrev pub framesMark : (rate : ℕ) → ℕ
 framesMark rate = cond (isDrop rate) 59 58
 
--- two digits at least for each field
-unfoldable pub fieldsText : (mark : ℕ) → TimecodeSections → List ℕ
-fieldsText mark s =
-    decimal 2 (s .hours)
-    ++ (58 ∷ decimal 2 (s .minutes) ++ (58 ∷ decimal 2 (s .seconds) ++ (mark ∷ decimal 2 (s .frames))))
-
--- sign for counts below 0
+-- sign for counts below 0, two digits at least for each field
 unfoldable pub sectionsText : (mark : ℕ) → TimecodeSections → List ℕ
-sectionsText mark s = signText (s .negative) ++ fieldsText mark s
+sectionsText mark s = clockText (s .negative) (s .hours) (s .minutes) (s .seconds) ++ fieldText mark (s .frames)
+
+-- how many bytes that is, whichever the mark
+abbrev pub sectionsLength : TimecodeSections → ℕ
+sectionsLength s = length (sectionsText 58 s)
 
 -- the text of the label
 unfoldable pub labelText : (rate : ℕ) (count : ℤ) → List ℕ
 labelText rate count = sectionsText (framesMark rate) (labelSections rate count)
 
--- 6: no such rate; then 5: a count out of its bounds; then the text, where it has room
-unfoldable pub labelDraft : Timecode → Draft
-labelDraft tc =
-    orElse (isRate (tc .rate)) noSuch
-    (orElse (isCount (tc .count)) outOfBounds
-    (Text (labelText (tc .rate) (tc .count))))
+-- what leaves no text: 6, no such rate; then 5, a count out of its bounds
+abbrev pub labelWhen : Timecode → List Condition
+labelWhen tc = admits tc
 
--- fields that two digits are enough for
-pub record TwoDigits (s : TimecodeSections) : Type 0 where
-  pub minutes : s .minutes < 100
-  pub seconds : s .seconds < 100
-  pub frames : s .frames < 100
+unfoldable pub labelDraft : Timecode → Draft
+labelDraft tc = unless NoText (labelWhen tc) (Text (labelText (tc .rate) (tc .count)))

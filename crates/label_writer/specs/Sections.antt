@@ -1,14 +1,14 @@
--- The sections of a timecode's label: the sign, and the fields of the one allowed label whose count is the absolute count.
+-- The sections of a timecode's label (BEHAVIOUR: Labels and counts): the sign, and the fields of the one allowed label whose count is the absolute count.
 -- Assumes nothing.
 use Prim.Native.Nat.{ℕ}
 use mathlib.Core.List.{List}
-use mathlib.Core.Bool.{Bool, true, false}
+use mathlib.Core.Bool.{false}
 use lib.IntN.{ℤ, natAbs}
 use Rattle.numbers.specs.Sign.{isNeg}
-use Rattle.answers.specs.declared.Refusal.{Refusal}
-use Rattle.answers.specs.Refusals.{noSuch, outOfBounds, isCount}
-use Rattle.rates.specs.declared.Timecode.{Timecode}
-use Rattle.rates.specs.Rates.{isRate, rateRow, dropFrames}
+use Rattle.answers.specs.Order.{unless}
+use Rattle.rates.specs.Rates.{rateRow, dropFrames}
+use Rattle.timecodes.specs.declared.Timecode.{Timecode}
+use Rattle.timecodes.specs.Admitted.{admits}
 use Rattle.labels.specs.Label.{hoursIn, minutesIn, secondsIn, framesIn}
 use Rattle.labels.specs.Sections.{sectionsOf}
 use Rattle.label_writer.specs.declared.TimecodeSections.{TimecodeSections}
@@ -32,19 +32,11 @@ labelSections rate count =
       frames = framesIn fields;
     }
 
--- a test, and the refusal that is given where it fails, before all that follows
-abbrev pub orElse : Bool → Refusal → Sectioned → Sectioned
-orElse true e rest = rest
-orElse false e rest = Refused e
-
 -- 6: no such rate; then 5: a count out of its bounds
 unfoldable pub sectioned : Timecode → Sectioned
-sectioned tc =
-    orElse (isRate (tc .rate)) noSuch
-    (orElse (isCount (tc .count)) outOfBounds
-    (Sections (labelSections (tc .rate) (tc .count))))
+sectioned tc = unless Refused (admits tc) (Sections (labelSections (tc .rate) (tc .count)))
 
--- the document's number of an answer (0: not refused), and its sections (a refusal's numbers are 0)
+-- the number of an answer (0: not refused), and its sections (a refusal's numbers are 0)
 abbrev pub numberOf : Sectioned → ℕ
 numberOf (Sections s) = 0
 numberOf (Refused e) = e .number

@@ -1,24 +1,54 @@
--- What holds of every label's text: its length, the bytes that occur in it, and when it is written. Proofs: proofs/Statements.antt.
+-- What holds of every label's text (BEHAVIOUR: Labels and counts): its shape, its length, the bytes that occur in it, and when it is written. Proofs:
+-- proofs/Statements.antt.
 -- Assumes nothing.
 use Prim.Native.Nat.{ℕ, _+_, _≤_, max}
 use mathlib.Core.Path.{_≡_}
 use mathlib.Core.Bool.{Bool, true, _||_}
-use mathlib.Core.List.{List}
+use mathlib.Core.List.{List, [], _∷_, _++_}
 use lib.Dec.{eqb}
-use lib.IntN.{ℤ}
+use lib.IntN.{ℤ, natAbs}
 use lib.ListN.{length}
+use Rattle.laws.specs.Every.{every}
 use Rattle.numbers.specs.Sign.{isNeg}
 use Rattle.lent.specs.Line.{splice}
 use Rattle.answers.specs.Refusals.{isCount}
-use Rattle.rates.specs.declared.Timecode.{Timecode}
-use Rattle.rates.specs.Rates.{isRate}
-use Rattle.rates.specs.Every.{every}
-use Rattle.digits.specs.Digits.{isDigit, width}
+use Rattle.rates.specs.Rates.{isRate, rateRow, dropFrames}
+use Rattle.timecodes.specs.declared.Timecode.{Timecode}
+use Rattle.timecodes.specs.Admitted.{Valid}
+use Rattle.digits.specs.Digits.{isDigit, valueOf, width}
+use Rattle.digits.specs.Statements.{Padded}
+use Rattle.labels.specs.Label.{LabelOf}
 use Rattle.written.specs.declared.Written.the-variants.{Length}
 use Rattle.written.specs.Written.{answerTo, lineTo}
 use Rattle.written.specs.Parts.{signText}
 use Rattle.label_writer.specs.Sections.{labelSections}
-use Rattle.label_writer.specs.LabelText.{labelText, labelDraft}
+use Rattle.label_writer.specs.LabelText.{framesMark, labelText, labelDraft}
+
+-- `;` stands before frames at rates 5 and 11, and `:` at every other
+pub record MarkAt : Type 0 where
+  pub at-5 : framesMark 5 ≡ 59
+  pub at-11 : framesMark 11 ≡ 59
+  pub elsewhere : (rate : ℕ) → (rate ≡ 5 → ⊥) → (rate ≡ 11 → ⊥) → framesMark rate ≡ 58
+
+-- a label is a sign and four fields of two digits at least, `:` between them but the mark of its rate before frames; and the fields are
+-- those of the one allowed label whose count is the absolute count
+pub record LabelShape (rate : ℕ) (count : ℤ) : Type 0 where
+  pub hours : List ℕ
+  pub minutes : List ℕ
+  pub seconds : List ℕ
+  pub frames : List ℕ
+  pub text : labelText rate count ≡ signText (isNeg count) ++ (hours ++ (58 ∷ minutes ++ (58 ∷ seconds ++ (framesMark rate ∷ frames))))
+  pub hours-padded : Padded 2 hours
+  pub minutes-padded : Padded 2 minutes
+  pub seconds-padded : Padded 2 seconds
+  pub frames-padded : Padded 2 frames
+  pub label :
+      LabelOf (rateRow rate .timebase) (dropFrames rate) (natAbs count)
+      (valueOf hours ∷ valueOf minutes ∷ valueOf seconds ∷ valueOf frames ∷ [])
+
+-- every label that is written at a rate has this shape
+abbrev pub LabelIs : Type 0
+LabelIs = (rate : ℕ) (count : ℤ) → isRate rate ≡ true → LabelShape rate count
 
 -- a label is as long as its sign, its hours in two digits at least, and three marks with two digits each
 abbrev pub LabelLength : Type 0
@@ -43,7 +73,6 @@ LabelBytes = (rate : ℕ) (count : ℤ) → every isLabelByte (labelText rate co
 -- at a rate, within the bounds and with 14 bytes of room the label is written: its length is answered, and it stands in the line
 abbrev pub LabelWritten : Type 0
 LabelWritten =
-    (tc : Timecode) (line : List ℕ) (place : ℕ)
-    → isRate (tc .rate) ≡ true → isCount (tc .count) ≡ true → place + 14 ≤ length line
+    (tc : Timecode) (line : List ℕ) (place : ℕ) → Valid tc → place + 14 ≤ length line
     → let text = labelText (tc .rate) (tc .count) in
     (answerTo line place (labelDraft tc) ≡ Length (length text)) × (lineTo line place (labelDraft tc) ≡ splice line place text)

@@ -11,7 +11,7 @@ use lib.Dec.{leb}
 use lib.Seq.{take-all, drop-drop, take-at, drop-at}
 use borrow.Author.Tests.{le-leb, lt-leb, leb-true, leb-false}
 use borrow.Rule.Slice.PartMut.{putMid, midOf}
-use Rattle.lent.specs.Line.{front, splice, hasRoom, fits, lineAfter}
+use Rattle.lent.specs.Line.{front, laid, splice, hasRoom, fits, lineAfter}
 
 -- ---- a text at the front
 -- no text changes nothing
@@ -29,6 +29,19 @@ front-snoc (x ∷ l) (y ∷ t) b h = ap (λ (z : List ℕ). y ∷ z) (front-snoc
 -- the first byte set is a text of one byte
 pub front-one : (l : List ℕ) (b : ℕ) → 0 < length l → set l 0 b ≡ front l (b ∷ [])
 front-one l b h = sym (front-snoc l [] b h ∙ front-nil (set l 0 b))
+
+-- where the text has room, and where it has none
+pub laid-in : (l text : List ℕ) → length text ≤ length l → laid l text ≡ front l text
+unfolding laid
+laid-in l text h = rw (le-leb (length text) (length l) h)
+
+pub laid-out : (l text : List ℕ) → length l < length text → laid l text ≡ l
+unfolding laid
+laid-out l text h = rw (lt-leb (length text) (length l) h)
+
+-- no text changes nothing
+pub laid-nil : (l : List ℕ) → laid l [] ≡ l
+laid-nil l = laid-in l [] (omega arith) ∙ front-nil l
 
 -- at the front is from place 0
 pub front-is : (l t : List ℕ) → front l t ≡ splice l 0 t
@@ -78,11 +91,32 @@ lent-next l m last t u at b p q h e =
     let n : length m ≡ length l = ap length p ∙ splice-length l t at (omega arith) in
     lent m last u b (omega arith) e ∙ ap (λ (x : List ℕ). splice x b u) p ∙ splice-splice l t u at b q h
 
--- and where t stands at the front: field by field, each laying its text down and lending the rest on
+-- and where t stands at the front
 pub front-lent : (l m last t u : List ℕ) (b : ℕ) → m ≡ front l t → length t ≡ b → b + length u ≤ length l
     → last ≡ front (midOf b (length m - b) m) u → putMid b (length m - b) m last ≡ front l (t ++ u)
 front-lent l m last t u b p q h e =
     lent-next l m last t u 0 b (p ∙ front-is l t) (omega arith) h e ∙ sym (front-is l (t ++ u))
+
+-- field by field, each laying its text down and lending the rest on
+pub laid-lent : (l m last t u : List ℕ) (b : ℕ) → m ≡ laid l t → b ≡ length t → length (t ++ u) ≤ length l
+    → last ≡ laid (midOf b (length m - b) m) u → putMid b (length m - b) m last ≡ laid l (t ++ u)
+laid-lent l m last t u b p q h e =
+    let n = length-append t u in
+    let f : m ≡ front l t = p ∙ laid-in l t (omega arith) in
+    let k : length m ≡ length l = ap length f ∙ front-length l t (omega arith) in
+    let g = e ∙ laid-in (midOf b (length m - b) m) u (omega (arith, part-length m b)) in
+    front-lent l m last t u b f (sym q) (omega arith) g ∙ sym (laid-in l (t ++ u) h)
+
+-- three of them
+pub laid-three : (l m last last₂ t u v : List ℕ) (b d : ℕ) → length (t ++ (u ++ v)) ≤ length l
+    → m ≡ laid l t → b ≡ length t → last ≡ laid (midOf b (length m - b) m) u
+    → d ≡ b + length u → let n = putMid b (length m - b) m last in last₂ ≡ laid (midOf d (length n - d) n) v
+    → putMid d (length n - d) n last₂ ≡ laid l (t ++ (u ++ v))
+laid-three l m last last₂ t u v b d h p q e r f =
+    let a : length ((t ++ u) ++ v) ≤ length l = omega (arith, ap length (append-assoc t u v)) in
+    let k = length-append (t ++ u) v in
+    let two = laid-lent l m last t u b p q (omega arith) e in
+    laid-lent l _ last₂ (t ++ u) v d two (omega (arith, length-append t u)) a f ∙ ap (laid l) (append-assoc t u v)
 
 -- ---- room
 -- the test that cannot wrap is the test on the sum
@@ -114,10 +148,13 @@ module _ (line : List ℕ) (place : ℕ) (text : List ℕ) where
   unfolding lineAfter
   line-laid h = rw (fits-true h)
 
-  -- the line after its rest from `place` on was lent, and came back as `last` with the text at its front
-  pub line-lent : (last : List ℕ) → place + length text ≤ length line → last ≡ front (midOf place (length line - place) line) text
+  -- the line after its rest from `place` on was lent, and came back as `last` with the text laid down at its front
+  pub line-lent : (last : List ℕ) → place + length text ≤ length line → last ≡ laid (midOf place (length line - place) line) text
       → putMid place (length line - place) line last ≡ lineAfter line place text
-  line-lent last h e = lent line last text place (omega arith) e ∙ sym (line-laid h)
+  line-lent last h e =
+      let part = midOf place (length line - place) line in
+      let f = e ∙ laid-in part text (omega (arith, part-length line place)) in
+      lent line last text place (omega arith) f ∙ sym (line-laid h)
 
   -- one that does not
   pub fits-false : length line < place + length text → fits line place text ≡ false

@@ -6,12 +6,17 @@ use mathlib.Core.Logic.{_⊎_, ⊎-elim}
 use mathlib.Core.List.{List, _++_}
 use mathlib.Core.Bool.{Bool, true, false, cond}
 use native.Mathlib.Omega.{arith}
+use native.Mathlib.Nat.{zero-add}
 use lib.ListN.{length, take, drop, getD, List·getD-append}
 use lib.Seq.{getD-take, getD-drop, getD-append-add, length-take-le}
 use borrow.Author.Tests.{leb-true}
-use Rattle.lent.specs.Line.{splice, fits, lineAfter}
-use Rattle.lent.specs.Statements.{SameLength, TextThere, OthersStay}
-use Rattle.lent.proofs.Laws.{splice-length, line-laid}
+use Rattle.lent.specs.Line.{laid, splice, fits, lineAfter}
+use Rattle.lent.specs.Statements.{LaidIs, SameLength, TextThere, OthersStay}
+use Rattle.lent.proofs.Laws.{front-is, splice-length, line-laid}
+
+pub laid-is : LaidIs
+unfolding laid lineAfter
+laid-is l text = rw (front-is l text, zero-add (length text))
 
 module _ (line : List ℕ) (place : ℕ) (text : List ℕ) where
   length-by : (t : Bool) → fits line place text ≡ t → length (cond t (splice line place text) line) ≡ length line

@@ -10,6 +10,10 @@ use lib.Dec.{leb}
 unfoldable pub front : (l text : List ℕ) → List ℕ
 front l text = text ++ drop (length text) l
 
+-- the text at the front of l where it has room; else nothing changes
+unfoldable pub laid : (l text : List ℕ) → List ℕ
+laid l text = cond (leb (length text) (length l)) (front l text) l
+
 -- l with the text in place of its bytes from `at`
 unfoldable pub splice : (l : List ℕ) (at : ℕ) (text : List ℕ) → List ℕ
 splice l at text = take at l ++ (text ++ drop (at + length text) l)

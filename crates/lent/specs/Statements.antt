@@ -5,7 +5,11 @@ use mathlib.Core.Path.{_≡_}
 use mathlib.Core.Logic.{_⊎_}
 use mathlib.Core.List.{List}
 use lib.ListN.{length, getD}
-use Rattle.lent.specs.Line.{lineAfter}
+use Rattle.lent.specs.Line.{laid, lineAfter}
+
+-- at the front of a part is from place 0
+abbrev pub LaidIs : Type 0
+LaidIs = (l text : List ℕ) → laid l text ≡ lineAfter l 0 text
 
 -- the line keeps its length, whether the text fits or not
 abbrev pub SameLength : Type 0

@@ -1,27 +1,27 @@
 -- Every text is of one of four kinds, and its kind says what it is taken for: no shape, too long, a label, a footage.
 -- Assumes nothing.
 use Prim.Native.Nat.{ℕ}
-use mathlib.Core.Path.{_≡_, refl, sym, subst}
+use mathlib.Core.Path.{_≡_, refl, sym, ap, _∙_, subst}
 use mathlib.Core.Logic.{inl, inr, ⊎-elim}
 use mathlib.Core.List.{List, map}
 use mathlib.Core.Bool.{Bool, true, false}
 use Rattle.digits.specs.Digits.{valueOf}
 use Rattle.answers.specs.Refusals.{noShape, tooLong}
-use Rattle.label_scan.specs.Shape.{rightJustified}
-use Rattle.label_scan.specs.Label as scan
-use Rattle.label_scan.specs.Statements.{HasLabelShape}
-use Rattle.label_scan.proofs.Scanned.{scan-kinds}
-use Rattle.label_scan.proofs.Statements.{label-fits, label-too-long, label-no-shape}
-use Rattle.footage_scan.specs.Shape.{FootageParts, FootageShape, hasPerf, someLong}
-use Rattle.footage_scan.specs.Footage.{shapeless, footageScan}
-use Rattle.footage_scan.specs.Statements.{HasFootageShape}
-use Rattle.footage_scan.proofs.Shape.{footage-found}
-use Rattle.footage_scan.proofs.Statements.{footage-reads, footage-too-long, footage-no-shape}
+use Rattle.scanner.specs.declared.text.Fit.{Fit}
+use Rattle.scanner.specs.declared.text.Fit.the-variants.{Fits, TooLong, NoShape}
+use Rattle.scanner.specs.Justified.{justified}
+use Rattle.label_scan.specs.Shape.{HasLabelShape}
+use Rattle.label_scan.specs.Label.{labelScan}
+use Rattle.label_scan.proofs.Statements as label-scan
+use Rattle.footage_scan.specs.Shape.{FootageParts, hasPerf, HasFootageShape}
+use Rattle.footage_scan.specs.Footage.{footageScan}
+use Rattle.footage_scan.proofs.Statements as footage-scan
 use Rattle.reading.specs.declared.Stated.{Stated}
 use Rattle.reading.specs.declared.Stated.the-variants.{Nothing, Format}
 use Rattle.reading.specs.Shaped.{Shaped, label, footage, refused, footageShaped, shapeOf}
 use Rattle.reading.specs.Statements.{HasShape, FootageText, LabelText}
-use Rattle.reading.proofs.Shapes.{as-footage, shape-label, long-label}
+use Rattle.reading.proofs.Scans.{label-other, label-long, footage-long, footage-none}
+use Rattle.reading.proofs.Shapes.{shape-label}
 
 -- what a text is taken for, and why
 pub data Kind (stated : Stated) (l : List ℕ) : Shaped → Type 0 where
@@ -35,40 +35,36 @@ pub data Kind (stated : Stated) (l : List ℕ) : Shaped → Type 0 where
 module _ (stated : Stated) (l : List ℕ)
     (shape-of : (long : Bool) → HasFootageShape l long → HasShape stated l long)
     (footage-of : (long : Bool) → HasShape stated l long → HasFootageShape l long) where
-  by-length : (p : FootageParts) → FootageShape l p → (t : Bool) → someLong p ≡ t → Kind stated l (footageShaped (footageScan l))
-  by-length p shape true e =
-      let h : HasFootageShape l true = record { parts = p; shape = shape; digits = e } in
-      subst (λ s. Kind stated l (footageShaped s)) (sym (footage-too-long l .1 h)) (long (shape-of true h))
-  by-length p shape false e =
-      subst (λ s. Kind stated l (footageShaped s)) (sym (footage-reads l p shape e)) (filmed p (record { shape = shape; short = e }))
-
-  shapeless-kind : footageScan l ≡ shapeless → Kind stated l (footageShaped (footageScan l))
-  shapeless-kind e =
-      subst (λ s. Kind stated l (footageShaped s)) (sym e)
-      (none (λ t h. let f = footage-of t h in footage-no-shape l .0 e (f .parts) (f .shape)))
+  by-footage : (v : Fit) → footageScan l .fit ≡ v → Kind stated l (footageShaped (footageScan l))
+  by-footage Fits e =
+      let h = footage-scan.footage-fits l .0 e in
+      subst (λ s. Kind stated l (footageShaped s)) (sym (footage-scan.footage-reads l (h .parts) (h .shape) (h .digits)))
+      (filmed (h .parts) (record { shape = h .shape; short = h .digits }))
+  by-footage TooLong e =
+      subst (Kind stated l) (sym (footage-long (footageScan l) e)) (long (shape-of true (footage-scan.footage-fit-long l e)))
+  by-footage NoShape e =
+      subst (Kind stated l) (sym (footage-none (footageScan l) e))
+      (none (λ t h. let f = footage-of t h in footage-scan.footage-fit-none l e (f .parts) (f .shape)))
 
   footage-kind : Kind stated l (footageShaped (footageScan l))
-  footage-kind = ⊎-elim shapeless-kind (λ s. by-length (s .0) (s .1) (someLong (s .0)) refl) (footage-found l)
+  footage-kind = by-footage (footageScan l .fit) refl
 
 -- ---- a text that can be a label too
-no-label : (l : List ℕ) → scan.labelScan l ≡ scan.refused noShape → (t : Bool) → HasShape Nothing l t → HasFootageShape l t
-no-label l e t h = ⊎-elim (λ s. absurd (label-no-shape l .0 e (s .minus) (s .fields) (s .shape))) (λ f. f) h
-
-label-kind : (l : List ℕ) → HasLabelShape l false → Kind Nothing l (shapeOf Nothing l)
-label-kind l h =
-    let t : LabelText l (h .minus) (rightJustified (map valueOf (h .fields))) =
+by-label : (l : List ℕ) (v : Fit) → labelScan l .fit ≡ v → Kind Nothing l (shapeOf Nothing l)
+by-label l Fits e =
+    let h = label-scan.label-fits l .0 e in
+    let t : LabelText l (h .minus) (justified (map valueOf (h .fields))) =
     record { digits = h .fields; shape = h .shape; short = h .digits; values = refl } in
-    subst (Kind Nothing l) (sym (shape-label l (h .minus) (rightJustified (map valueOf (h .fields))) t)) (labelled refl t)
+    subst (Kind Nothing l) (sym (shape-label l (h .minus) (justified (map valueOf (h .fields))) t)) (labelled refl t)
+by-label l TooLong e =
+    subst (Kind Nothing l) (sym (label-long (footageShaped (footageScan l)) (labelScan l) e)) (long (inl (label-scan.label-fit-long l e)))
+by-label l NoShape e =
+    subst (Kind Nothing l) (sym (label-other (footageShaped (footageScan l)) (labelScan l) e))
+    (footage-kind Nothing l (λ t f. inr f)
+    (λ t h. ⊎-elim (λ s. absurd (label-scan.label-fit-none l e (s .minus) (s .fields) (s .shape))) (λ f. f) h))
 
 pub kind : (stated : Stated) (l : List ℕ) → Kind stated l (shapeOf stated l)
-kind Nothing l =
-    ⊎-elim
-    (λ e. subst (Kind Nothing l) (sym (as-footage Nothing l e)) (footage-kind Nothing l (λ t f. inr f) (no-label l e)))
-    (λ more. ⊎-elim
-    (λ e. let h = label-too-long l .0 e in subst (Kind Nothing l) (sym (long-label l h)) (long (inl h)))
-    (λ e. label-kind l (label-fits l .0 e))
-    more)
-    (scan-kinds l)
+kind Nothing l = by-label l (labelScan l .fit) refl
 kind (Format n) l = footage-kind (Format n) l (λ t f. f) (λ t f. f)
 
 -- ---- a text of no shape

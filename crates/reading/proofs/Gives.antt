@@ -16,11 +16,11 @@ use Rattle.reading.specs.Answer.{asLabel, asFootage}
 use Rattle.reading.specs.Shaped.{formatFor, Shaped, shapeOf}
 use Rattle.reading.specs.Reading.{labelRead, takesPerf, footageRead, readShaped, readText}
 use Rattle.reading.specs.ReadingLaws.{label-dropped, label-kept, footage-marked, footage-taken, read-shaped}
-use Rattle.reading.specs.Statements.{Allowed, HasShape, FootageText, PerfRefused, LabelText, DroppedText, LabelCount, FootageCount}
+use Rattle.reading.specs.Statements.{RateAndFormat, HasShape, FootageText, PerfRefused, LabelText, DroppedText, LabelCount, FootageCount}
 use Rattle.reading.proofs.Shapes.{shape-label, shape-footage, shape-long}
 use Rattle.reading.proofs.FourKinds.{shape-none}
 
-module _ (l : List ℕ) (stated : Stated) (rate : ℕ) (a : Allowed stated rate) where
+module _ (l : List ℕ) (stated : Stated) (rate : ℕ) (a : RateAndFormat stated rate) where
   by-shape : (x : Shaped) → shapeOf stated l ≡ x → readText l stated rate ≡ readShaped rate stated x
   by-shape x e = read-shaped l stated rate (a .rated) (a .filmed) ∙ ap (readShaped rate stated) e
 
@@ -37,16 +37,16 @@ module _ (l : List ℕ) (stated : Stated) (rate : ℕ) (a : Allowed stated rate)
   pub gives-dropped : stated ≡ Nothing → DroppedText l rate → readText l stated rate ≡ Refused droppedLabel
   gives-dropped u d = gives-label u (d .minus) (d .fields) (d .text) ∙ label-dropped rate (d .minus) (d .fields) (d .dropped)
 
-  pub gives-label-count : (z : ℤ) → LabelCount l stated rate z → readText l stated rate ≡ asLabel (held z)
+  pub gives-label-count : (z : ℤ) → LabelCount l stated rate z → readText l stated rate ≡ asLabel rate (held z)
   gives-label-count z x =
       gives-label (x .unstated) (x .minus) (x .fields) (x .text)
       ∙ label-kept rate (x .minus) (x .fields) (x .kept)
-      ∙ ap (λ (y : ℤ). asLabel (held y)) (x .count)
+      ∙ ap (λ (y : ℤ). asLabel rate (held y)) (x .count)
 
   -- ---- a footage
   pub gives-footage : (p : FootageParts) → FootageText l p
       → readText l stated rate
-      ≡ footageRead (formatFor stated (hasPerf (p .perf))) (p .minus) (valueOf (p .feet)) (valueOf (p .frames)) (hasPerf (p .perf))
+      ≡ footageRead rate (formatFor stated (hasPerf (p .perf))) (p .minus) (valueOf (p .feet)) (valueOf (p .frames)) (hasPerf (p .perf))
   gives-footage p t = by-shape _ (shape-footage stated l p t)
 
   pub gives-no-perf : PerfRefused l stated → readText l stated rate ≡ Refused noPerfField
@@ -54,14 +54,14 @@ module _ (l : List ℕ) (stated : Stated) (rate : ℕ) (a : Allowed stated rate)
       let p = x .parts in
       let perf = hasPerf (p .perf) in
       gives-footage p (x .text)
-      ∙ footage-marked (formatFor stated perf) (p .minus) (valueOf (p .feet)) (valueOf (p .frames)) perf
+      ∙ footage-marked rate (formatFor stated perf) (p .minus) (valueOf (p .feet)) (valueOf (p .frames)) perf
       (ap (λ (b : Bool). takesPerf (formatFor stated b) b) (x .present) ∙ x .none)
 
-  pub gives-footage-count : (format : FilmFormat) (z : ℤ) → FootageCount l stated format z → readText l stated rate ≡ asFootage format (held z)
+  pub gives-footage-count : (format : FilmFormat) (z : ℤ) → FootageCount l stated format z → readText l stated rate ≡ asFootage rate format (held z)
   gives-footage-count format z x =
       let p = x .parts in
       let perf = hasPerf (p .perf) in
       gives-footage p (x .text)
-      ∙ ap (λ (f : FilmFormat). footageRead f (p .minus) (valueOf (p .feet)) (valueOf (p .frames)) perf) (x .chosen)
-      ∙ footage-taken format (p .minus) (valueOf (p .feet)) (valueOf (p .frames)) perf (x .takes)
-      ∙ ap (λ (y : ℤ). asFootage format (held y)) (x .count)
+      ∙ ap (λ (f : FilmFormat). footageRead rate f (p .minus) (valueOf (p .feet)) (valueOf (p .frames)) perf) (x .chosen)
+      ∙ footage-taken rate format (p .minus) (valueOf (p .feet)) (valueOf (p .frames)) perf (x .takes)
+      ∙ ap (λ (y : ℤ). asFootage rate format (held y)) (x .count)

@@ -4,6 +4,5 @@ pub mod Shapes
 pub mod FourKinds
 pub mod Told
 pub mod Gives
-pub mod Taken
 pub mod Statements
 pub mod Determined

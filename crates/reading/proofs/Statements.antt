@@ -12,11 +12,11 @@ use Rattle.rates.specs.Rates.{isRate}
 use Rattle.reading.specs.declared.Stated.{Stated}
 use Rattle.reading.specs.declared.Read.{Read}
 use Rattle.reading.specs.declared.Read.the-variants.{Label, Footage, Refused}
-use Rattle.reading.specs.Answer.{numberOf, countOf, asLabel, asFootage}
+use Rattle.reading.specs.Answer.{numberOf, timecodeOf, asLabel, asFootage}
 use Rattle.reading.specs.Shaped.{isStated}
 use Rattle.reading.specs.Reading.{readText}
 use Rattle.reading.specs.ReadingLaws.{no-rate, no-format}
-use Rattle.reading.specs.Statements.{Allowed, ShapesApart, RefusedSix, NoShape, TooLong, NoPerfField, Dropped, LabelCounted, FootageCounted, CountOut, OutOfBounds, CountBounded}
+use Rattle.reading.specs.Statements.{RateAndFormat, ShapesApart, RefusedSix, NoShape, TooLong, NoPerfField, Dropped, LabelCounted, FootageCounted, CountOut, OutOfBounds, CountBounded, AtRate}
 use Rattle.reading.proofs.Shapes as shapes
 use Rattle.reading.proofs.Told.{Told, told, cause}
 use Rattle.reading.proofs.Gives.{gives-none, gives-long, gives-dropped, gives-label-count, gives-no-perf, gives-footage-count}
@@ -50,30 +50,36 @@ dropped l stated rate a = (cause l stated rate 3 (omega arith), λ x. ap numberO
 -- ---- the counts
 pub label-counted : LabelCounted
 label-counted l stated rate z a = (
-  λ e. subst (Told l stated rate) e (told l stated rate),
-  λ x. gives-label-count l stated rate a z (x .0) ∙ ap asLabel (held-in z (x .1)),
+  λ e. subst (Told l stated rate) e (told l stated rate) .1,
+  λ x. gives-label-count l stated rate a z (x .0) ∙ ap (asLabel rate) (held-in z (x .1)),
 )
 
 pub footage-counted : FootageCounted
 footage-counted l stated rate format z a = (
-  λ e. subst (Told l stated rate) e (told l stated rate),
-  λ x. gives-footage-count l stated rate a format z (x .0) ∙ ap (asFootage format) (held-in z (x .1)),
+  λ e. subst (Told l stated rate) e (told l stated rate) .1,
+  λ x. gives-footage-count l stated rate a format z (x .0) ∙ ap (asFootage rate format) (held-in z (x .1)),
 )
 
-gives-out : (l : List ℕ) (stated : Stated) (rate : ℕ) → Allowed stated rate → CountOut l stated rate → numberOf (readText l stated rate) ≡ 5
+gives-out : (l : List ℕ) (stated : Stated) (rate : ℕ) → RateAndFormat stated rate → CountOut l stated rate → numberOf (readText l stated rate) ≡ 5
 gives-out l stated rate a x =
     ⊎-elim
-    (λ c. ap numberOf (gives-label-count l stated rate a (x .z) c ∙ ap asLabel (held-out (x .z) (x .out))))
-    (λ c. ap numberOf (gives-footage-count l stated rate a (c .0) (x .z) (c .1) ∙ ap (asFootage (c .0)) (held-out (x .z) (x .out))))
+    (λ c. ap numberOf (gives-label-count l stated rate a (x .z) c ∙ ap (asLabel rate) (held-out (x .z) (x .out))))
+    (λ c. ap numberOf (gives-footage-count l stated rate a (c .0) (x .z) (c .1) ∙ ap (asFootage rate (c .0)) (held-out (x .z) (x .out))))
     (x .count)
 
 pub out-of-bounds : OutOfBounds
 out-of-bounds l stated rate a = (cause l stated rate 5 (omega arith), gives-out l stated rate a)
 
-bounded-by : (l : List ℕ) (stated : Stated) (rate : ℕ) (r : Read) → Told l stated rate r → isCount (countOf r) ≡ true
-bounded-by l stated rate (Label z) t = t .1
-bounded-by l stated rate (Footage z format) t = t .1
+bounded-by : (l : List ℕ) (stated : Stated) (rate : ℕ) (r : Read) → Told l stated rate r → isCount (timecodeOf r .count) ≡ true
+bounded-by l stated rate (Label tc) t = t .1 .1
+bounded-by l stated rate (Footage tc format) t = t .1 .1
 bounded-by l stated rate (Refused e) t = refl
 
 pub count-bounded : CountBounded
 count-bounded l stated rate = bounded-by l stated rate (readText l stated rate) (told l stated rate)
+
+pub at-rate : AtRate
+at-rate l stated rate tc = (
+  λ e. subst (Told l stated rate) e (told l stated rate) .0,
+  λ format e. subst (Told l stated rate) e (told l stated rate) .0,
+)

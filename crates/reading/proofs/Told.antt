@@ -7,15 +7,16 @@ use mathlib.Core.Logic.{_⊎_, inl, inr}
 use mathlib.Core.List.{List}
 use mathlib.Core.Bool.{Bool, true, false}
 use lib.IntN.{ℤ}
-use Rattle.numbers.specs.Sign.{signed}
 use Rattle.digits.specs.Digits.{valueOf}
 use Rattle.answers.specs.Refusals.{isCount, held}
 use Rattle.answers.specs.Laws.{held-in, held-out}
-use Rattle.rates.specs.Rates.{isRate, rateRow, dropFrames}
+use Rattle.rates.specs.Rates.{isRate, dropFrames}
+use Rattle.timecodes.specs.declared.Timecode.{Timecode}
+use Rattle.timecodes.specs.Timecode.{timecode}
 use Rattle.film.specs.declared.FilmFormat.{FilmFormat}
 use Rattle.film.specs.Film.{allowsPerfField}
-use Rattle.film.specs.Footage.{footageCount}
-use Rattle.labels.specs.Label.{countIn, droppedIn}
+use Rattle.labels.specs.Label.{droppedIn}
+use Rattle.labels.specs.AtRate.{labelFrames}
 use Rattle.footage_scan.specs.Shape.{FootageParts, hasPerf}
 use Rattle.reading.specs.declared.Stated.{Stated}
 use Rattle.reading.specs.declared.Stated.the-variants.{Nothing}
@@ -23,7 +24,7 @@ use Rattle.reading.specs.declared.Read.{Read}
 use Rattle.reading.specs.declared.Read.the-variants.{Label, Footage, Refused}
 use Rattle.reading.specs.Answer.{numberOf, asLabel, asFootage}
 use Rattle.reading.specs.Shaped.{isStated, formatFor, Shaped, shapeOf}
-use Rattle.reading.specs.Reading.{labelRead, takesPerf, footageRead, readShaped, readText}
+use Rattle.reading.specs.Reading.{labelRead, takesPerf, footageFrames, footageRead, readShaped, readText}
 use Rattle.reading.specs.ReadingLaws.{label-dropped, label-kept, footage-marked, footage-taken, no-rate, no-format, read-shaped}
 use Rattle.reading.specs.Statements.{HasShape, FootageText, PerfRefused, LabelText, DroppedText, LabelCount, FootageCount, CountOut}
 use Rattle.reading.proofs.FourKinds.{Kind, none, long, labelled, filmed, kind}
@@ -40,29 +41,29 @@ module _ (l : List ℕ) (stated : Stated) (rate : ℕ) where
   Cause (suc (suc (suc (suc (suc (suc n)))))) = (isRate rate ≡ false) ⊎ (isStated stated ≡ false)
 
   abbrev pub Told : Read → Type 0
-  Told (Label z) = LabelCount l stated rate z × (isCount z ≡ true)
-  Told (Footage z format) = FootageCount l stated format z × (isCount z ≡ true)
+  Told (Label tc) = (tc .rate ≡ rate) × (LabelCount l stated rate (tc .count) × (isCount (tc .count) ≡ true))
+  Told (Footage tc format) = (tc .rate ≡ rate) × (FootageCount l stated format (tc .count) × (isCount (tc .count) ≡ true))
   Told (Refused e) = Cause (e .number)
 
   -- ---- a label
-  label-by-count : (z : ℤ) → LabelCount l stated rate z → (t : Bool) → isCount z ≡ t → Told (asLabel (held z))
-  label-by-count z x true e = subst (λ a. Told (asLabel a)) (sym (held-in z e)) (x, e)
-  label-by-count z x false e = subst (λ a. Told (asLabel a)) (sym (held-out z e)) record { z = z; count = inl x; out = e }
+  label-by-count : (z : ℤ) → LabelCount l stated rate z → (t : Bool) → isCount z ≡ t → Told (asLabel rate (held z))
+  label-by-count z x true e = subst (λ a. Told (asLabel rate a)) (sym (held-in z e)) (refl, (x, e))
+  label-by-count z x false e = subst (λ a. Told (asLabel rate a)) (sym (held-out z e)) record { z = z; count = inl x; out = e }
 
   label-told : stated ≡ Nothing → (m : Bool) (fields : List ℕ) → LabelText l m fields
       → (t : Bool) → droppedIn (dropFrames rate) fields ≡ t → Told (labelRead rate m fields)
   label-told u m fields x true e =
       subst Told (sym (label-dropped rate m fields e)) (u, record { minus = m; fields = fields; text = x; dropped = e })
   label-told u m fields x false e =
-      let z = signed m (countIn (rateRow rate .timebase) (dropFrames rate) fields) in
+      let z = labelFrames rate m fields in
       subst Told (sym (label-kept rate m fields e))
       (label-by-count z (record { unstated = u; minus = m; fields = fields; text = x; kept = e; count = refl }) (isCount z) refl)
 
   -- ---- a footage
-  footage-by-count : (format : FilmFormat) (z : ℤ) → FootageCount l stated format z → (t : Bool) → isCount z ≡ t → Told (asFootage format (held z))
-  footage-by-count format z x true e = subst (λ a. Told (asFootage format a)) (sym (held-in z e)) (x, e)
+  footage-by-count : (format : FilmFormat) (z : ℤ) → FootageCount l stated format z → (t : Bool) → isCount z ≡ t → Told (asFootage rate format (held z))
+  footage-by-count format z x true e = subst (λ a. Told (asFootage rate format a)) (sym (held-in z e)) (refl, (x, e))
   footage-by-count format z x false e =
-      subst (λ a. Told (asFootage format a)) (sym (held-out z e)) record { z = z; count = inr (format, x); out = e }
+      subst (λ a. Told (asFootage rate format a)) (sym (held-out z e)) record { z = z; count = inr (format, x); out = e }
 
   -- a format takes every footage but one with a perf field that it has not
   refuses : (format : FilmFormat) (perf : Bool) → takesPerf format perf ≡ false → (perf ≡ true) × (allowsPerfField format ≡ false)
@@ -71,17 +72,17 @@ module _ (l : List ℕ) (stated : Stated) (rate : ℕ) where
 
   footage-told : (p : FootageParts) → FootageText l p → (t : Bool)
       → takesPerf (formatFor stated (hasPerf (p .perf))) (hasPerf (p .perf)) ≡ t
-      → Told (footageRead (formatFor stated (hasPerf (p .perf))) (p .minus) (valueOf (p .feet)) (valueOf (p .frames)) (hasPerf (p .perf)))
+      → Told (footageRead rate (formatFor stated (hasPerf (p .perf))) (p .minus) (valueOf (p .feet)) (valueOf (p .frames)) (hasPerf (p .perf)))
   footage-told p x false e =
       let perf = hasPerf (p .perf) in
       let r = refuses (formatFor stated perf) perf e in
-      subst Told (sym (footage-marked (formatFor stated perf) (p .minus) (valueOf (p .feet)) (valueOf (p .frames)) perf e))
+      subst Told (sym (footage-marked rate (formatFor stated perf) (p .minus) (valueOf (p .feet)) (valueOf (p .frames)) perf e))
       record { parts = p; text = x; present = r .0; none = ap (λ (b : Bool). allowsPerfField (formatFor stated b)) (sym (r .0)) ∙ r .1 }
   footage-told p x true e =
       let perf = hasPerf (p .perf) in
       let format = formatFor stated perf in
-      let z = signed (p .minus) (footageCount format (valueOf (p .feet)) (valueOf (p .frames))) in
-      subst Told (sym (footage-taken format (p .minus) (valueOf (p .feet)) (valueOf (p .frames)) perf e))
+      let z = footageFrames format (p .minus) (valueOf (p .feet)) (valueOf (p .frames)) in
+      subst Told (sym (footage-taken rate format (p .minus) (valueOf (p .feet)) (valueOf (p .frames)) perf e))
       (footage-by-count format z (record { parts = p; text = x; chosen = refl; takes = e; count = refl }) (isCount z) refl)
 
   -- ---- a text
@@ -103,8 +104,8 @@ module _ (l : List ℕ) (stated : Stated) (rate : ℕ) where
   told = by-rate (isRate rate) refl
 
   number-by : (r : Read) (n : ℕ) → Told r → 0 < n → numberOf r ≡ n → Cause n
-  number-by (Label z) n t h e = absurd (omega arith)
-  number-by (Footage z format) n t h e = absurd (omega arith)
+  number-by (Label tc) n t h e = absurd (omega arith)
+  number-by (Footage tc format) n t h e = absurd (omega arith)
   number-by (Refused f) n t h e = subst Cause e t
 
   -- a refusal's number tells its cause

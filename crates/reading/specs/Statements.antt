@@ -1,4 +1,4 @@
--- What a text reads as, by its shape: each refusal exactly, and the counts. Proofs: proofs/Statements.antt.
+-- What a text reads as, by its shape (BEHAVIOUR: Text shapes): each refusal exactly, and the counts. Proofs: proofs/Statements.antt.
 -- Assumes nothing.
 use Prim.Native.Nat.{ℕ}
 use mathlib.Core.Path.{_≡_}
@@ -6,26 +6,25 @@ use mathlib.Core.Logic.{_↔_, _⊎_}
 use mathlib.Core.List.{List, map}
 use mathlib.Core.Bool.{Bool, true, false}
 use lib.IntN.{ℤ}
-use Rattle.numbers.specs.Sign.{signed}
 use Rattle.digits.specs.Digits.{valueOf}
 use Rattle.answers.specs.Refusals.{isCount}
-use Rattle.rates.specs.Rates.{isRate, rateRow, dropFrames}
+use Rattle.rates.specs.Rates.{isRate, dropFrames}
+use Rattle.timecodes.specs.declared.Timecode.{Timecode}
+use Rattle.timecodes.specs.Timecode.{timecode}
 use Rattle.film.specs.declared.FilmFormat.{FilmFormat}
 use Rattle.film.specs.Film.{allowsPerfField}
-use Rattle.film.specs.Footage.{footageCount}
-use Rattle.labels.specs.Label.{countIn, droppedIn}
-use Rattle.label_scan.specs.Shape.{LabelShape, rightJustified}
-use Rattle.label_scan.specs.Shape as label
-use Rattle.label_scan.specs.Statements.{HasLabelShape}
-use Rattle.footage_scan.specs.Shape.{FootageParts, FootageShape, hasPerf}
-use Rattle.footage_scan.specs.Shape as footage
-use Rattle.footage_scan.specs.Statements.{HasFootageShape}
+use Rattle.labels.specs.Label.{droppedIn}
+use Rattle.labels.specs.AtRate.{labelFrames}
+use Rattle.scanner.specs.Long.{fieldsLong}
+use Rattle.scanner.specs.Justified.{justified}
+use Rattle.label_scan.specs.Shape.{LabelShape, HasLabelShape}
+use Rattle.footage_scan.specs.Shape.{FootageParts, FootageShape, hasPerf, footageLong, HasFootageShape}
 use Rattle.reading.specs.declared.Stated.{Stated}
 use Rattle.reading.specs.declared.Stated.the-variants.{Nothing, Format}
 use Rattle.reading.specs.declared.Read.the-variants.{Label, Footage}
-use Rattle.reading.specs.Answer.{numberOf, countOf}
+use Rattle.reading.specs.Answer.{numberOf, timecodeOf}
 use Rattle.reading.specs.Shaped.{isStated, formatFor}
-use Rattle.reading.specs.Reading.{takesPerf, readText}
+use Rattle.reading.specs.Reading.{takesPerf, footageFrames, readText}
 
 -- no text has both shapes
 abbrev pub ShapesApart : Type 0
@@ -40,7 +39,7 @@ RefusedSix =
     → (numberOf (readText l stated rate) ≡ 6) ↔ ((isRate rate ≡ false) ⊎ (isStated stated ≡ false))
 
 -- a rate, and a film format where one is stated
-pub record Allowed (stated : Stated) (rate : ℕ) : Type 0 where
+pub record RateAndFormat (stated : Stated) (rate : ℕ) : Type 0 where
   pub rated : isRate rate ≡ true
   pub filmed : isStated stated ≡ true
 
@@ -52,20 +51,20 @@ HasShape (Format n) l long = HasFootageShape l long
 -- refusal 1 exactly when the text has no shape
 abbrev pub NoShape : Type 0
 NoShape =
-    (l : List ℕ) (stated : Stated) (rate : ℕ) → Allowed stated rate
+    (l : List ℕ) (stated : Stated) (rate : ℕ) → RateAndFormat stated rate
     → (numberOf (readText l stated rate) ≡ 1) ↔ ((long : Bool) → ¬ HasShape stated l long)
 
 -- refusal 2 exactly when the shape fits, but a field has over 9 digits
 abbrev pub TooLong : Type 0
 TooLong =
-    (l : List ℕ) (stated : Stated) (rate : ℕ) → Allowed stated rate
+    (l : List ℕ) (stated : Stated) (rate : ℕ) → RateAndFormat stated rate
     → (numberOf (readText l stated rate) ≡ 2) ↔ HasShape stated l true
 
 -- ---- 4
 -- a text is a footage of these parts, no field of over 9 digits
 pub record FootageText (l : List ℕ) (p : FootageParts) : Type 0 where
   pub shape : FootageShape l p
-  pub short : footage.someLong p ≡ false
+  pub short : footageLong p ≡ false
 
 -- a perf field is present, and the stated film format has none (where none is stated, 3-perf is chosen, which has one)
 pub record PerfRefused (l : List ℕ) (stated : Stated) : Type 0 where
@@ -77,7 +76,7 @@ pub record PerfRefused (l : List ℕ) (stated : Stated) : Type 0 where
 -- refusal 4 exactly when a perf field is present, and the stated film format has none
 abbrev pub NoPerfField : Type 0
 NoPerfField =
-    (l : List ℕ) (stated : Stated) (rate : ℕ) → Allowed stated rate
+    (l : List ℕ) (stated : Stated) (rate : ℕ) → RateAndFormat stated rate
     → (numberOf (readText l stated rate) ≡ 4) ↔ PerfRefused l stated
 
 -- ---- 3
@@ -85,8 +84,8 @@ NoPerfField =
 pub record LabelText (l : List ℕ) (minus : Bool) (fields : List ℕ) : Type 0 where
   pub digits : List (List ℕ)
   pub shape : LabelShape l minus digits
-  pub short : label.someLong digits ≡ false
-  pub values : rightJustified (map valueOf digits) ≡ fields
+  pub short : fieldsLong digits ≡ false
+  pub values : justified (map valueOf digits) ≡ fields
 
 -- a text is a dropped label, with `-` or without
 pub record DroppedText (l : List ℕ) (rate : ℕ) : Type 0 where
@@ -98,7 +97,7 @@ pub record DroppedText (l : List ℕ) (rate : ℕ) : Type 0 where
 -- refusal 3 exactly when the text is a dropped label, no film format stated
 abbrev pub Dropped : Type 0
 Dropped =
-    (l : List ℕ) (stated : Stated) (rate : ℕ) → Allowed stated rate
+    (l : List ℕ) (stated : Stated) (rate : ℕ) → RateAndFormat stated rate
     → (numberOf (readText l stated rate) ≡ 3) ↔ ((stated ≡ Nothing) × DroppedText l rate)
 
 -- ---- the count, and 5
@@ -109,7 +108,7 @@ pub record LabelCount (l : List ℕ) (stated : Stated) (rate : ℕ) (z : ℤ) : 
   pub fields : List ℕ
   pub text : LabelText l minus fields
   pub kept : droppedIn (dropFrames rate) fields ≡ false
-  pub count : signed minus (countIn (rateRow rate .timebase) (dropFrames rate) fields) ≡ z
+  pub count : labelFrames rate minus fields ≡ z
 
 -- a text is a footage in a film format that takes it, and this is its count
 pub record FootageCount (l : List ℕ) (stated : Stated) (format : FilmFormat) (z : ℤ) : Type 0 where
@@ -117,19 +116,19 @@ pub record FootageCount (l : List ℕ) (stated : Stated) (format : FilmFormat) (
   pub text : FootageText l parts
   pub chosen : formatFor stated (hasPerf (parts .perf)) ≡ format
   pub takes : takesPerf format (hasPerf (parts .perf)) ≡ true
-  pub count : signed (parts .minus) (footageCount format (valueOf (parts .feet)) (valueOf (parts .frames))) ≡ z
+  pub count : footageFrames format (parts .minus) (valueOf (parts .feet)) (valueOf (parts .frames)) ≡ z
 
--- a label is read as its count exactly when that is within its bounds
+-- a label is read as its count at the rate exactly when that is within its bounds
 abbrev pub LabelCounted : Type 0
 LabelCounted =
-    (l : List ℕ) (stated : Stated) (rate : ℕ) (z : ℤ) → Allowed stated rate
-    → (readText l stated rate ≡ Label z) ↔ (LabelCount l stated rate z × (isCount z ≡ true))
+    (l : List ℕ) (stated : Stated) (rate : ℕ) (z : ℤ) → RateAndFormat stated rate
+    → (readText l stated rate ≡ Label (timecode z rate)) ↔ (LabelCount l stated rate z × (isCount z ≡ true))
 
--- and a footage as its count together with the film format chosen
+-- and a footage as its count at the rate together with the film format chosen
 abbrev pub FootageCounted : Type 0
 FootageCounted =
-    (l : List ℕ) (stated : Stated) (rate : ℕ) (format : FilmFormat) (z : ℤ) → Allowed stated rate
-    → (readText l stated rate ≡ Footage z format) ↔ (FootageCount l stated format z × (isCount z ≡ true))
+    (l : List ℕ) (stated : Stated) (rate : ℕ) (format : FilmFormat) (z : ℤ) → RateAndFormat stated rate
+    → (readText l stated rate ≡ Footage (timecode z rate) format) ↔ (FootageCount l stated format z × (isCount z ≡ true))
 
 -- a text has a count, and it is outside its bounds
 pub record CountOut (l : List ℕ) (stated : Stated) (rate : ℕ) : Type 0 where
@@ -140,9 +139,16 @@ pub record CountOut (l : List ℕ) (stated : Stated) (rate : ℕ) : Type 0 where
 -- refusal 5 exactly when the resulting count is outside its bounds
 abbrev pub OutOfBounds : Type 0
 OutOfBounds =
-    (l : List ℕ) (stated : Stated) (rate : ℕ) → Allowed stated rate
+    (l : List ℕ) (stated : Stated) (rate : ℕ) → RateAndFormat stated rate
     → (numberOf (readText l stated rate) ≡ 5) ↔ CountOut l stated rate
 
 -- whatever the text, the count is within its bounds
 abbrev pub CountBounded : Type 0
-CountBounded = (l : List ℕ) (stated : Stated) (rate : ℕ) → isCount (countOf (readText l stated rate)) ≡ true
+CountBounded = (l : List ℕ) (stated : Stated) (rate : ℕ) → isCount (timecodeOf (readText l stated rate) .count) ≡ true
+
+-- and what is read is at the rate
+abbrev pub AtRate : Type 0
+AtRate =
+    (l : List ℕ) (stated : Stated) (rate : ℕ) (tc : Timecode)
+    → (readText l stated rate ≡ Label tc → tc .rate ≡ rate)
+    × ((format : FilmFormat) → readText l stated rate ≡ Footage tc format → tc .rate ≡ rate)

@@ -1,11 +1,9 @@
-// A text read as a count at a rate: that of a label or of a footage, but with a stated film format only of a footage.
+// A text read as a timecode at a rate: that of a label or of a footage, but with a stated film format only of a footage.
 // Refuses 6: no such rate or film format; 1: no shape; 2: a field of over 9 digits; 4: a perf field with a stated format that has
 // none; 3: a dropped label; 5: the count is out of bounds; in this order.
 ghost use mathlib.Core.Path.{_≡_};
 ghost use mathlib.Core.Bool.{true};
-ghost use Prim.Native.Nat.{ℕ, _<_, _^_};
 ghost use Rattle.rates.specs.Rates.{isRate};
-ghost use Rattle.labels.specs.Label.{Short};
 ghost use Rattle.footage_scan.specs.Footage.{footageScan};
 ghost use Rattle.reading.specs.Answer.{asLabel, asFootage};
 ghost use Rattle.reading.specs.Shaped.{isStated, formatFor, footageShaped, shapeOf};
@@ -14,8 +12,8 @@ use answers::Counted;
 use answers::Refusal;
 use film::FilmFormat;
 use film::Filmed;
-use footage_scan::FootageScan;
-use label_scan::Verdict;
+use scanner::Fit;
+use timecodes::Timecode;
 
 // The film format that is stated, by its number, or that none is.
 pub enum Stated {
@@ -23,29 +21,29 @@ pub enum Stated {
     Format(u64),
 }
 
-// What a text reads as: a label's count, a footage's count and film format, or why it is neither.
+// What a text reads as: a label's timecode, a footage's timecode and film format, or why it is neither.
 pub enum Read {
-    Label(i64),
-    Footage(i64, FilmFormat),
+    Label(Timecode),
+    Footage(Timecode, FilmFormat),
     Refused(Refusal),
 }
 
-// A count as the answer to a label.
-fn as_label(counted: Counted) -> Read
-    ensures answer { λ r. ⌜ r ≡ asLabel counted ⌝ }
+// A count at a rate as the answer to a label.
+fn as_label(rate: u64, counted: Counted) -> Read
+    ensures answer { λ r. ⌜ r ≡ asLabel rate counted ⌝ }
 {
     match counted {
-        Counted::Count(z) => Read::Label(z),
+        Counted::Count(count) => Read::Label(Timecode { count, rate }),
         Counted::Refused(e) => Read::Refused(e),
     }
 }
 
-// A count as the answer to a footage.
-fn as_footage(format: FilmFormat, counted: Counted) -> Read
-    ensures answer { λ r. ⌜ r ≡ asFootage format counted ⌝ }
+// A count at a rate as the answer to a footage.
+fn as_footage(rate: u64, format: FilmFormat, counted: Counted) -> Read
+    ensures answer { λ r. ⌜ r ≡ asFootage rate format counted ⌝ }
 {
     match counted {
-        Counted::Count(z) => Read::Footage(z, format),
+        Counted::Count(count) => Read::Footage(Timecode { count, rate }, format),
         Counted::Refused(e) => Read::Refused(e),
     }
 }
@@ -91,49 +89,52 @@ fn takes_perf(format: FilmFormat, perf: bool) -> bool
     format.allows_perf_field()
 }
 
-// The answer to a label's sign and fields. Asks a rate, and fields of at most 9 digits.
+// The answer to a label's sign and fields. Asks a rate.
 fn read_label(rate: u64, minus: bool, fields: [u64; 4]) -> Read
     requires rate { ⌜ isRate rate ≡ true ⌝ }
-    requires fields { ⌜ Short fields ⌝ }
     ensures answer { λ r. ⌜ r ≡ labelRead rate minus fields ⌝ }
 {
     let d = rates::drop_frames_per_minute(rate);
     if labels::is_dropped(fields, d) {
         return Read::Refused(answers::DROPPED_LABEL);
     }
-    let row = rates::row(rate);
-    let count = labels::label_count(fields, row.timebase, d);
-    as_label(answers::held(minus, count))
+    as_label(rate, labels::label_count(fields, rate, minus))
 }
 
-// The answer to a footage's format, sign and fields. Asks fields of at most 9 digits.
-fn read_footage(format: FilmFormat, minus: bool, feet: u64, frames: u64, perf: bool) -> Read
-    requires fields { ⌜ (feet < 10 ^ 9) × (frames < 10 ^ 9) ⌝ }
-    ensures answer { λ r. ⌜ r ≡ footageRead format minus feet frames perf ⌝ }
+// The answer to a footage's format, sign and fields.
+fn read_footage(
+    rate: u64,
+    format: FilmFormat,
+    minus: bool,
+    feet: u64,
+    frames: u64,
+    perf: bool,
+) -> Read
+    ensures answer { λ r. ⌜ r ≡ footageRead rate format minus feet frames perf ⌝ }
 {
     if !takes_perf(format, perf) {
         return Read::Refused(answers::NO_PERF_FIELD);
     }
-    let count = film::footage_count(format, feet, frames);
-    as_footage(format, answers::held(minus, count))
+    as_footage(
+        rate,
+        format,
+        film::footage_count(format, minus, feet, frames),
+    )
 }
 
-// The answer to a text that can be a footage only; it is the same at every rate.
-fn only_footage(text: &[u8], stated: Stated) -> Read
-    ensures answer { λ r. ⌜ ((rate : ℕ) → r ≡ readShaped rate stated (footageShaped (footageScan (now (text .entry))))) ⌝ }
+// The answer to a text that can be a footage only.
+fn only_footage(text: &[u8], stated: Stated, rate: u64) -> Read
+    ensures answer { λ r. ⌜ r ≡ readShaped rate stated (footageShaped (footageScan (now (text .entry)))) ⌝ }
 {
     let scan = footage_scan::scan_footage(text);
-    match scan {
-        FootageScan::Footage {
-            minus,
-            feet,
-            frames,
-            perf,
-        } => {
-            let format = format_for(stated, perf);
-            read_footage(format, minus, feet, frames, perf)
+    let fit = scan.fit;
+    match fit {
+        Fit::Fits => {
+            let format = format_for(stated, scan.perf);
+            read_footage(rate, format, scan.minus, scan.feet, scan.frames, scan.perf)
         }
-        FootageScan::Refused(e) => Read::Refused(e),
+        Fit::TooLong => Read::Refused(answers::TOO_LONG),
+        Fit::NoShape => Read::Refused(answers::NO_SHAPE),
     }
 }
 
@@ -143,15 +144,15 @@ fn label_or_footage(text: &[u8], rate: u64) -> Read
     ensures answer { λ r. ⌜ r ≡ readShaped rate Stated.Nothing (shapeOf Stated.Nothing (now (text .entry))) ⌝ }
 {
     let scan = label_scan::scan_label(text);
-    let verdict = scan.verdict;
-    let Verdict::Refused(e) = verdict else {
-        let fields = scan.fields;
-        return read_label(rate, scan.minus, fields);
-    };
-    if e.number == 1 {
-        return only_footage(text, Stated::Nothing);
+    let fit = scan.fit;
+    match fit {
+        Fit::Fits => {
+            let fields = scan.fields;
+            read_label(rate, scan.minus, fields)
+        }
+        Fit::TooLong => Read::Refused(answers::TOO_LONG),
+        Fit::NoShape => only_footage(text, Stated::Nothing, rate),
     }
-    Read::Refused(e)
 }
 
 // What a text reads as at a rate (vtc's `parse_timecode_string` and `parse_feet_and_frames_str`).
@@ -167,5 +168,5 @@ pub fn read_text(text: &[u8], stated: Stated, rate: u64) -> Read
     let Stated::Format(_) = stated else {
         return label_or_footage(text, rate);
     };
-    only_footage(text, stated)
+    only_footage(text, stated, rate)
 }

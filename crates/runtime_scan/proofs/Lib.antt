@@ -1,10 +1,3 @@
 pub mod Millionths
-pub mod Steps
-pub mod Justified
-pub mod Shape
-pub mod OneShape
-pub mod Short
-pub mod Bounded
-pub mod Scanned
 pub mod Statements
 pub mod Determined

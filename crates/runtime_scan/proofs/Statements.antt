@@ -1,68 +1,72 @@
--- A text reads as its shape says, in one way only, and is refused exactly where it has none or something is too long.
+-- A text reads as its shape says, in one way only, and each fit is given exactly: the scan of a text by a runtime's grammar.
 -- Assumes nothing.
-use Prim.Native.Nat.{ℕ}
-use mathlib.Core.Path.{_≡_, refl, sym, ap, _∙_}
-use mathlib.Core.Logic.{⊎-elim}
-use mathlib.Core.List.{List}
-use mathlib.Core.Bool.{Bool, true, false}
+use Prim.Native.Nat.{ℕ, _^_, _≤_, _<_}
+use mathlib.Core.Path.{_≡_, ap, _∙_}
+use mathlib.Core.List.{map}
 use native.Mathlib.Omega.{arith}
+use lib.ListN.{length}
+use borrow.Author.Tests.{ltb-false}
+use mathlib.Core.Bool.{false}
+use Rattle.digits.specs.Digits.{valueOf}
+use Rattle.digits.proofs.Runs.{field-value}
+use Rattle.scanner.specs.declared.text.Fit.the-variants.{Fits, TooLong, NoShape}
+use Rattle.scanner.specs.declared.text.TextScan.{TextScan}
+use Rattle.scanner.specs.Long.{isOver, fieldsLong}
+use Rattle.scanner.specs.Justified.{justified}
+use Rattle.scanner.specs.Shapes.{TextParts}
+use Rattle.scanner.proofs.Long.{neither}
+use Rattle.scanner.proofs.Statements.{one-text-shape, text-bounded, text-any, fit-told, text-short, text-long, text-none}
 use Rattle.runtime_scan.specs.declared.RuntimeScan.{RuntimeScan}
-use Rattle.runtime_scan.specs.Shape.{RuntimeParts, someLong}
-use Rattle.runtime_scan.specs.Runtime.{verdictNumber, numberOf, unlessLong, runtimeScan}
-use Rattle.runtime_scan.specs.Statements.{RuntimeReads, HasRuntimeShape, RuntimeFits, RuntimeTooLong, RuntimeNoShape, OneRuntimeShape, RuntimeBounded}
-use Rattle.runtime_scan.proofs.Shape.{scanned, runtime-given, runtime-found}
-use Rattle.runtime_scan.proofs.OneShape.{one-shape}
-use Rattle.runtime_scan.proofs.Short.{short-read}
-use Rattle.runtime_scan.proofs.Bounded.{bounded}
+use Rattle.runtime_scan.specs.Shape.{runtimeGrammar, inMillionths, runtimeLong}
+use Rattle.runtime_scan.specs.Runtime.{fittingRuntime, runtimeFrom, runtimeScan}
+use Rattle.runtime_scan.specs.Statements.{RuntimeReads, RuntimeFits, RuntimeTooLong, RuntimeNoShape, OneRuntimeShape, RuntimeBounded}
+use Rattle.runtime_scan.proofs.Millionths.{fraction-below}
+
+-- a fraction that is not too long has at most 6 digits
+short-fraction : (p : TextParts) → runtimeLong p ≡ false → length (p .tail) ≤ 6
+short-fraction p e = ltb-false 6 (length (p .tail)) (neither (isOver 6 (length (p .tail))) (fieldsLong (p .fields)) e .0)
 
 pub runtime-reads : RuntimeReads
-runtime-reads = short-read
+unfolding runtimeScan
+runtime-reads l p shape short =
+    let h = short-fraction p short in
+    ap runtimeFrom (text-short runtimeGrammar l p shape short)
+    ∙ ap (λ (v : ℕ). fittingRuntime (p .minus) (justified (map valueOf (p .fields))) (inMillionths v (length (p .tail)))) (field-value (p .tail) (omega arith))
 
--- ---- each verdict
--- a text of the shape is not refused 1; it is refused 2 for what is too long, and taken if nothing is
-not-shapeless : (p : RuntimeParts) (long : Bool) → numberOf (unlessLong long (scanned p)) ≡ 1 → ⊥
-not-shapeless p true e = omega arith
-not-shapeless p false e = omega arith
-
-long-refused : (p : RuntimeParts) (long : Bool) → numberOf (unlessLong long (scanned p)) ≡ 2 → long ≡ true
-long-refused p true e = refl
-long-refused p false e = absurd (omega arith)
-
-short-taken : (p : RuntimeParts) (long : Bool) → numberOf (unlessLong long (scanned p)) ≡ 0 → long ≡ false
-short-taken p true e = absurd (omega arith)
-short-taken p false e = refl
-
--- a text that is not refused 1 has the shape; its number says whether something is too long
-found-with : (l : List ℕ) (wanted : Bool) (n : ℕ) → (n ≡ 1 → ⊥)
-    → ((p : RuntimeParts) (long : Bool) → numberOf (unlessLong long (scanned p)) ≡ n → long ≡ wanted)
-    → numberOf (runtimeScan l) ≡ n → HasRuntimeShape l wanted
-found-with l wanted n other is e =
-    ⊎-elim
-    (λ z. absurd (other (sym e ∙ ap numberOf z)))
-    (λ s. let given = ap numberOf (sym (runtime-given l (s .0) (s .1))) ∙ e in
-    record { parts = s .0; shape = s .1; digits = is (s .0) (someLong (s .0)) given })
-    (runtime-found l)
-
+-- ---- each fit
 pub runtime-fits : RuntimeFits
+unfolding runtimeScan
 runtime-fits l = (
-  λ e. found-with l false 0 (λ z. omega arith) short-taken (ap verdictNumber e),
-  λ s. ap (λ (x : RuntimeScan). x .verdict) (runtime-reads l (s .parts) (s .shape) (s .digits)),
+  fit-told runtimeGrammar l Fits,
+  λ h. ap (λ (x : TextScan). x .fit) (text-short runtimeGrammar l (h .parts) (h .shape) (h .digits)),
 )
 
 pub runtime-too-long : RuntimeTooLong
+unfolding runtimeScan
 runtime-too-long l = (
-  λ e. found-with l true 2 (λ z. omega arith) long-refused (ap numberOf e),
-  λ s. runtime-given l (s .parts) (s .shape) ∙ ap (λ (t : Bool). unlessLong t (scanned (s .parts))) (s .digits),
+  λ e. fit-told runtimeGrammar l TooLong (ap (λ (x : RuntimeScan). x .fit) e),
+  λ h. ap runtimeFrom (text-long runtimeGrammar l h),
 )
 
 pub runtime-no-shape : RuntimeNoShape
+unfolding runtimeScan
 runtime-no-shape l = (
-  λ e p shape. not-shapeless p (someLong p) (ap numberOf (sym (runtime-given l p shape) ∙ e)),
-  λ h. ⊎-elim (λ e. e) (λ s. absurd (h (s .0) (s .1))) (runtime-found l),
+  λ e. fit-told runtimeGrammar l NoShape (ap (λ (x : RuntimeScan). x .fit) e),
+  λ h. ap runtimeFrom (text-none runtimeGrammar l h),
 )
 
 pub one-runtime-shape : OneRuntimeShape
-one-runtime-shape = one-shape
+one-runtime-shape l = one-text-shape runtimeGrammar l
 
 pub runtime-bounded : RuntimeBounded
-runtime-bounded = bounded
+unfolding runtimeScan
+runtime-bounded l =
+    let b = text-bounded runtimeGrammar l in
+    record {
+      four = b .four;
+      below = b .below;
+      fraction =
+          text-any runtimeGrammar l (λ x. inMillionths (x .tail) (x .digits) < 10 ^ 6)
+          (λ f. omega arith)
+          (λ p t e. fraction-below (p .tail) (t .shape .digits) (short-fraction p e));
+    }

@@ -1,26 +1,13 @@
--- The fraction of a second: trailing zeros dropped but one digit kept.
+-- The fraction of a runtime (BEHAVIOUR: Time): trailing zeros dropped but one digit kept.
 -- Assumes nothing.
-use Prim.Native.Nat.{ℕ}
+use Prim.Native.Nat.{ℕ, zero, suc, _/_, _%_}
 use mathlib.Core.List.{List, [], _∷_}
 use mathlib.Core.Bool.{cond}
 use lib.Dec.{eqb}
 use Rattle.digits.specs.Digits.{digitsOf}
 
--- a digit before what is left behind it: a zero before nothing is a trailing one
-abbrev pub keep : ℕ → List ℕ → List ℕ
-keep b [] = cond (eqb b 48) [] (b ∷ [])
-keep b (d ∷ l) = b ∷ (d ∷ l)
-
--- trailing zeros dropped
-unfoldable pub trimmed : List ℕ → List ℕ
-trimmed [] = []
-trimmed (b ∷ l) = keep b (trimmed l)
-
--- but one digit kept
-abbrev pub oneKept : List ℕ → List ℕ
-oneKept [] = 48 ∷ []
-oneKept (b ∷ l) = b ∷ l
-
--- n in k digits, so written (`0` at precision 0)
+-- n in k digits, a zero at the end dropped while it is not the only digit; `0` at precision 0
 unfoldable pub fractionText : (k n : ℕ) → List ℕ
-fractionText k n = oneKept (trimmed (digitsOf k n))
+fractionText zero n = 48 ∷ []
+fractionText (suc zero) n = digitsOf 1 n
+fractionText (suc (suc k)) n = cond (eqb (n % 10) 0) (fractionText (suc k) (n / 10)) (digitsOf (suc (suc k)) n)

@@ -1,8 +1,12 @@
-pub mod Answers
-pub mod Then
-pub mod Signed
-pub mod Fields
 pub mod Long
 pub mod Justified
+pub mod Answers
+pub mod Then
+pub mod Optional
+pub mod Fronts
+pub mod Keeping
+pub mod Bodies
+pub mod Signed
 pub mod OneShape
+pub mod Statements
 pub mod Determined

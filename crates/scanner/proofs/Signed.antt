@@ -1,52 +1,62 @@
--- A reading finds an optional `-` and a shape behind it exactly where the text has that shape.
+-- With an optional `-` in front, a text reads as its parts, and one that is not without the shape has parts.
 -- Assumes nothing.
-use Prim.Native.Nat.{ℕ, _+_}
-use mathlib.Core.Path.{_≡_, refl, sym, ap, _∙_, subst, subst₂}
+use Prim.Native.Nat.{ℕ}
+use mathlib.Core.Path.{_≡_, refl, sym, ap, _∙_}
 use mathlib.Core.Logic.{_⊎_, inl, inr, ⊎-elim}
-use mathlib.Core.List.{List, [], _∷_, _++_}
+use mathlib.Core.List.{List, [], _∷_, _++_, append-assoc}
 use mathlib.Core.Bool.{Bool, true, false}
 use native.Mathlib.Omega.{arith}
 use borrow.Author.Tests.{eqb-true, ne-eqb}
-use Rattle.digits.specs.Digits.{isDigit, IsField, firstIs}
-use Rattle.digits.proofs.Values.{all-head}
-use Rattle.scanner.specs.Scan.{isByte}
-use Rattle.scanner.specs.Then.{signBy, signThen}
-use Rattle.scanner.specs.Shapes.{Signed, plain, minus, signed}
+use Rattle.digits.specs.Digits.{isDigit, firstIs, digitFirst}
+use Rattle.digits.proofs.Runs.{field-first}
+use Rattle.scanner.specs.declared.fields.Dividers.{Dividers}
+use Rattle.scanner.specs.declared.text.Fit.the-variants.{NoShape}
+use Rattle.scanner.specs.declared.text.Grammar.{Grammar}
+use Rattle.scanner.specs.Scan.{isByte, signBy, signOf}
+use Rattle.scanner.specs.Text.{misfit, unlessLong, bodyScan, textScan}
+use Rattle.scanner.specs.Shapes.{FieldsShape, last, more, pointed, BodyShape, TextParts, textParts, withMinus, TextShape, someLong}
+use Rattle.scanner.specs.Statements.{partsRead, TextReads}
+use Rattle.scanner.proofs.Bodies.{body-complete, body-sound}
 
--- a field does not begin with a byte that is no digit
-pub field-begins : (b : ℕ) (d r : List ℕ) → isDigit b ≡ false → IsField d → firstIs (isByte b) (d ++ r) ≡ false
-field-begins b [] r e f = absurd (omega (arith, f .some))
-field-begins b (c ∷ d) r e f =
-    ne-eqb c b
-    (λ p.
-    let z : true ≡ false = sym (all-head c d (f .digits)) ∙ ap isDigit p ∙ e in
-    let y : _≡_ {A = ℕ} 0 1 = cc in
-    omega arith)
+-- ---- a digit stands in front of a body, and so no `-`
+fields-begin : (d : Dividers) (k : ℕ) (l r : List ℕ) (fs : List (List ℕ)) → FieldsShape d k l fs → digitFirst (l ++ r) ≡ true
+fields-begin d k l r fs (last {f = f} i) = field-first f r i
+fields-begin d k l r fs (more {f = f} {l = m} i c e t) = ap digitFirst (append-assoc f (c ∷ m) r) ∙ field-first f (c ∷ (m ++ r)) i
 
--- a shape with a sign or without
-pub signed-shape : {A : Type 0} (P : (minus : Bool) → List ℕ → A → Type 0) (m : Bool) (l : List ℕ) (g : A) → P m l g → Signed P (signed m l) g
-signed-shape P true l g t = minus t
-signed-shape P false l g t = plain t
+pub body-begins : (g : Grammar) (l : List ℕ) (fields : List (List ℕ)) (tail : List ℕ) → BodyShape g l fields tail → digitFirst l ≡ true
+body-begins g l fields tail s = ap digitFirst (sym (s .all)) ∙ fields-begin (g .dividers) (g .most) (s .front) (pointed tail) fields (s .shape)
 
-module _ {A : Type 0} (P : (minus : Bool) → List ℕ → A → Type 0) (then : (minus : Bool) → List ℕ → A) where
-  -- a text of the shape reads as the shape says, if that without a sign does not begin with `-`
-  pub signed-complete : ((l : List ℕ) (g : A) → P false l g → firstIs (isByte 45) l ≡ false)
-      → ((m : Bool) (l : List ℕ) (g : A) → P m l g → then m l ≡ g)
-      → (l : List ℕ) (g : A) → Signed P l g → signThen then l ≡ g
-  unfolding signThen
-  signed-complete first reads l g (plain p) = ap (λ (t : Bool). signBy t then l) (first l g p) ∙ reads false l g p
-  signed-complete first reads l g (minus {l = k} p) = reads true k g p
+pub no-minus : (l : List ℕ) → digitFirst l ≡ true → firstIs (isByte 45) l ≡ false
+no-minus [] e = refl
+no-minus (c ∷ l) e =
+    ne-eqb c 45
+    (λ p. let z : true ≡ false = sym e ∙ ap isDigit p in let y : _≡_ {A = ℕ} 0 1 = cc in omega arith)
 
-  -- and a text that is not refused has it
-  module _ (refused : A) (reads : (m : Bool) (l : List ℕ) → (then m l ≡ refused) ⊎ P m l (then m l)) where
-    sound-by : (l : List ℕ) (t : Bool) → firstIs (isByte 45) l ≡ t → signThen then l ≡ signBy t then l
-        → (signThen then l ≡ refused) ⊎ Signed P l (signThen then l)
-    sound-by l false q e = ⊎-elim (λ z. inl (e ∙ z)) (λ p. inr (subst (Signed P l) (sym e) (plain p))) (reads false l)
-    sound-by [] true q e = let z : _≡_ {A = ℕ} 0 1 = cc in absurd (omega arith)
-    sound-by (c ∷ l) true q e =
-        let w : 45 ∷ l ≡ c ∷ l = ap (λ (x : ℕ). x ∷ l) (sym (eqb-true c 45 q)) in
-        ⊎-elim (λ z. inl (e ∙ z)) (λ p. inr (subst₂ (Signed P) w (sym e) (minus p))) (reads true l)
+-- ---- a text of the shape
+reads-by : (g : Grammar) (m : Bool) (l : List ℕ) (fields : List (List ℕ)) (tail : List ℕ) → BodyShape g l fields tail
+    → textScan g (withMinus m l) ≡ unlessLong (someLong g (textParts m fields tail)) (partsRead (textParts m fields tail))
+unfolding textScan signOf
+reads-by g true l fields tail t = body-complete g (45 ∷ l) 1 true fields tail t
+reads-by g false l fields tail t =
+    ap (λ (b : Bool). bodyScan g l (signBy b 0 .next .at) (signBy b 0 .minus)) (no-minus l (body-begins g l fields tail t))
+    ∙ body-complete g l 0 false fields tail t
 
-    pub signed-sound : (l : List ℕ) → (signThen then l ≡ refused) ⊎ Signed P l (signThen then l)
-    unfolding signThen
-    signed-sound l = sound-by l (firstIs (isByte 45) l) refl refl
+pub text-reads : TextReads
+text-reads g l p t = ap (textScan g) (sym (t .text)) ∙ reads-by g (p .minus) (t .body) (p .fields) (p .tail) (t .shape)
+
+-- ---- and back
+found-by : (g : Grammar) (l : List ℕ) (t : Bool) → firstIs (isByte 45) l ≡ t
+    → (bodyScan g l (signBy t 0 .next .at) (signBy t 0 .minus) ≡ misfit NoShape) ⊎ ((p : TextParts) × TextShape g l p)
+found-by g [] true q = let z : _≡_ {A = ℕ} 0 1 = cc in absurd (omega arith)
+found-by g (c ∷ l) true q =
+    ⊎-elim inl
+    (λ w. inr (textParts true (w .fields) (w .tail), record { body = l; shape = w .shape; text = ap (λ (x : ℕ). x ∷ l) (sym (eqb-true c 45 q)) }))
+    (body-sound g (c ∷ l) 1 true)
+found-by g l false q =
+    ⊎-elim inl
+    (λ w. inr (textParts false (w .fields) (w .tail), record { body = l; shape = w .shape; text = refl }))
+    (body-sound g l 0 false)
+
+pub text-found : (g : Grammar) (l : List ℕ) → (textScan g l ≡ misfit NoShape) ⊎ ((p : TextParts) × TextShape g l p)
+unfolding textScan signOf
+text-found g l = found-by g l (firstIs (isByte 45) l) refl

@@ -1,23 +1,62 @@
--- What the shapes of texts are made of, as grammars: no reader stands in them.
+-- The shapes of texts as grammars: no reader stands in them.
 -- Assumes nothing.
-use Prim.Native.Nat.{ℕ, suc}
+use Prim.Native.Nat.{ℕ, suc, _≤_, _<_}
 use mathlib.Core.Path.{_≡_}
 use mathlib.Core.List.{List, [], _∷_, _++_}
-use mathlib.Core.Bool.{Bool, true, false}
-use Rattle.digits.specs.Digits.{IsField}
+use mathlib.Core.Bool.{Bool, true, false, _||_}
+use lib.ListN.{length}
+use Rattle.digits.specs.Digits.{allDigits, IsField}
+use Rattle.scanner.specs.declared.fields.Dividers.{Dividers}
+use Rattle.scanner.specs.declared.text.Grammar.{Grammar}
+use Rattle.scanner.specs.Long.{isOver, fieldsLong}
+use Rattle.scanner.specs.Scan.{dividerOf}
 
--- optional `-`, then a shape P, which is told whether it was there; g is what the text reads as
-pub data Signed {A : Type 0} (P : (minus : Bool) → List ℕ → A → Type 0) : List ℕ → A → Type 0 where
-  plain : {l : List ℕ} {g : A} → P false l g → Signed P l g
-  minus : {l : List ℕ} {g : A} → P true l g → Signed P (45 ∷ l) g
+-- one to k fields, each two divided by one of these bytes; with the list of them
+pub data FieldsShape (d : Dividers) : (k : ℕ) → List ℕ → (fields : List (List ℕ)) → Type 0 where
+  last : {k : ℕ} {f : List ℕ} → IsField f → FieldsShape d (suc k) f (f ∷ [])
+  more : {k : ℕ} {f l : List ℕ} {fs : List (List ℕ)} → IsField f → (c : ℕ) → dividerOf d c ≡ true → FieldsShape d k l fs
+      → FieldsShape d (suc k) (f ++ c ∷ l) (f ∷ fs)
+
+-- a tail behind its `.`; where there is none, no `.` stands
+abbrev pub pointed : (tail : List ℕ) → List ℕ
+pointed [] = []
+pointed (b ∷ tail) = 46 ∷ b ∷ tail
+
+-- the fields that a grammar asks for, and, where it allows one, optionally a tail of digits
+pub record BodyShape (g : Grammar) (l : List ℕ) (fields : List (List ℕ)) (tail : List ℕ) : Type 0 where
+  pub front : List ℕ
+  pub shape : FieldsShape (g .dividers) (g .most) front fields
+  pub enough : g .least ≤ length fields
+  pub digits : allDigits tail ≡ true
+  pub allowed : 0 < length tail → 0 < g .tail
+  pub all : front ++ pointed tail ≡ l
+
+-- what a text is made of: its sign, and the digits of its fields and of its tail
+pub record TextParts : Type 0 where
+  pub minus : Bool
+  pub fields : List (List ℕ)
+  pub tail : List ℕ
+
+abbrev pub textParts : (minus : Bool) (fields : List (List ℕ)) (tail : List ℕ) → TextParts
+textParts minus fields tail = record { minus = minus; fields = fields; tail = tail }
 
 -- a text with `-` in front, or without
-abbrev pub signed : (minus : Bool) → List ℕ → List ℕ
-signed true l = 45 ∷ l
-signed false l = l
+abbrev pub withMinus : (minus : Bool) → List ℕ → List ℕ
+withMinus true l = 45 ∷ l
+withMinus false l = l
 
--- one to k fields, each two divided by a byte that passes the test; with the list of them
-pub data Fields (divides : ℕ → Bool) : (k : ℕ) → List ℕ → (fields : List (List ℕ)) → Type 0 where
-  last : {k : ℕ} {d : List ℕ} → IsField d → Fields divides (suc k) d (d ∷ [])
-  more : {k c : ℕ} {d l : List ℕ} {ds : List (List ℕ)} → IsField d → divides c ≡ true → Fields divides k l ds
-      → Fields divides (suc k) (d ++ c ∷ l) (d ∷ ds)
+-- a text of a grammar: optional `-`, then fields and a tail
+pub record TextShape (g : Grammar) (l : List ℕ) (p : TextParts) : Type 0 where
+  pub body : List ℕ
+  pub shape : BodyShape g body (p .fields) (p .tail)
+  pub text : withMinus (p .minus) body ≡ l
+
+-- the tail has more digits than the grammar allows, or a field over 9
+abbrev pub someLong : Grammar → TextParts → Bool
+someLong g p = isOver (g .tail) (length (p .tail)) || fieldsLong (p .fields)
+
+-- a text has the shape, and something in it is too long, or nothing is
+pub record HasTextShape (g : Grammar) (l : List ℕ) (long : Bool) : Type 0 where
+  pub parts : TextParts
+  pub shape : TextShape g l parts
+  pub digits : someLong g parts ≡ long

@@ -1,22 +1,47 @@
--- `footage_writer::put_marker` meets its contract: a marker is `.` and one digit where there is one, and no text else.
+-- `footage_writer::put_marker` meets its contract: a format with a perf field has a marker, and for another there is no text.
 -- Assumes nothing.
-use mathlib.Core.Path.{sym, _∙_}
+use mathlib.Core.Path.{sym, ap, _∙_}
+use mathlib.Core.List.{_∷_}
 use borrow.Author.Needs.{needs}
-use Rattle.lent.proofs.Laws.{front-nil}
+use Rattle.lent.specs.Line.{laid}
+use Rattle.lent.proofs.Laws.{laid-nil}
+use Rattle.written.proofs.Parts.{decimal-wide}
+use Rattle.footage_writer.proofs.Laws.{marker-some, marker-none}
 use Rattle.footage_writer.proofs.put_marker.Statement.{statement}
 use Rattle.footage_writer.proofs.put_marker.Tie as tie
 
+allows-perf-field-requires : tie.Need-allows-perf-field-requires
+allows-perf-field-requires c κs = search needs
+
+width-of-requires : tie.Need-width-of-requires
+width-of-requires c κs = search needs
+
 put-marked-requires : tie.Need-put-marked-requires
-put-marked-requires c κs = rw (c .before .if1 .taken) at (c .before .before .before .pre)
+put-marked-requires c κs = search needs
 
 same-length : tie.Need-same-length
 same-length c = search needs
 
 returns : tie.Need-returns
-returns c = c .before .before .put-marked .ensures ∙ rw (c .before .before .before .before .if1 .taken)
+returns c =
+    let a = c .before .before .before .before .before .before .before .before .args in
+    let some = marker-some (a .format) (a .perf) (sym (c .before .before .before .before .before .before .allows-perf-field .ensures) ∙ c .before .before .before .before .before .if1 .taken) in
+    c .before .before .put-marked .ensures
+    ∙ ap (laid (a .part .now)) (ap (λ d. 46 ∷ d) (decimal-wide 1 (a .perf) _ (c .before .before .before .width-of .ensures)) ∙ sym some)
 
 returns-2 : tie.Need-returns-2
-returns-2 c = sym (front-nil (c .before .before .args .part .now)) ∙ rw (c .if1 .left)
+returns-2 c =
+    let a = c .before .before .before .args in
+    let none = marker-none (a .format) (a .perf) (sym (c .before .allows-perf-field .ensures) ∙ c .if1 .left) in
+    sym (ap (laid (a .part .now)) none ∙ laid-nil (a .part .now))
 
 pub put-marker-spec : {M : Type 1} → statement M
-put-marker-spec = tie.close (tie.spec put-marked-requires same-length returns returns-2)
+put-marker-spec =
+    tie.close
+    (tie.spec
+    allows-perf-field-requires
+    width-of-requires
+    put-marked-requires
+    same-length
+    returns
+    returns-2)

@@ -1,56 +1,89 @@
--- `footage_writer::put_parts` meets its contract: feet and all that follows, lent the rest of the part, stand right behind the sign.
+-- `footage_writer::put_parts` meets its contract: frames and marker, each lent the rest of the part, stand right behind what is there.
 -- Assumes nothing.
+use Prim.Native.Nat.{_+_, _≤_}
 use native.Mathlib.Omega.{arith}
-use mathlib.Core.Path.{sym}
+use lib.ListN.{length}
 use borrow.Author.Needs.{needs}
-use Rattle.lent.proofs.Laws.{front-lent}
-use Rattle.written.specs.Parts.{signText}
-use Rattle.footage_writer.specs.Parts.{wideText}
-use Rattle.footage_writer.proofs.Laws.{wide-length}
+use Rattle.lent.proofs.Laws.{laid-three}
+use Rattle.written.specs.Parts.{signedText, fieldText}
+use Rattle.footage_writer.specs.FootageText.{perfText, feetText}
+use Rattle.footage_writer.proofs.Laws.{feet-length}
 use Rattle.footage_writer.proofs.put_parts.Statement.{statement}
 use Rattle.footage_writer.proofs.put_parts.Tie as tie
 
-sign-length-requires : tie.Need-sign-length-requires
-sign-length-requires c κs = search needs
+-- feet and frames lie within the room asked for
+fit : (c : tie.Start) → let a = c .args in length (signedText (a .minus) (a .footage .feet)) + length (fieldText 43 (a .footage .frames)) ≤ length (a .part .now)
+fit c = let a = c .args in omega (arith, c .pre, feet-length (a .minus) (a .format) (a .footage))
 
-put-sign-requires : tie.Need-put-sign-requires
-put-sign-requires c κs = search needs
+signed-length-requires : tie.Need-signed-length-requires
+signed-length-requires c κs = search needs
 
-sub-put-feet : tie.Need-sub-put-feet
-sub-put-feet c = search needs
+field-length-requires : tie.Need-field-length-requires
+field-length-requires c κs = search needs
 
-part-put-feet-start : tie.Need-part-put-feet-start
-part-put-feet-start c = search needs
+add-second : tie.Need-add-second
+add-second c = record { fits = omega (arith, fit (c .before .before .before)) }
 
-part-put-feet-end : tie.Need-part-put-feet-end
-part-put-feet-end c = search needs
+put-signed-requires : tie.Need-put-signed-requires
+put-signed-requires c κs = search needs
 
-put-feet-requires : tie.Need-put-feet-requires
-put-feet-requires c κs = search needs
+sub-put-field : tie.Need-sub-put-field
+sub-put-field c = omega (arith, fit (c .before .before .before .before .before .before .before))
+
+part-put-field-start : tie.Need-part-put-field-start
+part-put-field-start c = omega (arith, fit (c .before .before .before .before .before .before .before))
+
+part-put-field-end : tie.Need-part-put-field-end
+part-put-field-end c = search needs
+
+put-field-requires : tie.Need-put-field-requires
+put-field-requires c κs = search needs
+
+sub-put-marker : tie.Need-sub-put-marker
+sub-put-marker c = omega (arith, fit (c .before .before .before .before .before .before .before .before .before .before .before))
+
+part-put-marker-start : tie.Need-part-put-marker-start
+part-put-marker-start c = omega (arith, fit (c .before .before .before .before .before .before .before .before .before .before .before))
+
+part-put-marker-end : tie.Need-part-put-marker-end
+part-put-marker-end c = search needs
+
+put-marker-requires : tie.Need-put-marker-requires
+put-marker-requires c κs = search needs
 
 same-length : tie.Need-same-length
 same-length c = search needs
 
 returns : tie.Need-returns
+unfolding feetText
 returns c =
-    let start = c .before .before .before .before .before .before .before .before .before .before in
+    let start = c .before .before .before .before .before .before .before .before .before .before .before .before .before .before .before in
     let a = start .args in
-    let sign = c .before .before .before .before .before .before .before .before .sign-length in
-    front-lent (a .part .now) _ _ (signText (a .minus)) (wideText (a .w) (a .marked) (a .footage)) (sign .result)
-    (c .before .before .before .before .before .before .put-sign .ensures)
-    (sym (sign .ensures))
-    (omega (arith, start .pre, sign .ensures, wide-length (a .marked) (a .footage) (a .w)))
-    (c .before .before .put-feet .ensures)
+    let first = c .before .before .before .before .before .before .before .before .before .before .before .before .before .signed-length in
+    laid-three (a .part .now) _ _ _ (signedText (a .minus) (a .footage .feet)) (fieldText 43 (a .footage .frames)) (perfText (a .format) (a .footage .perf))
+    (first .result) _
+    (start .pre)
+    (c .before .before .before .before .before .before .before .before .before .before .put-signed .ensures)
+    (first .ensures)
+    (c .before .before .before .before .before .before .put-field .ensures)
+    (omega (arith, c .before .before .before .before .before .before .before .before .before .before .before .before .field-length .ensures))
+    (c .before .before .put-marker .ensures)
 
 pub put-parts-spec : {M : Type 1} → statement M
 put-parts-spec =
     tie.close
     (tie.spec
-    sign-length-requires
-    put-sign-requires
-    sub-put-feet
-    part-put-feet-start
-    part-put-feet-end
-    put-feet-requires
+    signed-length-requires
+    field-length-requires
+    add-second
+    put-signed-requires
+    sub-put-field
+    part-put-field-start
+    part-put-field-end
+    put-field-requires
+    sub-put-marker
+    part-put-marker-start
+    part-put-marker-end
+    put-marker-requires
     same-length
     returns)

@@ -1,85 +1,26 @@
--- `footage_writer::write_parts` meets its contract: the length is that of the parts, which are laid down exactly where it fits.
+-- `footage_writer::write_parts` meets its contract: with room the text is laid down from its place on, and without nothing was done.
 -- Assumes nothing.
-use Prim.Native.Nat.{_+_, _-_, _≤_, _<_}
+use Prim.Native.Nat.{_+_, _≤_}
 use native.Mathlib.Omega.{arith}
-use mathlib.Core.Path.{_≡_, refl, ap, _∙_}
-use borrow.Author.Needs.{needs}
-use borrow.Rule.Slice.PartMut.{midOf}
-use mathlib.Core.List.{_++_}
 use lib.ListN.{length}
-use Rattle.lent.proofs.Laws.{part-length, fits-yes, fits-no}
-use Rattle.lent.specs.Line.{front}
-use Rattle.written.specs.Written.{Text}
-use Rattle.written.specs.Parts.{signText}
-use Rattle.written.proofs.Laws.{laid, no-room}
-use Rattle.footage_writer.specs.Parts.{markerWidth, wideText, partsText}
-use Rattle.footage_writer.proofs.Laws.{parts-length, parts-short, feet-width}
+use borrow.Author.Needs.{needs}
+use Rattle.lent.proofs.Laws.{part-length, fits-yes}
+use Rattle.written.proofs.Laws.{meets-in, meets-out}
+use Rattle.footage_writer.specs.FootageText.{feetText}
 use Rattle.footage_writer.proofs.write_parts.Statement.{statement}
 use Rattle.footage_writer.proofs.write_parts.Tie as tie
 
--- the length that was added up is that of the parts
-long : (c : tie.After-marker-length)
-    → let a = c .before .before .before .before .args in
-    c .before .sign-length .result + c .before .before .width-of .result + 3 + c .marker-length .result
-    ≡ length (partsText (a .minus) (a .marked) (a .footage))
-long c =
-    let a = c .before .before .before .before .args in
-    omega (
-      arith,
-      c .before .sign-length .ensures,
-      c .before .before .width-of .ensures,
-      c .marker-length .ensures,
-      parts-length (a .marked) (a .footage) (a .minus),
-    )
-
--- the test says that the parts fit, or that they do not
+-- with room, the text lies within the line
 fit : (c : tie.Then1)
-    → let a = c .before .before .before .before .before .before .args in
-    a .place + length (partsText (a .minus) (a .marked) (a .footage)) ≤ length (a .line .now)
+    → let a = c .before .before .before .before .args in
+    a .place + length (feetText (a .minus) (a .format) (a .footage)) ≤ length (a .line .now)
 fit c =
-    let a = c .before .before .before .before .before .before .args in
-    fits-yes (a .line .now) (a .place) (partsText (a .minus) (a .marked) (a .footage)) _ _
-    (long (c .before .before)) (c .before .room .ensures) (c .if1 .taken)
+    let a = c .before .before .before .before .args in
+    fits-yes (a .line .now) (a .place) (feetText (a .minus) (a .format) (a .footage)) _ _
+    (c .before .before .parts-length .ensures) (c .before .room .ensures) (c .if1 .taken)
 
-unfit : (c : tie.Else1)
-    → let a = c .before .before .before .before .before .before .args in
-    length (a .line .now) < a .place + length (partsText (a .minus) (a .marked) (a .footage))
-unfit c =
-    let a = c .before .before .before .before .before .before .args in
-    fits-no (a .line .now) (a .place) (partsText (a .minus) (a .marked) (a .footage)) _ _
-    (long (c .before .before)) (c .before .room .ensures) (c .if1 .left)
-
--- no sum on the way to it wraps
-short : (c : tie.After-sign-length)
-    → let a = c .before .before .before .args in
-    c .sign-length .result + c .before .width-of .result + 3 + markerWidth (a .marked) ≤ 15
-short c =
-    let a = c .before .before .before .args in
-    let e = c .sign-length .ensures in
-    let w = c .before .width-of .ensures in
-    omega (
-      arith,
-      parts-short (a .minus) (a .marked) (c .before .width-of .result),
-      feet-width (a .footage .feet) (c .before .before .before .pre),
-    )
-
-width-of-requires : tie.Need-width-of-requires
-width-of-requires c κs = search needs
-
-sign-length-requires : tie.Need-sign-length-requires
-sign-length-requires c κs = search needs
-
-add-need : tie.Need-add-need
-add-need c = record { fits = omega (arith, short c) }
-
-add-need-2 : tie.Need-add-need-2
-add-need-2 c = record { fits = omega (arith, short c) }
-
-marker-length-requires : tie.Need-marker-length-requires
-marker-length-requires c κs = search needs
-
-add-need-3 : tie.Need-add-need-3
-add-need-3 c = record { fits = omega (arith, short (c .before), c .marker-length .ensures) }
+parts-length-requires : tie.Need-parts-length-requires
+parts-length-requires c κs = search needs
 
 room-requires : tie.Need-room-requires
 room-requires c κs = search needs
@@ -94,46 +35,27 @@ part-put-parts-end : tie.Need-part-put-parts-end
 part-put-parts-end c = search needs
 
 put-parts-requires : tie.Need-put-parts-requires
-put-parts-requires c κs =
-    let a = c .before .before .before .before .before .before .before .args in
-    let w = c .before .before .before .before .before .width-of .ensures in
-    omega (
-      arith,
-      part-length (a .line .now) (a .place),
-      parts-length (a .marked) (a .footage) (a .minus),
-      fit (c .before),
-    )
+put-parts-requires c κs = let a = c .before .before .before .before .before .args in omega (arith, part-length (a .line .now) (a .place), fit (c .before))
 
 same-length : tie.Need-same-length
 same-length c = search needs
 
 returns : tie.Need-returns
 returns c =
-    let a = c .before .before .before .before .before .before .before .before .before .before .args in
-    let text = partsText (a .minus) (a .marked) (a .footage) in
-    laid (a .line .now) (a .place) (Text text) text (c .before .before .put-parts .last .0) _ refl
-    (long (c .before .before .before .before .before .before))
-    (fit (c .before .before .before .before))
-    (c .before .before .put-parts .ensures
-    ∙ ap (λ w. front (midOf (a .place) (length (a .line .now) - a .place) (a .line .now)) (signText (a .minus) ++ wideText w (a .marked) (a .footage)))
-    (c .before .before .before .before .before .before .before .before .width-of .ensures))
+    let a = c .before .before .before .before .before .before .before .before .args in
+    meets-in (a .line .now) (a .place) (feetText (a .minus) (a .format) (a .footage)) _ _ (c .before .before .before .before .before .before .parts-length .ensures) (c .before .before .before .before .before .room .ensures) _
+    (c .before .before .before .before .if1 .taken) (c .before .before .put-parts .ensures)
 
 returns-2 : tie.Need-returns-2
 returns-2 c =
-    let a = c .before .before .before .before .before .before .args in
-    let text = partsText (a .minus) (a .marked) (a .footage) in
-    no-room (a .line .now) (a .place) (Text text) text refl (unfit c)
+    let a = c .before .before .before .before .args in
+    meets-out (a .line .now) (a .place) (feetText (a .minus) (a .format) (a .footage)) _ _ (c .before .before .parts-length .ensures) (c .before .room .ensures) (c .if1 .left)
 
 pub write-parts-spec : {M : Type 1} → statement M
 write-parts-spec =
     tie.close
     (tie.spec
-    width-of-requires
-    sign-length-requires
-    add-need
-    add-need-2
-    marker-length-requires
-    add-need-3
+    parts-length-requires
     room-requires
     sub-put-parts
     part-put-parts-start

@@ -1,32 +1,48 @@
--- `label_writer::put_sections` meets its contract: the fields, lent the rest of the part, stand right behind the sign.
+-- `label_writer::put_sections` meets its contract: frames, lent the rest of the part, stand right behind the seconds.
 -- Assumes nothing.
+use Prim.Native.Nat.{_≤_}
 use native.Mathlib.Omega.{arith}
-use mathlib.Core.Path.{sym}
-use Rattle.lent.proofs.Laws.{front-lent}
-use Rattle.written.specs.Parts.{signText}
-use Rattle.label_writer.specs.LabelText.{fieldsText, sectionsText}
-use Rattle.label_writer.proofs.Texts.{fields-length}
+use mathlib.Core.Path.{sym, ap, _∙_}
+use lib.ListN.{length}
 use borrow.Author.Needs.{needs}
+use Rattle.lent.specs.Line.{laid}
+use Rattle.lent.proofs.Laws.{laid-out, laid-lent}
+use Rattle.written.specs.Parts.{fieldText}
+use Rattle.written.specs.Clock.{clockText}
+use Rattle.label_writer.specs.LabelText.{framesMark, sectionsText}
+use Rattle.label_writer.proofs.Answers.{sections-length, sections-same}
 use Rattle.label_writer.proofs.put_sections.Statement.{statement}
 use Rattle.label_writer.proofs.put_sections.Tie as tie
 
-sign-length-requires : tie.Need-sign-length-requires
-sign-length-requires c κs = search needs
+-- with room, the text lies within the part
+fit : (c : tie.Then1) → let a = c .before .before .before .args in length (sectionsText (framesMark (a .rate)) (a .s)) ≤ length (a .part .now)
+fit c =
+    let a = c .before .before .before .args in
+    omega (arith, c .before .sections-length .ensures, sections-same (framesMark (a .rate)) (a .s))
 
-put-sign-requires : tie.Need-put-sign-requires
-put-sign-requires c κs = search needs
+sections-length-requires : tie.Need-sections-length-requires
+sections-length-requires c κs = search needs
 
-sub-put-fields : tie.Need-sub-put-fields
-sub-put-fields c = search needs
+clock-length-requires : tie.Need-clock-length-requires
+clock-length-requires c κs = search needs
 
-part-put-fields-start : tie.Need-part-put-fields-start
-part-put-fields-start c = search needs
+put-clock-requires : tie.Need-put-clock-requires
+put-clock-requires c κs = search needs
 
-part-put-fields-end : tie.Need-part-put-fields-end
-part-put-fields-end c = search needs
+sub-put-field : tie.Need-sub-put-field
+sub-put-field c = omega (arith, fit (c .before .before .before .before .before), sections-length (framesMark (c .before .before .before .before .before .before .before .before .args .rate)) (c .before .before .before .before .before .before .before .before .args .s))
 
-put-fields-requires : tie.Need-put-fields-requires
-put-fields-requires c κs = search needs
+part-put-field-start : tie.Need-part-put-field-start
+part-put-field-start c = omega (arith, fit (c .before .before .before .before .before), sections-length (framesMark (c .before .before .before .before .before .before .before .before .args .rate)) (c .before .before .before .before .before .before .before .before .args .s))
+
+part-put-field-end : tie.Need-part-put-field-end
+part-put-field-end c = search needs
+
+frames-mark-requires : tie.Need-frames-mark-requires
+frames-mark-requires c κs = search needs
+
+put-field-requires : tie.Need-put-field-requires
+put-field-requires c κs = search needs
 
 same-length : tie.Need-same-length
 same-length c = search needs
@@ -34,24 +50,32 @@ same-length c = search needs
 returns : tie.Need-returns
 unfolding sectionsText
 returns c =
-    let start = c .before .before .before .before .before .before .before .before .before .before in
-    let a = start .args in
+    let a = c .before .before .before .before .before .before .before .before .before .before .before .before .before .args in
     let s = a .s in
-    front-lent (a .part .now) _ _ (signText (s .negative)) (fieldsText (a .mark) s) _
-    (c .before .before .before .before .before .before .put-sign .ensures)
-    (sym (c .before .before .before .before .before .before .before .before .sign-length .ensures))
-    (omega (arith, start .pre, c .before .before .before .before .before .before .before .before .sign-length .ensures, fields-length (a .mark) s (start .pre .0)))
-    (c .before .before .put-fields .ensures)
+    laid-lent (a .part .now) _ _ (clockText (s .negative) (s .hours) (s .minutes) (s .seconds)) (fieldText (framesMark (a .rate)) (s .frames)) _
+    (c .before .before .before .before .before .before .before .put-clock .ensures)
+    (c .before .before .before .before .before .before .before .before .before .clock-length .ensures)
+    (fit (c .before .before .before .before .before .before .before .before .before .before))
+    (c .before .before .put-field .ensures ∙ ap (laid _) (ap (λ m. fieldText m (s .frames)) (c .before .before .before .frames-mark .ensures)))
+
+returns-2 : tie.Need-returns-2
+returns-2 c =
+    let a = c .before .before .before .args in
+    let text = sectionsText (framesMark (a .rate)) (a .s) in
+    sym (laid-out (a .part .now) text (omega (arith, c .before .sections-length .ensures, sections-same (framesMark (a .rate)) (a .s))))
 
 pub put-sections-spec : {M : Type 1} → statement M
 put-sections-spec =
     tie.close
     (tie.spec
-    sign-length-requires
-    put-sign-requires
-    sub-put-fields
-    part-put-fields-start
-    part-put-fields-end
-    put-fields-requires
+    sections-length-requires
+    clock-length-requires
+    put-clock-requires
+    sub-put-field
+    part-put-field-start
+    part-put-field-end
+    frames-mark-requires
+    put-field-requires
     same-length
-    returns)
+    returns
+    returns-2)

@@ -1,57 +1,45 @@
--- `label_writer::sections` meets its contract: each return is the definition, by the tests that led there.
+-- `label_writer::sections` meets its contract: the first refusal is given, and where there is none the sections of the label are.
 -- Assumes nothing.
 use mathlib.Core.Path.{_≡_, sym, ap, _∙_}
-use mathlib.Core.Bool.{true}
-use mir.Syntax.{w64}
-use mir.Val.{toZ, ofZ}
-use borrow.Author.Tests.{not-true, not-false}
-use Rattle.answers.specs.Refusals.{isCount}
-use Rattle.rates.specs.Rates.{isRate}
-use Rattle.label_writer.specs.declared.Sectioned.the-variants.{Sections}
-use Rattle.label_writer.proofs.Answers.{no-rate, no-count, both}
 use borrow.Author.Needs.{needs}
+use Rattle.answers.specs.Order.{Clear}
+use Rattle.answers.specs.OrderLaws.{judged-refused, judged-clear, unless-clear}
+use Rattle.timecodes.specs.Admitted.{admits}
+use Rattle.timecodes.specs.AdmittedLaws.{admits-valid}
+use Rattle.label_writer.specs.declared.Sectioned.the-variants.{Sections, Refused}
+use Rattle.label_writer.specs.Sections.{labelSections, sectioned}
 use Rattle.label_writer.proofs.sections.Statement.{statement}
 use Rattle.label_writer.proofs.sections.Tie as tie
 
-is-rate-requires : tie.Need-is-rate-requires
-is-rate-requires c κs = search needs
+clear : (c : tie.After-enum-told) → Clear (admits (c .before .before .before .args .tc))
+clear c = judged-clear (admits (c .before .before .before .args .tc)) (sym (c .before .before .admit .ensures) ∙ c .enum-told .given .1)
 
-returns : tie.Need-returns
-returns c = no-rate (c .before .before .args .tc) (sym (c .before .is-rate .ensures) ∙ not-true _ (c .if1 .taken))
+admit-requires : tie.Need-admit-requires
+admit-requires c κs = search needs
 
-rated : (c : tie.Else1) → isRate (c .before .before .args .tc .rate) ≡ true
-rated c = sym (c .before .is-rate .ensures) ∙ not-false _ (c .if1 .left)
-
-is-count-requires : tie.Need-is-count-requires
-is-count-requires c κs = search needs
-
--- what the test of the count answered is of the count itself
-told : (c : tie.After-is-count) → c .is-count .result ≡ isCount (c .before .before .before .before .args .tc .count)
-told c =
-    let count = c .before .before .before .before .args .tc .count in
-    let back : toZ w64 (ofZ w64 count) ≡ count = search needs in
-    c .is-count .ensures ∙ ap isCount back
-
-counted : (c : tie.Else2) → isCount (c .before .before .before .before .before .args .tc .count) ≡ true
-counted c = sym (told (c .before)) ∙ not-false _ (c .if2 .left)
-
-returns-2 : tie.Need-returns-2
-returns-2 c =
-    no-count (c .before .before .before .before .before .args .tc) (rated (c .before .before .before)) (sym (told (c .before)) ∙ not-true _ (c .if2 .taken))
+enum-told : tie.Need-enum-told
+enum-told c = search needs
 
 label-sections-requires : tie.Need-label-sections-requires
-label-sections-requires c κs = (rated (c .before .before .before), counted c)
+label-sections-requires c κs = admits-valid _ (clear c)
 
-returns-3 : tie.Need-returns-3
-returns-3 c = ap Sections (c .label-sections .ensures) ∙ both (c .before .before .before .before .before .before .args .tc) (rated (c .before .before .before .before)) (counted (c .before))
+enum-known-e : tie.Need-enum-known-e
+enum-known-e c = search needs
+
+returns : tie.Need-returns
+unfolding sectioned
+returns c =
+    let tc = c .before .before .before .before .args .tc in
+    let text = Sections (labelSections (tc .rate) (tc .count)) in
+    ap Sections (c .label-sections .ensures) ∙ sym (unless-clear Refused (admits tc) text (clear (c .before)))
+
+returns-2 : tie.Need-returns-2
+unfolding sectioned
+returns-2 c =
+    let tc = c .before .before .before .before .args .tc in
+    sym (judged-refused (admits tc) _ (sym (c .before .before .before .admit .ensures) ∙ c .before .e .given .1) Refused (Sections (labelSections (tc .rate) (tc .count))))
 
 pub sections-spec : {M : Type 1} → statement M
 sections-spec =
     tie.close
-    (tie.spec
-    is-rate-requires
-    returns
-    is-count-requires
-    returns-2
-    label-sections-requires
-    returns-3)
+    (tie.spec admit-requires enum-told label-sections-requires enum-known-e returns returns-2)

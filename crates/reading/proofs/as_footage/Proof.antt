@@ -1,10 +1,11 @@
--- `reading::as_footage` meets its contract: each arm is the definition's case.
+-- `reading::as_footage` meets its contract: each arm is the definition's.
 -- Assumes nothing.
 use mathlib.Core.Path.{_≡_, sym, ap, _∙_}
 use borrow.Author.Needs.{needs}
 use lib.IntN.{ℤ}
 use mir.Syntax.{w64}
 use mir.Val.{toZ, ofZ}
+use Rattle.timecodes.specs.Timecode.{timecode}
 use Rattle.reading.specs.declared.Read.the-variants.{Footage}
 use Rattle.reading.specs.Answer.{asFootage}
 use Rattle.reading.proofs.as_footage.Statement.{statement}
@@ -20,11 +21,13 @@ returns : tie.Need-returns
 returns c =
     let z = c .before .counted .given .0 .0 in
     let back : toZ w64 (ofZ w64 z) ≡ z = search needs in
-    let format = c .before .before .before .args .format in
-    ap (λ (x : ℤ). Footage x format) back ∙ sym (ap (asFootage format) (c .before .counted .given .1))
+    let a = c .before .before .before .args in
+    ap (λ (x : ℤ). Footage (timecode x (a .rate)) (a .format)) back ∙ sym (ap (asFootage (a .rate) (a .format)) (c .before .counted .given .1))
 
 returns-2 : tie.Need-returns-2
-returns-2 c = sym (ap (asFootage (c .before .before .before .args .format)) (c .before .counted2 .given .1))
+returns-2 c =
+    let a = c .before .before .before .args in
+    sym (ap (asFootage (a .rate) (a .format)) (c .before .counted2 .given .1))
 
 pub as-footage-spec : {M : Type 1} → statement M
 as-footage-spec = tie.close (tie.spec enum-known-counted enum-known-counted-2 returns returns-2)

@@ -1,9 +1,11 @@
--- `reading::as_label` meets its contract: each arm is the definition's case.
+-- `reading::as_label` meets its contract: each arm is the definition's.
 -- Assumes nothing.
 use mathlib.Core.Path.{_≡_, sym, ap, _∙_}
 use borrow.Author.Needs.{needs}
+use lib.IntN.{ℤ}
 use mir.Syntax.{w64}
 use mir.Val.{toZ, ofZ}
+use Rattle.timecodes.specs.Timecode.{timecode}
 use Rattle.reading.specs.declared.Read.the-variants.{Label}
 use Rattle.reading.specs.Answer.{asLabel}
 use Rattle.reading.proofs.as_label.Statement.{statement}
@@ -19,10 +21,11 @@ returns : tie.Need-returns
 returns c =
     let z = c .before .counted .given .0 .0 in
     let back : toZ w64 (ofZ w64 z) ≡ z = search needs in
-    ap Label back ∙ sym (ap asLabel (c .before .counted .given .1))
+    let rate = c .before .before .before .args .rate in
+    ap (λ (x : ℤ). Label (timecode x rate)) back ∙ sym (ap (asLabel rate) (c .before .counted .given .1))
 
 returns-2 : tie.Need-returns-2
-returns-2 c = sym (ap asLabel (c .before .counted2 .given .1))
+returns-2 c = sym (ap (asLabel (c .before .before .before .args .rate)) (c .before .counted2 .given .1))
 
 pub as-label-spec : {M : Type 1} → statement M
 as-label-spec = tie.close (tie.spec enum-known-counted enum-known-counted-2 returns returns-2)

@@ -1,58 +1,72 @@
--- `reading::only_footage` meets its contract: each arm is the definition's case, at any rate.
+-- `reading::only_footage` meets its contract: by how the scan fits, the footage is read, or refused.
 -- Assumes nothing.
-use mathlib.Core.Path.{sym, ap, _∙_}
+use mathlib.Core.Path.{_≡_, sym, ap, _∙_}
 use borrow.Author.Needs.{needs}
 use Rattle.film.specs.declared.FilmFormat.{FilmFormat}
 use Rattle.footage_scan.specs.declared.FootageScan.{FootageScan}
-use Rattle.footage_scan.proofs.Statements.{taken-below}
-use Rattle.reading.specs.Shaped.{footageShaped}
+use Rattle.footage_scan.specs.Footage.{footageScan}
+use Rattle.reading.specs.Shaped.{Shaped, footageShaped}
 use Rattle.reading.specs.Reading.{footageRead, readShaped}
+use Rattle.reading.proofs.Scans.{footage-fits, footage-long, footage-none}
 use Rattle.reading.proofs.only_footage.Statement.{statement}
 use Rattle.reading.proofs.only_footage.Tie as tie
 
 scan-footage-requires : tie.Need-scan-footage-requires
 scan-footage-requires c κs = search needs
 
-enum-known-scan : tie.Need-enum-known-scan
-enum-known-scan c = search needs
+enum-told : tie.Need-enum-told
+enum-told c = search needs
 
 format-for-requires : tie.Need-format-for-requires
 format-for-requires c κs = search needs
 
 read-footage-requires : tie.Need-read-footage-requires
-read-footage-requires c κs =
-    let scan = c .before .before .scan .given in
-    let scanned = c .before .before .before .before in
-    taken-below (scanned .before .before .args .text .now) (scan .0 .0) (scan .0 .1 .0) (scan .0 .1 .1 .0) (scan .0 .1 .1 .1 .0)
-    (sym (scanned .scan-footage .ensures) ∙ scan .1)
+read-footage-requires c κs = search needs
 
-enum-known-scan-2 : tie.Need-enum-known-scan-2
-enum-known-scan-2 c = search needs
+enum-told-2 : tie.Need-enum-told-2
+enum-told-2 c = search needs
+
+enum-told-3 : tie.Need-enum-told-3
+enum-told-3 c = search needs
+
+-- the answer to a shape that the scan gives is that to the text's
+scanned-as : (c : tie.After-scan-footage) (x : Shaped) → footageShaped (c .scan-footage .result) ≡ x
+    → let a = c .before .before .args in
+    readShaped (a .rate) (a .stated) x ≡ readShaped (a .rate) (a .stated) (footageShaped (footageScan (a .text .now)))
+scanned-as c x e =
+    let a = c .before .before .args in
+    ap (readShaped (a .rate) (a .stated)) (sym e ∙ ap footageShaped (c .scan-footage .ensures))
 
 returns : tie.Need-returns
-returns c rate =
-    let told = c .before .before .before in
-    let scan = told .scan .given in
+returns c =
+    let told = c .before .before in
     let scanned = told .before .before in
-    let stated = scanned .before .before .args .stated in
+    let a = scanned .before .before .args in
+    let s = scanned .scan-footage .result in
     c .read-footage .ensures
-    ∙ ap (λ (f : FilmFormat). footageRead f (scan .0 .0) (scan .0 .1 .0) (scan .0 .1 .1 .0) (scan .0 .1 .1 .1 .0)) (c .before .format-for .ensures)
-    ∙ sym (ap (λ (s : FootageScan). readShaped rate stated (footageShaped s)) (sym (scanned .scan-footage .ensures) ∙ scan .1))
+    ∙ ap (λ (f : FilmFormat). footageRead (a .rate) f (s .minus) (s .feet) (s .frames) (s .perf)) (c .before .format-for .ensures)
+    ∙ scanned-as scanned _ (footage-fits s (told .enum-told .given .1))
 
 returns-2 : tie.Need-returns-2
-returns-2 c rate =
-    let scanned = c .before .before .before in
-    let stated = scanned .before .before .args .stated in
-    sym (ap (λ (s : FootageScan). readShaped rate stated (footageShaped s)) (sym (scanned .scan-footage .ensures) ∙ c .before .scan2 .given .1))
+returns-2 c =
+    let scanned = c .before .before in
+    scanned-as scanned _ (footage-long (scanned .scan-footage .result) (c .enum-told2 .given .1))
+
+returns-3 : tie.Need-returns-3
+returns-3 c =
+    let scanned = c .before .before in
+    scanned-as scanned _ (footage-none (scanned .scan-footage .result) (c .enum-told3 .given .1))
 
 pub only-footage-spec : {M : Type 1} → statement M
 only-footage-spec =
     tie.close
     (tie.spec
     scan-footage-requires
-    enum-known-scan
+    enum-told
     format-for-requires
     read-footage-requires
-    enum-known-scan-2
+    enum-told-2
+    enum-told-3
     returns
-    returns-2)
+    returns-2
+    returns-3)

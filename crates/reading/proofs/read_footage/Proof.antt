@@ -1,14 +1,9 @@
--- `reading::read_footage` meets its contract: its test is the definition's, and what passes it is counted and held.
+-- `reading::read_footage` meets its contract: a perf field that the format has not is refused, and any other footage has its count.
 -- Assumes nothing.
-use mathlib.Core.Path.{_≡_, sym, ap, _∙_}
-use Prim.Native.Nat.{ℕ}
-use mathlib.Core.Bool.{true, false}
+use mathlib.Core.Path.{sym, ap, _∙_}
 use borrow.Author.Needs.{needs}
-use borrow.Author.Tests.{not-true, not-false}
-use Rattle.numbers.specs.Sign.{signed}
-use Rattle.answers.specs.Refusals.{held}
+use Rattle.numbers.proofs.Tests.{fails, passes}
 use Rattle.reading.specs.Answer.{asFootage}
-use Rattle.reading.specs.Reading.{takesPerf}
 use Rattle.reading.specs.ReadingLaws.{footage-marked, footage-taken}
 use Rattle.reading.proofs.read_footage.Statement.{statement}
 use Rattle.reading.proofs.read_footage.Tie as tie
@@ -19,34 +14,22 @@ takes-perf-requires c κs = search needs
 returns : tie.Need-returns
 returns c =
     let a = c .before .before .args in
-    let marked : takesPerf (a .format) (a .perf) ≡ false = sym (c .before .takes-perf .ensures) ∙ not-true _ (c .if1 .taken) in
-    sym (footage-marked (a .format) (a .minus) (a .feet) (a .frames) (a .perf) marked)
+    sym (footage-marked (a .rate) (a .format) (a .minus) (a .feet) (a .frames) (a .perf) (fails (c .before .takes-perf .ensures) (c .if1 .taken)))
 
 footage-count-requires : tie.Need-footage-count-requires
 footage-count-requires c κs = search needs
-
-held-requires : tie.Need-held-requires
-held-requires c κs = search needs
 
 as-footage-requires : tie.Need-as-footage-requires
 as-footage-requires c κs = search needs
 
 returns-2 : tie.Need-returns-2
 returns-2 c =
-    let tested = c .before .before .before in
-    let a = tested .before .before .args in
-    let takes : takesPerf (a .format) (a .perf) ≡ true = sym (tested .before .takes-perf .ensures) ∙ not-false _ (tested .if1 .left) in
+    let e = c .before .before in
+    let a = e .before .before .args in
     c .as-footage .ensures
-    ∙ ap (asFootage (a .format)) (c .before .held .ensures ∙ ap (λ (n : ℕ). held (signed (a .minus) n)) (c .before .before .footage-count .ensures))
-    ∙ sym (footage-taken (a .format) (a .minus) (a .feet) (a .frames) (a .perf) takes)
+    ∙ ap (asFootage (a .rate) (a .format)) (c .before .footage-count .ensures)
+    ∙ sym (footage-taken (a .rate) (a .format) (a .minus) (a .feet) (a .frames) (a .perf) (passes (e .before .takes-perf .ensures) (e .if1 .left)))
 
 pub read-footage-spec : {M : Type 1} → statement M
 read-footage-spec =
-    tie.close
-    (tie.spec
-    takes-perf-requires
-    returns
-    footage-count-requires
-    held-requires
-    as-footage-requires
-    returns-2)
+    tie.close (tie.spec takes-perf-requires returns footage-count-requires as-footage-requires returns-2)

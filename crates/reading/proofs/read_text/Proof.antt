@@ -61,7 +61,7 @@ returns-4 c =
     let second = c .before .before .before in
     let first = second .before .before in
     let a = first .before .before .before .args in
-    c .only-footage .ensures (a .rate)
+    c .only-footage .ensures
     ∙ sym (read-shaped (a .text .now) (a .stated) (a .rate) (rated first) (allowed second)
     ∙ ap (λ (s : Stated). readShaped (a .rate) (a .stated) (shapeOf s (a .text .now))) (c .before .enum-told .given .1))
 

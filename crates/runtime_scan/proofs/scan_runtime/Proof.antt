@@ -1,55 +1,33 @@
--- `runtime_scan::scan_runtime` meets its contract: past the sign, or where none stands, the fields are read.
+-- `runtime_scan::scan_runtime` meets its contract: the scan by a runtime's grammar, and its tail in millionths, which wraps nowhere.
 -- Assumes nothing.
-use mathlib.Core.Path.{sym, _∙_}
+use mathlib.Core.Path.{sym, ap, subst}
+use native.Mathlib.Omega.{arith}
 use borrow.Author.Needs.{needs}
-use Rattle.runtime_scan.proofs.Steps.{plain-taken, minus-taken}
+use Rattle.scanner.specs.Statements.{TextBounds}
+use Rattle.scanner.proofs.Statements.{text-bounded}
+use Rattle.runtime_scan.specs.Runtime.{runtimeFrom, runtimeScan}
+use Rattle.runtime_scan.proofs.Millionths.{scaled-fits}
 use Rattle.runtime_scan.proofs.scan_runtime.Statement.{statement}
 use Rattle.runtime_scan.proofs.scan_runtime.Tie as tie
 
-new-requires : tie.Need-new-requires
-new-requires c κs = search needs
+scan-text-requires : tie.Need-scan-text-requires
+scan-text-requires c κs = search needs
 
-past-requires : tie.Need-past-requires
-past-requires c κs = search needs
+scale-requires : tie.Need-scale-requires
+scale-requires c κs = search needs
 
-enum-known-sign : tie.Need-enum-known-sign
-enum-known-sign c = search needs
-
-enum-told : tie.Need-enum-told
-enum-told c = search needs
-
-fields-requires : tie.Need-fields-requires
-fields-requires c κs = search needs
+mul-t8 : tie.Need-mul-t8
+mul-t8 c =
+    let s = c .before .before .before in
+    let b = subst TextBounds (sym (s .scan-text .ensures)) (text-bounded _ _) in
+    let x = s .scan-text .result in
+    omega (arith, scaled-fits (x .tail) (x .digits) (c .before .scale .result) (b .tail) (c .before .scale .ensures))
 
 returns : tie.Need-returns
+unfolding runtimeScan
 returns c =
-    let p = c .before .before .before in
-    let n = p .before .new in
-    c .fields .ensures
-    ∙ sym
-    (plain-taken (p .before .before .before .args .text .now) (n .result) (n .ensures)
-    (sym (c .before .enum-told .given .1) ∙ p .past .ensures))
-
-fields-requires-2 : tie.Need-fields-requires-2
-fields-requires-2 c κs = search needs
-
-returns-2 : tie.Need-returns-2
-returns-2 c =
-    let p = c .before .before .before .before in
-    let n = p .before .new in
-    let g = c .before .before .sign .given in
-    c .fields2 .ensures
-    ∙ sym (minus-taken (p .before .before .before .args .text .now) (n .result) (n .ensures) (g .0 .0) (sym (g .1) ∙ p .past .ensures))
+    let x = c .before .before .before .scan-text in
+    rw (c .before .scale .ensures) (ap runtimeFrom (x .ensures))
 
 pub scan-runtime-spec : {M : Type 1} → statement M
-scan-runtime-spec =
-    tie.close
-    (tie.spec
-    new-requires
-    past-requires
-    enum-known-sign
-    enum-told
-    fields-requires
-    returns
-    fields-requires-2
-    returns-2)
+scan-runtime-spec = tie.close (tie.spec scan-text-requires scale-requires mul-t8 returns)

@@ -1,56 +1,57 @@
--- `runtime_writer::put_parts` meets its contract: hours and all that follows, lent the rest of the part, stand right behind the sign.
+-- `runtime_writer::put_parts` meets its contract: the fraction, lent the rest of the part, stands right behind its seconds.
 -- Assumes nothing.
+use Prim.Native.Nat.{_≤_}
 use native.Mathlib.Omega.{arith}
-use mathlib.Core.Path.{sym}
+use lib.ListN.{length}
+use mathlib.Core.List.{_∷_}
 use borrow.Author.Needs.{needs}
-use Rattle.lent.proofs.Laws.{front-lent}
-use Rattle.written.specs.Parts.{signText}
-use Rattle.runtime_writer.specs.Parts.{wideText}
-use Rattle.runtime_writer.proofs.Laws.{wide-length}
+use Rattle.lent.proofs.Laws.{laid-lent}
+use Rattle.digits.specs.Digits.{digitsOf}
+use Rattle.runtime_writer.specs.RuntimeText.{secondsText}
+use Rattle.runtime_writer.proofs.Laws.{tail-length}
 use Rattle.runtime_writer.proofs.put_parts.Statement.{statement}
 use Rattle.runtime_writer.proofs.put_parts.Tie as tie
 
-sign-length-requires : tie.Need-sign-length-requires
-sign-length-requires c κs = search needs
+-- the seconds lie within the room asked for
+fit : (c : tie.Start) → c .args .at ≤ length (c .args .part .now)
+fit c = omega (arith, c .pre, tail-length (c .args .minus) (c .args .seconds) (c .args .tail))
 
-put-sign-requires : tie.Need-put-sign-requires
-put-sign-requires c κs = search needs
+put-clock-requires : tie.Need-put-clock-requires
+put-clock-requires c κs = search needs
 
-sub-put-hours : tie.Need-sub-put-hours
-sub-put-hours c = search needs
+sub-put-marked : tie.Need-sub-put-marked
+sub-put-marked c = omega (arith, fit (c .before .before .before .before .before))
 
-part-put-hours-start : tie.Need-part-put-hours-start
-part-put-hours-start c = search needs
+part-put-marked-start : tie.Need-part-put-marked-start
+part-put-marked-start c = omega (arith, fit (c .before .before .before .before .before))
 
-part-put-hours-end : tie.Need-part-put-hours-end
-part-put-hours-end c = search needs
+part-put-marked-end : tie.Need-part-put-marked-end
+part-put-marked-end c = search needs
 
-put-hours-requires : tie.Need-put-hours-requires
-put-hours-requires c κs = search needs
+put-marked-requires : tie.Need-put-marked-requires
+put-marked-requires c κs = search needs
 
 same-length : tie.Need-same-length
 same-length c = search needs
 
 returns : tie.Need-returns
 returns c =
-    let start = c .before .before .before .before .before .before .before .before .before .before in
+    let start = c .before .before .before .before .before .before .before .before .before in
     let a = start .args in
-    let sign = c .before .before .before .before .before .before .before .before .sign-length in
-    front-lent (a .part .now) _ _ (signText (a .minus)) (wideText (a .w) (a .seconds) (a .tail)) (sign .result)
-    (c .before .before .before .before .before .before .put-sign .ensures)
-    (sym (sign .ensures))
-    (omega (arith, start .pre, sign .ensures, wide-length (a .seconds) (a .tail) (a .w)))
-    (c .before .before .put-hours .ensures)
+    laid-lent (a .part .now) _ _ (secondsText (a .minus) (a .seconds)) (46 ∷ digitsOf (a .tail .width) (a .tail .value)) (a .at)
+    (c .before .before .before .before .before .before .put-clock .ensures)
+    (start .pre .0)
+    (start .pre .1)
+    (c .before .before .put-marked .ensures)
 
 pub put-parts-spec : {M : Type 1} → statement M
 put-parts-spec =
     tie.close
     (tie.spec
-    sign-length-requires
-    put-sign-requires
-    sub-put-hours
-    part-put-hours-start
-    part-put-hours-end
-    put-hours-requires
+    put-clock-requires
+    sub-put-marked
+    part-put-marked-start
+    part-put-marked-end
+    put-marked-requires
     same-length
     returns)

@@ -2,8 +2,7 @@
 -- Assumes nothing.
 use native.Mathlib.Omega.{arith}
 use mathlib.Core.Path.{refl, sym, _∙_}
-use borrow.Author.Needs.{needs}
-use Rattle.runtime_writer.proofs.Fraction.{Dropping, Zero, zero-there, drop-turn, dropped, fraction-none}
+use Rattle.runtime_writer.proofs.Fraction.{Dropping, fraction-drop, fraction-keep, fraction-one, fraction-none}
 use Rattle.runtime_writer.proofs.shortest.Statement.{statement}
 use Rattle.runtime_writer.proofs.shortest.Tie as tie
 
@@ -13,41 +12,30 @@ Inv-loop k n w₀ v₀ w v = Dropping k n w v
 abbrev μ-loop : tie.MeasureT-loop
 μ-loop k n w₀ v₀ w v = w
 
--- what the test says
-zero : (c : tie.Then2 Inv-loop μ-loop) → Zero (c .before .before .loop .w) (c .before .before .loop .v)
-zero c = zero-there _ _ (sym (c .before .zero-last .ensures) ∙ c .if2 .taken)
-
 returns : tie.Need-returns Inv-loop μ-loop
 returns c = rw (c .if1 .taken) (fraction-none (c .before .args .n))
 
 loop-holds : tie.Need-loop-holds Inv-loop μ-loop
 loop-holds c = record { some = omega arith; same = refl }
 
-zero-last-requires : tie.Need-zero-last-requires Inv-loop μ-loop
-zero-last-requires c κs = search needs
+returns-2 : tie.Need-returns-2 Inv-loop μ-loop
+returns-2 c = sym (c .before .before .loop .inv .same ∙ fraction-keep _ _ (c .before .loop-test .taken) (c .if2 .taken))
 
 sub-w : tie.Need-sub-w Inv-loop μ-loop
-sub-w c = omega (arith, zero c .more)
+sub-w c = omega arith
 
 loop-less : tie.Need-loop-less Inv-loop μ-loop
-loop-less c = omega (arith, zero c .more)
+loop-less c = omega arith
 
 loop-again : tie.Need-loop-again Inv-loop μ-loop
-loop-again c = drop-turn _ _ _ _ (c .before .before .loop .inv) (zero c)
+loop-again c =
+    let inv = c .before .before .loop .inv in
+    record { some = omega arith; same = inv .same ∙ fraction-drop _ _ (c .before .loop-test .taken) (c .if2 .left) }
 
-returns-2 : tie.Need-returns-2 Inv-loop μ-loop
-returns-2 c = dropped _ _ _ _ (c .before .before .loop .inv) (sym (c .before .zero-last .ensures) ∙ c .if2 .left)
+returns-3 : tie.Need-returns-3 Inv-loop μ-loop
+returns-3 c = let inv = c .before .loop .inv in sym (inv .same ∙ fraction-one _ _ (omega arith))
 
 pub shortest-spec : {M : Type 1} → statement M
 shortest-spec =
     tie.close
-    (tie.spec
-    Inv-loop
-    μ-loop
-    returns
-    loop-holds
-    zero-last-requires
-    sub-w
-    loop-less
-    loop-again
-    returns-2)
+    (tie.spec Inv-loop μ-loop returns loop-holds returns-2 sub-w loop-less loop-again returns-3)

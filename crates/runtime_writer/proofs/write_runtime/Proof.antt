@@ -1,48 +1,60 @@
--- `runtime_writer::write_runtime` meets its contract: a rate that there is not comes first, and else count and precision decide.
+-- `runtime_writer::write_runtime` meets its contract: the first refusal is given, and where there is none the text is laid down.
 -- Assumes nothing.
-use mathlib.Core.Path.{_≡_, sym, ap, _∙_}
-use mathlib.Core.Bool.{true}
+use mathlib.Core.Path.{_≡_, sym, _∙_}
 use borrow.Author.Needs.{needs}
-use borrow.Author.Tests.{not-true, not-false}
-use mir.Syntax.{w64}
-use mir.Val.{toZ, ofZ}
-use Rattle.answers.specs.Refusals.{noSuch}
-use Rattle.rates.specs.Rates.{isRate}
-use Rattle.written.specs.Written.{answerTo, lineTo}
-use Rattle.written.proofs.Laws.{no-text}
-use Rattle.runtime_writer.specs.RuntimeText.{countDraft, runtimeDraft}
-use Rattle.runtime_writer.proofs.Drafts.{rate-none, rate-there}
+use borrow.Author.Tests.{leb-true}
+use Rattle.answers.specs.declared.Verdict.the-variants.{Passed}
+use Rattle.answers.specs.Order.{judged}
+use Rattle.answers.specs.OrderLaws.{judged-clear, not-in}
+use Rattle.timecodes.specs.AdmittedLaws.{admits-valid}
+use Rattle.written.proofs.Laws.{meets-refused, meets-passed}
+use Rattle.runtime_writer.specs.RuntimeText.{runtimeText, runtimeWhen, runtimeDraft}
 use Rattle.runtime_writer.proofs.write_runtime.Statement.{statement}
 use Rattle.runtime_writer.proofs.write_runtime.Tie as tie
 
--- the test says that there is such a rate
-rated : (c : tie.Else1) → isRate (c .before .before .before .args .tc .rate) ≡ true
-rated c = sym (c .before .is-rate .ensures) ∙ not-false _ (c .if1 .left)
+passed : (c : tie.After-enum-told) → let a = c .before .before .before .before .args in judged (runtimeWhen (a .tc) (a .precision)) ≡ Passed
+passed c = sym (c .before .before .judge .ensures) ∙ c .enum-told .given .1
 
-is-rate-requires : tie.Need-is-rate-requires
-is-rate-requires c κs = search needs
+judge-requires : tie.Need-judge-requires
+judge-requires c κs = search needs
 
-returns : tie.Need-returns
-returns c =
-    let a = c .before .before .before .args in
-    no-text (a .line .now) (a .place) (runtimeDraft (a .tc) (a .precision)) noSuch
-    (rate-none (a .tc) (a .precision) (sym (c .before .is-rate .ensures) ∙ not-true _ (c .if1 .taken)))
+enum-told : tie.Need-enum-told
+enum-told c = search needs
 
-write-count-requires : tie.Need-write-count-requires
-write-count-requires c κs = rated (c .before .before)
+write-time-requires : tie.Need-write-time-requires
+write-time-requires c κs =
+    let a = c .before .before .before .before .before .args in
+    let clear = judged-clear (runtimeWhen (a .tc) (a .precision)) (passed (c .before)) in
+    (admits-valid (a .tc) (clear .0, (clear .1 .0, tt)), leb-true (a .precision) 6 (not-in _ (clear .1 .1 .0)))
+
+enum-known-e : tie.Need-enum-known-e
+enum-known-e c = search needs
 
 same-length : tie.Need-same-length
 same-length c = search needs
 
-returns-2 : tie.Need-returns-2
-returns-2 c =
+returns : tie.Need-returns
+unfolding runtimeDraft
+returns c =
     let a = c .before .before .before .before .before .before .before .before .args in
-    let back : toZ w64 (ofZ w64 (a .tc .count)) ≡ a .tc .count = search needs in
-    let e = c .before .before .write-count .ensures in
-    let d =
-    ap (countDraft (a .tc .rate) (a .precision)) back
-    ∙ sym (rate-there (a .tc) (a .precision) (rated (c .before .before .before .before .before))) in
-    (e .0 ∙ ap (answerTo (a .line .now) (a .place)) d, e .1 ∙ ap (lineTo (a .line .now) (a .place)) d)
+    meets-passed (a .line .now) (a .place) (runtimeWhen (a .tc) (a .precision)) (runtimeText (a .tc .rate) (a .precision) (a .tc .count)) _ _
+    (passed (c .before .before .before .before)) (c .before .before .write-time .ensures)
+
+returns-2 : tie.Need-returns-2
+unfolding runtimeDraft
+returns-2 c =
+    let a = c .before .before .before .before .before .args in
+    meets-refused (a .line .now) (a .place) (runtimeWhen (a .tc) (a .precision)) (runtimeText (a .tc .rate) (a .precision) (a .tc .count)) _
+    (sym (c .before .before .before .judge .ensures) ∙ c .before .e .given .1)
 
 pub write-runtime-spec : {M : Type 1} → statement M
-write-runtime-spec = tie.close (tie.spec is-rate-requires returns write-count-requires same-length returns-2)
+write-runtime-spec =
+    tie.close
+    (tie.spec
+    judge-requires
+    enum-told
+    write-time-requires
+    enum-known-e
+    same-length
+    returns
+    returns-2)

@@ -2,12 +2,12 @@
 -- Assumes nothing.
 use mathlib.Core.Path.{sym, _∙_}
 use borrow.Author.Needs.{needs}
-use Rattle.lent.proofs.Laws.{front-nil}
+use Rattle.lent.proofs.Laws.{laid-nil}
 use Rattle.written.proofs.put_sign.Statement.{statement}
 use Rattle.written.proofs.put_sign.Tie as tie
 
 put-byte-requires : tie.Need-put-byte-requires
-put-byte-requires c κs = rw (c .before .if1 .taken) at (c .before .before .before .pre)
+put-byte-requires c κs = search needs
 
 same-length : tie.Need-same-length
 same-length c = search needs
@@ -16,7 +16,7 @@ returns : tie.Need-returns
 returns c = c .before .before .put-byte .ensures ∙ rw (c .before .before .before .before .if1 .taken)
 
 returns-2 : tie.Need-returns-2
-returns-2 c = sym (front-nil (c .before .before .args .part .now)) ∙ rw (c .if1 .left)
+returns-2 c = sym (laid-nil (c .before .before .args .part .now)) ∙ rw (c .if1 .left)
 
 pub put-sign-spec : {M : Type 1} → statement M
 put-sign-spec = tie.close (tie.spec put-byte-requires same-length returns returns-2)

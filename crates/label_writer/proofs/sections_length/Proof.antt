@@ -1,0 +1,33 @@
+-- `label_writer::sections_length` meets its contract: the sum of its clock and its frames, neither of which is long.
+-- Assumes nothing.
+use native.Mathlib.Omega.{arith}
+use borrow.Author.Needs.{needs}
+use Rattle.written.proofs.Parts.{field-most, clock-most}
+use Rattle.label_writer.proofs.Answers.{sections-length}
+use Rattle.label_writer.proofs.sections_length.Statement.{statement}
+use Rattle.label_writer.proofs.sections_length.Tie as tie
+
+clock-length-requires : tie.Need-clock-length-requires
+clock-length-requires c κs = search needs
+
+field-length-requires : tie.Need-field-length-requires
+field-length-requires c κs = search needs
+
+add-result : tie.Need-add-result
+add-result c =
+    let s = c .before .before .args .s in
+    record {
+      fits =
+          omega (
+            arith,
+            clock-most (s .negative) (s .hours) (s .minutes) (s .seconds) (search needs) (search needs) (search needs),
+            field-most (s .frames) (search needs),
+          );
+    }
+
+returns : tie.Need-returns
+returns c = omega (arith, sections-length 58 (c .before .before .args .s))
+
+pub sections-length-spec : {M : Type 1} → statement M
+sections-length-spec =
+    tie.close (tie.spec clock-length-requires field-length-requires add-result returns)
