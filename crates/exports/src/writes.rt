@@ -40,7 +40,12 @@ pub extern "C" fn tzq_write_footage(
     ensures answer { λ r. ⌜ r ≡ handedLength (answerTo (now (line .entry)) place (footageDraft (timecodeFrom tc) format)) ⌝ }
     ensures line { λ r. ⌜ now (line .exit) ≡ lineTo (now (line .entry)) place (footageDraft (timecodeFrom tc) format) ⌝ }
 {
-    handed::handed_length(footage_writer::write_footage(handed::timecode_from(tc), format, line, place))
+    handed::handed_length(footage_writer::write_footage(
+        handed::timecode_from(tc),
+        format,
+        line,
+        place,
+    ))
 }
 
 // The runtime of a timecode to a precision, laid down from `place` on. Refuses 6: no such rate; 5: the count is out of bounds, or

@@ -42,7 +42,13 @@ fn write_in(tc: Timecode, format: FilmFormat, line: &mut [u8], place: usize) -> 
 }
 
 // Feet, frames and marker laid down from `place` on: their length first, one test of room, then the rest of the line is lent on.
-fn write_parts(minus: bool, format: FilmFormat, footage: Footage, line: &mut [u8], place: usize) -> Written
+fn write_parts(
+    minus: bool,
+    format: FilmFormat,
+    footage: Footage,
+    line: &mut [u8],
+    place: usize,
+) -> Written
     ensures answer { λ r. ⌜ r ≡ answerTo (now (line .entry)) place (Text (feetText minus format footage)) ⌝ }
     ensures line { λ r. ⌜ now (line .exit) ≡ lineTo (now (line .entry)) place (Text (feetText minus format footage)) ⌝ }
 {

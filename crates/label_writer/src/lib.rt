@@ -79,7 +79,8 @@ fn write_sections(s: TimecodeSections, rate: u64, line: &mut [u8], place: usize)
 pub fn sections_length(s: TimecodeSections) -> usize
     ensures answer { λ r. ⌜ r ≡ sectionsLength s ⌝ }
 {
-    written::clock_length(s.negative, s.hours, s.minutes, s.seconds) + written::field_length(s.frames)
+    written::clock_length(s.negative, s.hours, s.minutes, s.seconds)
+        + written::field_length(s.frames)
 }
 
 // Sign and fields at the front of a part, with the mark of a rate before frames; every other byte stays. Where they have no room nothing

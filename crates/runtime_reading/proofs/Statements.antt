@@ -5,13 +5,14 @@ use native.Mathlib.Omega.{arith}
 use mathlib.Core.Path.{_≡_, refl, ap, _∙_, subst}
 use mathlib.Core.List.{List}
 use mathlib.Core.Bool.{true}
-use Rattle.answers.specs.declared.Counted.{Counted}
-use Rattle.answers.specs.declared.Counted.the-variants.{Count, Refused}
-use Rattle.answers.specs.Refusals.{isCount, numberOf, countOf}
+use Rattle.answers.specs.Refusals.{isCount}
 use Rattle.answers.specs.Laws.{held-in, held-out}
+use Rattle.timecodes.specs.declared.Answer.{Answer}
+use Rattle.timecodes.specs.declared.Answer.the-variants.{At, Refused}
+use Rattle.timecodes.specs.Timecode.{placed, numberOf, timecodeOf}
 use Rattle.runtime_reading.specs.Reading.{readRuntime}
 use Rattle.runtime_reading.specs.ReadingLaws.{no-rate}
-use Rattle.runtime_reading.specs.Statements.{RefusedSix, NoShape, TooLong, RuntimeCounted, OutOfBounds, CountBounded}
+use Rattle.runtime_reading.specs.Statements.{RefusedSix, NoShape, TooLong, RuntimeCounted, OutOfBounds, CountBounded, AtRate}
 use Rattle.runtime_reading.proofs.Gives.{gives-none, gives-long, gives-count}
 use Rattle.runtime_reading.proofs.Told.{Told, told, cause}
 
@@ -26,19 +27,22 @@ too-long l rate r = (cause l rate 2 (omega arith), λ h. ap numberOf (gives-long
 
 pub runtime-counted : RuntimeCounted
 runtime-counted l rate z r = (
-  λ e. subst (Told l rate) e (told l rate),
-  λ x. gives-count l rate r z (x .0) ∙ held-in z (x .1),
+  λ e. subst (Told l rate) e (told l rate) .1,
+  λ x. gives-count l rate r z (x .0) ∙ ap (placed rate) (held-in z (x .1)),
 )
 
 pub out-of-bounds : OutOfBounds
 out-of-bounds l rate r = (
   cause l rate 5 (omega arith),
-  λ x. ap numberOf (gives-count l rate r (x .z) (x .count) ∙ held-out (x .z) (x .out)),
+  λ x. ap numberOf (gives-count l rate r (x .z) (x .count) ∙ ap (placed rate) (held-out (x .z) (x .out))),
 )
 
-bounded-by : (l : List ℕ) (rate : ℕ) (a : Counted) → Told l rate a → isCount (countOf a) ≡ true
-bounded-by l rate (Count z) t = t .1
+bounded-by : (l : List ℕ) (rate : ℕ) (a : Answer) → Told l rate a → isCount (timecodeOf a .count) ≡ true
+bounded-by l rate (At tc) t = t .1 .1
 bounded-by l rate (Refused e) t = refl
 
 pub count-bounded : CountBounded
 count-bounded l rate = bounded-by l rate (readRuntime l rate) (told l rate)
+
+pub at-rate : AtRate
+at-rate l rate tc e = subst (Told l rate) e (told l rate) .0

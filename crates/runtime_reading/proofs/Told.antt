@@ -3,19 +3,21 @@
 use Prim.Native.Nat.{ℕ, zero, suc, _<_}
 use native.Mathlib.Omega.{arith}
 use mathlib.Core.Path.{_≡_, refl, sym, subst}
-use mathlib.Core.Logic.{⊎-elim}
 use mathlib.Core.List.{List}
 use mathlib.Core.Bool.{Bool, true, false}
 use lib.IntN.{ℤ}
-use Rattle.answers.specs.declared.Counted.{Counted}
-use Rattle.answers.specs.declared.Counted.the-variants.{Count, Refused}
-use Rattle.answers.specs.Refusals.{isCount, held, numberOf}
+use Rattle.answers.specs.Refusals.{isCount, held}
 use Rattle.answers.specs.Laws.{held-in, held-out}
 use Rattle.rates.specs.Rates.{isRate}
-use Rattle.runtime_scan.specs.Shape.{RuntimeParts, RuntimeShape, someLong}
-use Rattle.runtime_scan.specs.Statements.{HasRuntimeShape}
-use Rattle.runtime_scan.proofs.Shape.{runtime-found}
-use Rattle.runtime_scan.proofs.Statements.{runtime-no-shape}
+use Rattle.timecodes.specs.declared.Answer.{Answer}
+use Rattle.timecodes.specs.declared.Answer.the-variants.{At, Refused}
+use Rattle.timecodes.specs.Timecode.{placed, numberOf}
+use Rattle.scanner.specs.declared.text.Fit.{Fit}
+use Rattle.scanner.specs.declared.text.Fit.the-variants.{Fits, TooLong, NoShape}
+use Rattle.scanner.specs.Shapes.{TextParts}
+use Rattle.scanner.proofs.Statements.{fit-told}
+use Rattle.runtime_scan.specs.Shape.{runtimeGrammar, RuntimeShape, HasRuntimeShape}
+use Rattle.runtime_scan.specs.Runtime.{runtimeScan}
 use Rattle.runtime_reading.specs.Reading.{readRuntime}
 use Rattle.runtime_reading.specs.ReadingLaws.{no-rate}
 use Rattle.runtime_reading.specs.Statements.{RuntimeCount, CountOut}
@@ -25,46 +27,40 @@ module _ (l : List ℕ) (rate : ℕ) where
   -- what each number tells; 3 and 4 are not given
   abbrev pub Cause : ℕ → Type 0
   Cause zero = Unit {0}
-  Cause (suc zero) = (p : RuntimeParts) → ¬ RuntimeShape l p
+  Cause (suc zero) = (p : TextParts) → ¬ RuntimeShape l p
   Cause (suc (suc zero)) = HasRuntimeShape l true
   Cause (suc (suc (suc zero))) = ⊥
   Cause (suc (suc (suc (suc zero)))) = ⊥
   Cause (suc (suc (suc (suc (suc zero))))) = CountOut l rate
   Cause (suc (suc (suc (suc (suc (suc n)))))) = isRate rate ≡ false
 
-  abbrev pub Told : Counted → Type 0
-  Told (Count z) = RuntimeCount l rate z × (isCount z ≡ true)
+  abbrev pub Told : Answer → Type 0
+  Told (At tc) = (tc .rate ≡ rate) × (RuntimeCount l rate (tc .count) × (isCount (tc .count) ≡ true))
   Told (Refused e) = Cause (e .number)
 
-  by-count : (z : ℤ) → RuntimeCount l rate z → (t : Bool) → isCount z ≡ t → Told (held z)
-  by-count z x true e = subst Told (sym (held-in z e)) (x, e)
-  by-count z x false e = subst Told (sym (held-out z e)) record { z = z; count = x; out = e }
+  by-count : (z : ℤ) → RuntimeCount l rate z → (t : Bool) → isCount z ≡ t → Told (placed rate (held z))
+  by-count z x true e = subst (λ a. Told (placed rate a)) (sym (held-in z e)) (refl, (x, e))
+  by-count z x false e = subst (λ a. Told (placed rate a)) (sym (held-out z e)) record { z = z; count = x; out = e }
 
-  by-length : isRate rate ≡ true → (p : RuntimeParts) → RuntimeShape l p → (t : Bool) → someLong p ≡ t → Told (readRuntime l rate)
-  by-length r p shape true e =
-      let h : HasRuntimeShape l true = record { parts = p; shape = shape; digits = e } in
-      subst Told (sym (gives-long l rate r h)) h
-  by-length r p shape false e =
-      let x = counted l rate r p shape e in
-      let z = frame l rate r p in
+  by-fit : isRate rate ≡ true → (v : Fit) → runtimeScan l .fit ≡ v → Told (readRuntime l rate)
+  unfolding runtimeScan
+  by-fit r Fits e =
+      let h = fit-told runtimeGrammar l Fits e in
+      let x = counted l rate r (h .parts) (h .shape) (h .digits) in
+      let z = frame l rate r (h .parts) in
       subst Told (sym (gives-count l rate r z x)) (by-count z x (isCount z) refl)
-
-  by-shape : isRate rate ≡ true → Told (readRuntime l rate)
-  by-shape r =
-      ⊎-elim
-      (λ e. let none = runtime-no-shape l .0 e in subst Told (sym (gives-none l rate r none)) none)
-      (λ s. by-length r (s .0) (s .1) (someLong (s .0)) refl)
-      (runtime-found l)
+  by-fit r TooLong e = let h = fit-told runtimeGrammar l TooLong e in subst Told (sym (gives-long l rate r h)) h
+  by-fit r NoShape e = let none = fit-told runtimeGrammar l NoShape e in subst Told (sym (gives-none l rate r none)) none
 
   by-rate : (t : Bool) → isRate rate ≡ t → Told (readRuntime l rate)
-  by-rate true r = by-shape r
+  by-rate true r = by-fit r (runtimeScan l .fit) refl
   by-rate false r = subst Told (sym (no-rate l rate r)) r
 
   pub told : Told (readRuntime l rate)
   told = by-rate (isRate rate) refl
 
-  number-by : (a : Counted) (n : ℕ) → Told a → 0 < n → numberOf a ≡ n → Cause n
-  number-by (Count z) n t h e = absurd (omega arith)
+  number-by : (a : Answer) (n : ℕ) → Told a → 0 < n → numberOf a ≡ n → Cause n
+  number-by (At tc) n t h e = absurd (omega arith)
   number-by (Refused f) n t h e = subst Cause e t
 
   -- a refusal's number tells its cause

@@ -3,7 +3,7 @@
 use Prim.Native.Nat.{ℕ, _*_, _≤_, _<_}
 use native.Mathlib.Nat.{mul-le-mul}
 use native.Mathlib.Omega.{arith}
-use mathlib.Core.Path.{_≡_, ap, _∙_}
+use mathlib.Core.Path.{_≡_, sym, ap, _∙_}
 use mathlib.Core.Bool.{Bool, true, false}
 use mathlib.Core.List.{List}
 use borrow.Author.Tests.{lt-leb}
@@ -13,32 +13,40 @@ use Rattle.numbers.specs.SignLaws.{abs-signed}
 use Rattle.numbers.specs.Nearest.{nearestN, nearestZ}
 use Rattle.numbers.specs.NearestLaws.{near-exact, near-mono}
 use Rattle.numbers.specs.NearestSignedLaws.{nearest-abs}
-use Rattle.answers.specs.declared.Counted.the-variants.{Refused}
-use Rattle.answers.specs.Refusals.{noSuch, outOfBounds}
+use Rattle.answers.specs.declared.Counted.the-variants as counted
+use Rattle.answers.specs.Refusals.{noSuch, outOfBounds, mostCount, held}
 use Rattle.answers.specs.Laws.{held-out}
 use Rattle.rates.specs.Rates.{isRate, rateRow}
 use Rattle.rates.specs.Rule.{sound}
+use Rattle.timecodes.specs.declared.Answer.the-variants.{Refused}
+use Rattle.timecodes.specs.Timecode.{placed}
+use Rattle.timecodes.specs.AdmittedLaws.{placed-held}
 use Rattle.runtime_scan.specs.Runtime.{runtimeScan}
-use Rattle.runtime_scan.specs.Statements.{Bounded}
-use Rattle.runtime_reading.specs.Reading.{secondsIn, timeIn, runtimeHeld, readScan, readRuntime}
+use Rattle.runtime_scan.specs.Statements.{RuntimeBounds}
+use Rattle.runtime_reading.specs.Reading.{wholeSeconds, timeIn, runtimeFrame, timeRead, readScan, readRuntime}
 
 -- ---- a text
 module _ (text : List ℕ) (rate : ℕ) where
   pub no-rate : isRate rate ≡ false → readRuntime text rate ≡ Refused noSuch
   unfolding readRuntime
-  no-rate e = rw e
+  no-rate e = simp e
 
   pub read-scanned : isRate rate ≡ true → readRuntime text rate ≡ readScan rate (runtimeScan text)
   unfolding readRuntime
-  read-scanned e = rw e
+  read-scanned e = simp e
+
+-- a time is its frame, held to the bounds
+pub timeRead-held : (rate : ℕ) (minus : Bool) (time : ℕ) → timeRead rate minus time ≡ placed rate (held (runtimeFrame rate minus time))
+unfolding timeRead
+timeRead-held rate minus time = sym (placed-held rate (runtimeFrame rate minus time))
 
 -- ---- a time that is read: fields of at most 9 digits, and a short one times the frames of a second, wrap nowhere
-module _ (fields : List ℕ) (millionths : ℕ) (b : Bounded fields millionths) where
-  pub seconds-small : secondsIn fields < 4_000_000_000_000
-  seconds-small = omega (arith, b .below 0, b .below 1, b .below 2)
+module _ (fields : List ℕ) (millionths : ℕ) (b : RuntimeBounds fields millionths) where
+  pub seconds-small : wholeSeconds fields < 4_000_000_000_000
+  seconds-small = omega (arith, b .below 1, b .below 2, b .below 3)
 
   pub product-small :
-      (rate : ℕ) → isRate rate ≡ true → secondsIn fields ≤ 20_000_000
+      (rate : ℕ) → isRate rate ≡ true → wholeSeconds fields ≤ 20_000_000
       → timeIn fields millionths * rateRow rate .numerator < 2_000_000_000_000_000_000
   product-small rate rated short =
       let most : timeIn fields millionths ≤ 20_000_001_000_000 = omega (arith, b .fraction) in
@@ -54,11 +62,11 @@ module _ (rate : ℕ) (minus : Bool) (seconds time : ℕ) (rated : isRate rate �
       let less : 23 * seconds * n ≤ time * rateRow rate .numerator = omega (arith, mul-le-mul whole (row .slowest)) in
       omega (arith, near-exact (23 * seconds) n step, near-mono (23 * seconds * n) (time * rateRow rate .numerator) n step less)
 
-  pub held-beyond : 20_000_000 < seconds → runtimeHeld rate minus time ≡ Refused outOfBounds
-  unfolding runtimeHeld
+  pub held-beyond : 20_000_000 < seconds → held (runtimeFrame rate minus time) ≡ counted.Refused outOfBounds
+  unfolding runtimeFrame
   held-beyond long =
       let a = time * rateRow rate .numerator in
       let n = 1_000_000 * rateRow rate .denominator in
       let z = nearestZ (signed minus a) n in
       let size : natAbs z ≡ nearestN a n = nearest-abs (signed minus a) n ∙ ap (λ (x : ℕ). nearestN x n) (abs-signed minus a) in
-      held-out z (lt-leb (natAbs z) 400000000 (omega (arith, size, frames-least)))
+      held-out z (lt-leb (natAbs z) mostCount (omega (arith, size, frames-least)))

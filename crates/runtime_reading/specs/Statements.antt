@@ -1,4 +1,4 @@
--- What a runtime's text reads as, by its shape: each refusal exactly, and the nearest frame. Proofs: proofs/Statements.antt.
+-- What a runtime's text reads as, by its shape (BEHAVIOUR: Time): each refusal exactly, and the nearest frame. Proofs: proofs/Statements.antt.
 -- Assumes nothing.
 use Prim.Native.Nat.{ℕ, _*_}
 use mathlib.Core.Path.{_≡_}
@@ -9,11 +9,14 @@ use lib.IntN.{ℤ}
 use Rattle.numbers.specs.Sign.{signed}
 use Rattle.numbers.specs.Nearest.{Nearest}
 use Rattle.digits.specs.Digits.{valueOf}
-use Rattle.answers.specs.declared.Counted.the-variants.{Count}
-use Rattle.answers.specs.Refusals.{isCount, numberOf, countOf}
+use Rattle.answers.specs.Refusals.{isCount}
 use Rattle.rates.specs.Rates.{isRate, rateRow}
-use Rattle.runtime_scan.specs.Shape.{RuntimeParts, RuntimeShape, rightJustified, millionthsOf, someLong}
-use Rattle.runtime_scan.specs.Statements.{HasRuntimeShape}
+use Rattle.timecodes.specs.declared.Timecode.{Timecode}
+use Rattle.timecodes.specs.declared.Answer.the-variants.{At}
+use Rattle.timecodes.specs.Timecode.{timecode, numberOf, timecodeOf}
+use Rattle.scanner.specs.Justified.{justified}
+use Rattle.scanner.specs.Shapes.{TextParts}
+use Rattle.runtime_scan.specs.Shape.{RuntimeShape, millionthsOf, runtimeLong, HasRuntimeShape}
 use Rattle.runtime_reading.specs.Reading.{timeIn, readRuntime}
 
 -- refusal 6 exactly when there is no such rate
@@ -24,7 +27,7 @@ RefusedSix = (l : List ℕ) (rate : ℕ) → (numberOf (readRuntime l rate) ≡ 
 abbrev pub NoShape : Type 0
 NoShape =
     (l : List ℕ) (rate : ℕ) → isRate rate ≡ true
-    → (numberOf (readRuntime l rate) ≡ 1) ↔ ((p : RuntimeParts) → ¬ RuntimeShape l p)
+    → (numberOf (readRuntime l rate) ≡ 1) ↔ ((p : TextParts) → ¬ RuntimeShape l p)
 
 -- refusal 2 exactly when the shape fits, but a field has over 9 digits or the fraction over 6
 abbrev pub TooLong : Type 0
@@ -32,14 +35,14 @@ TooLong = (l : List ℕ) (rate : ℕ) → isRate rate ≡ true → (numberOf (re
 
 -- ---- the count, and 5
 -- the time of a runtime's parts, in millionths of a second
-abbrev pub timeOf : RuntimeParts → ℕ
-timeOf p = timeIn (rightJustified (map valueOf (p .fields))) (millionthsOf (p .fraction))
+abbrev pub timeOf : TextParts → ℕ
+timeOf p = timeIn (justified (map valueOf (p .fields))) (millionthsOf (p .tail))
 
 -- a text is a runtime, nothing too long, and this is the frame nearest to it: its time times the frames of a second
 pub record RuntimeCount (l : List ℕ) (rate : ℕ) (z : ℤ) : Type 0 where
-  pub parts : RuntimeParts
+  pub parts : TextParts
   pub shape : RuntimeShape l parts
-  pub short : someLong parts ≡ false
+  pub short : runtimeLong parts ≡ false
   pub nearest :
       Nearest (signed (parts .minus) (timeOf parts * rateRow rate .numerator)) (1_000_000 * rateRow rate .denominator) z
 
@@ -47,7 +50,7 @@ pub record RuntimeCount (l : List ℕ) (rate : ℕ) (z : ℤ) : Type 0 where
 abbrev pub RuntimeCounted : Type 0
 RuntimeCounted =
     (l : List ℕ) (rate : ℕ) (z : ℤ) → isRate rate ≡ true
-    → (readRuntime l rate ≡ Count z) ↔ (RuntimeCount l rate z × (isCount z ≡ true))
+    → (readRuntime l rate ≡ At (timecode z rate)) ↔ (RuntimeCount l rate z × (isCount z ≡ true))
 
 -- a text has a nearest frame, and it is outside its bounds
 pub record CountOut (l : List ℕ) (rate : ℕ) : Type 0 where
@@ -61,4 +64,8 @@ OutOfBounds = (l : List ℕ) (rate : ℕ) → isRate rate ≡ true → (numberOf
 
 -- whatever the text, the count is within its bounds
 abbrev pub CountBounded : Type 0
-CountBounded = (l : List ℕ) (rate : ℕ) → isCount (countOf (readRuntime l rate)) ≡ true
+CountBounded = (l : List ℕ) (rate : ℕ) → isCount (timecodeOf (readRuntime l rate) .count) ≡ true
+
+-- and what is read is at the rate
+abbrev pub AtRate : Type 0
+AtRate = (l : List ℕ) (rate : ℕ) (tc : Timecode) → readRuntime l rate ≡ At tc → tc .rate ≡ rate

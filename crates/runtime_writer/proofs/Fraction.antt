@@ -92,7 +92,7 @@ other-last : (k n : ℕ) → (n % 10 ≡ 0 → ⊥) → (l : List ℕ) → digit
 unfolding digitsOf
 other-last k n h l e =
     let z : 48 + n % 10 ≡ 48 =
-        sym (last-snoc 0 (digitsOf k (n / 10)) (48 + n % 10)) ∙ ap (last 0) e ∙ last-snoc 0 l 48 in
+    sym (last-snoc 0 (digitsOf k (n / 10)) (48 + n % 10)) ∙ ap (last 0) e ∙ last-snoc 0 l 48 in
     absurd (h (omega arith))
 
 pub fraction-last : (k n : ℕ) (l : List ℕ) → fractionText k n ≡ l ++ (48 ∷ []) → l ≡ []

@@ -38,7 +38,7 @@ worth : (k units s : ℕ) → s ≡ units / 10 ^ k
     ≡ units
 worth k units s e =
     let clock : 3600 * valueOf (decimal 2 (clockHours s)) + 60 * valueOf (decimal 2 (clockMinutes s)) + valueOf (decimal 2 (clockSeconds s)) ≡ s =
-        omega (arith, decimal-back 2 (clockHours s), decimal-back 2 (clockMinutes s), decimal-back 2 (clockSeconds s)) in
+    omega (arith, decimal-back 2 (clockHours s), decimal-back 2 (clockMinutes s), decimal-back 2 (clockSeconds s)) in
     omega (arith, ap (λ x. x * 10 ^ k) clock, ap (λ x. x * 10 ^ k) e, div-add-mod' units (10 ^ k))
 
 pub runtime-nearest : RuntimeNearest

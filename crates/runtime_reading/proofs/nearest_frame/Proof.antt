@@ -8,11 +8,12 @@ use lib.IntN.{ℤ}
 use mir.Facts.{toZ-ofZ}
 use Rattle.numbers.specs.Sign.{signed}
 use Rattle.numbers.specs.Nearest.{nearestZ}
+use Rattle.numbers.specs.Total.{fitted-in}
 use Rattle.answers.specs.Refusals.{held}
 use Rattle.rates.specs.declared.Framerate.{Framerate}
 use Rattle.rates.specs.Rates.{rateRow}
 use Rattle.rates.specs.Rule.{sound}
-use Rattle.runtime_reading.specs.Reading.{secondsIn, timeIn, runtimeHeld}
+use Rattle.runtime_reading.specs.Reading.{wholeSeconds, timeIn, runtimeFrame}
 use Rattle.runtime_reading.specs.ReadingLaws.{seconds-small, product-small, held-beyond}
 use Rattle.runtime_reading.proofs.nearest_frame.Statement.{statement}
 use Rattle.runtime_reading.proofs.nearest_frame.Tie as tie
@@ -41,7 +42,7 @@ add-seconds-2 c = omega (arith, seconds-small (c .args .t3) (c .args .millionths
 returns : tie.Need-returns
 returns c =
     let a = c .before .args in
-    sym (held-beyond (a .rate) (a .minus) (secondsIn (a .t3)) (timeIn (a .t3) (a .millionths)) (c .before .pre .0) (omega arith) (c .if1 .taken))
+    sym (held-beyond (a .rate) (a .minus) (wholeSeconds (a .t3)) (timeIn (a .t3) (a .millionths)) (c .before .pre .0) (omega arith) (c .if1 .taken))
 
 -- the row's numbers
 numerator-is : (c : tie.After-row) → c .row .result .numerator ≡ rateRow (c .before .before .args .rate) .numerator
@@ -70,7 +71,7 @@ mul-with-sign : tie.Need-mul-with-sign
 mul-with-sign c = record { fits = omega (arith, frames-small (c .before)) }
 
 with-sign-requires : tie.Need-with-sign-requires
-with-sign-requires c κs = omega (arith, frames-small (c .before))
+with-sign-requires c κs = search needs
 
 mul-nearest-count : tie.Need-mul-nearest-count
 mul-nearest-count c =
@@ -79,13 +80,10 @@ mul-nearest-count c =
     record { fits = omega (arith, denominator-is row, sound (start .args .rate) (start .pre .0) .denominator-most) }
 
 nearest-count-requires : tie.Need-nearest-count-requires
-nearest-count-requires c κs =
-    let row = c .before .before .before in
-    let start = row .before .before in
-    omega (arith, denominator-is row, sound (start .args .rate) (start .pre .0) .denominator-pos)
+nearest-count-requires c κs = search needs
 
 returns-2 : tie.Need-returns-2
-unfolding runtimeHeld
+unfolding runtimeFrame
 returns-2 c =
     let signs = c .before .before in
     let row = signs .before .before in
@@ -95,6 +93,7 @@ returns-2 c =
     ∙ ap₂ (λ (z : ℤ) (d : ℕ). held (nearestZ z (1_000_000 * d)))
     (toZ-ofZ (record { sfits = signs .with-sign .ok })
     ∙ signs .with-sign .ensures
+    ∙ fitted-in _ (signed (a .minus) (time * row .row .result .numerator)) (omega (arith, frames-small row))
     ∙ ap (λ (n : ℕ). signed (a .minus) (time * n)) (numerator-is row))
     (denominator-is row)
 

@@ -1,16 +1,17 @@
--- `runtime_reading::read_runtime` meets its contract: its test is the definition's, and then the verdict's case.
+-- `runtime_reading::read_runtime` meets its contract: its test is the definition's, and then how the scan fits.
 -- Assumes nothing.
 use mathlib.Core.Path.{_≡_, sym, ap, _∙_, subst}
 use mathlib.Core.Bool.{true}
 use borrow.Author.Needs.{needs}
-use borrow.Author.Tests.{not-true, not-false}
+use Rattle.numbers.proofs.Tests.{fails, passes}
 use Rattle.rates.specs.Rates.{isRate}
-use Rattle.runtime_scan.specs.declared.Verdict.{Verdict}
+use Rattle.timecodes.specs.Timecode.{placed}
+use Rattle.scanner.specs.declared.text.Fit.{Fit}
 use Rattle.runtime_scan.specs.declared.RuntimeScan.{RuntimeScan}
-use Rattle.runtime_scan.specs.Statements.{Bounded}
+use Rattle.runtime_scan.specs.Statements.{RuntimeBounds}
 use Rattle.runtime_scan.proofs.Statements.{runtime-bounded}
-use Rattle.runtime_reading.specs.Reading.{timeIn, runtimeHeld, verdictRead, readScan, readRuntime}
-use Rattle.runtime_reading.specs.ReadingLaws.{no-rate, read-scanned}
+use Rattle.runtime_reading.specs.Reading.{timeIn, timeRead, byFit, readScan, readRuntime}
+use Rattle.runtime_reading.specs.ReadingLaws.{no-rate, read-scanned, timeRead-held}
 use Rattle.runtime_reading.proofs.read_runtime.Statement.{statement}
 use Rattle.runtime_reading.proofs.read_runtime.Tie as tie
 
@@ -20,28 +21,25 @@ is-rate-requires c κs = search needs
 returns : tie.Need-returns
 returns c =
     let a = c .before .before .before .args in
-    sym (no-rate (a .text .now) (a .rate) (sym (c .before .is-rate .ensures) ∙ not-true _ (c .if1 .taken)))
+    sym (no-rate (a .text .now) (a .rate) (fails (c .before .is-rate .ensures) (c .if1 .taken)))
 
 rated : (c : tie.Else1) → isRate (c .before .before .before .args .rate) ≡ true
-rated c = sym (c .before .is-rate .ensures) ∙ not-false _ (c .if1 .left)
-
--- the answer to a verdict that the scan gives is that to the text
-scanned-as : (c : tie.After-scan-runtime) (v : Verdict) → c .scan-runtime .result .verdict ≡ v
-    → verdictRead v (runtimeHeld (c .before .before .before .before .args .rate) (c .scan-runtime .result .minus) (timeIn (c .scan-runtime .result .fields) (c .scan-runtime .result .millionths)))
-    ≡ readRuntime (c .before .before .before .before .args .text .now) (c .before .before .before .before .args .rate)
-scanned-as c v e =
-    let a = c .before .before .before .before .args in
-    let scan = c .scan-runtime .result in
-    let taken = runtimeHeld (a .rate) (scan .minus) (timeIn (scan .fields) (scan .millionths)) in
-    sym (read-scanned (a .text .now) (a .rate) (rated (c .before))
-    ∙ ap (readScan (a .rate)) (sym (c .scan-runtime .ensures))
-    ∙ ap (λ (w : Verdict). verdictRead w taken) e)
+rated c = passes (c .before .is-rate .ensures) (c .if1 .left)
 
 scan-runtime-requires : tie.Need-scan-runtime-requires
 scan-runtime-requires c κs = search needs
 
-enum-known-verdict : tie.Need-enum-known-verdict
-enum-known-verdict c = search needs
+-- the answer to how the scan fits is that to the text
+scanned-as : (c : tie.After-scan-runtime) (v : Fit) → c .scan-runtime .result .fit ≡ v
+    → let a = c .before .before .before .before .args in
+    let s = c .scan-runtime .result in
+    byFit (timeRead (a .rate) (s .minus) (timeIn (s .fields) (s .millionths))) v ≡ readRuntime (a .text .now) (a .rate)
+scanned-as c v e =
+    let a = c .before .before .before .before .args in
+    let s = c .scan-runtime .result in
+    sym (read-scanned (a .text .now) (a .rate) (rated (c .before))
+    ∙ ap (readScan (a .rate)) (sym (c .scan-runtime .ensures))
+    ∙ ap (byFit (timeRead (a .rate) (s .minus) (timeIn (s .fields) (s .millionths)))) e)
 
 enum-told : tie.Need-enum-told
 enum-told c = search needs
@@ -50,13 +48,33 @@ nearest-frame-requires : tie.Need-nearest-frame-requires
 nearest-frame-requires c κs =
     let scanned = c .before .before .before in
     let a = scanned .before .before .before .before .args in
-    (rated (scanned .before), subst (λ (s : RuntimeScan). Bounded (s .fields) (s .millionths)) (sym (scanned .scan-runtime .ensures)) (runtime-bounded (a .text .now)))
+    (rated (scanned .before), subst (λ (s : RuntimeScan). RuntimeBounds (s .fields) (s .millionths)) (sym (scanned .scan-runtime .ensures)) (runtime-bounded (a .text .now)))
+
+placed-requires : tie.Need-placed-requires
+placed-requires c κs = search needs
+
+enum-told-2 : tie.Need-enum-told-2
+enum-told-2 c = search needs
+
+enum-told-3 : tie.Need-enum-told-3
+enum-told-3 c = search needs
 
 returns-2 : tie.Need-returns-2
-returns-2 c = c .nearest-frame .ensures ∙ scanned-as (c .before .before .before .before) _ (c .before .before .enum-told .given .1)
+returns-2 c =
+    let told = c .before .before .before in
+    let scanned = told .before .before in
+    let rate = scanned .before .before .before .before .args .rate in
+    let s = scanned .scan-runtime .result in
+    c .placed .ensures
+    ∙ ap (placed rate) (c .before .nearest-frame .ensures)
+    ∙ sym (timeRead-held rate (s .minus) (timeIn (s .fields) (s .millionths)))
+    ∙ scanned-as scanned _ (told .enum-told .given .1)
 
 returns-3 : tie.Need-returns-3
-returns-3 c = scanned-as (c .before .before .before) _ (c .before .verdict .given .1)
+returns-3 c = scanned-as (c .before .before) _ (c .enum-told2 .given .1)
+
+returns-4 : tie.Need-returns-4
+returns-4 c = scanned-as (c .before .before) _ (c .enum-told3 .given .1)
 
 pub read-runtime-spec : {M : Type 1} → statement M
 read-runtime-spec =
@@ -65,8 +83,11 @@ read-runtime-spec =
     is-rate-requires
     returns
     scan-runtime-requires
-    enum-known-verdict
     enum-told
     nearest-frame-requires
+    placed-requires
+    enum-told-2
+    enum-told-3
     returns-2
-    returns-3)
+    returns-3
+    returns-4)

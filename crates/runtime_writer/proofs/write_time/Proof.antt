@@ -65,7 +65,7 @@ returns c =
     let minus = c .before .before .before .before .before .before .before .before .before .below-zero .ensures ∙ ap isNeg (back (c .before .before .before .before .before .before .before .before .before .before .before .before)) in
     let units = c .before .before .before .before .before .before .units-of .ensures ∙ ap (runtimeUnits (tc .rate) (a .precision)) (size (c .before .before .before .before .before .before .before)) in
     let same =
-        ap Text (tail-runtime (tc .rate) (a .precision) (tc .count) _ _ _ _ minus units (c .before .before .before .before .before .power-of-ten .ensures) (c .before .before .before .before .shortest .ensures)) in
+    ap Text (tail-runtime (tc .rate) (a .precision) (tc .count) _ _ _ _ minus units (c .before .before .before .before .before .power-of-ten .ensures) (c .before .before .before .before .shortest .ensures)) in
     meets-same (a .line .now) (a .place) _ _ _ _ same (c .before .before .write-parts .ensures)
 
 pub write-time-spec : {M : Type 1} → statement M
