@@ -51,7 +51,7 @@ handedAnswer a = record { refused = timecodes.numberOf a; count = timecodes.time
 
 -- a footage answer carries the count together with the film format chosen
 unfoldable pub handedRead : Read → TzqRead
-handedRead a = record { refused = reading.numberOf a; count = reading.countOf a; format = reading.formatOf a }
+handedRead a = record { refused = reading.numberOf a; count = reading.timecodeOf a .count; format = reading.formatOf a }
 
 -- a refused comparison has order 0
 unfoldable pub handedOrder : Compared → TzqOrder

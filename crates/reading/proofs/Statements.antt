@@ -16,7 +16,7 @@ use Rattle.reading.specs.Answer.{numberOf, timecodeOf, asLabel, asFootag
 use Rattle.reading.specs.Shaped.{isStated}
 use Rattle.reading.specs.Reading.{readText}
 use Rattle.reading.specs.ReadingLaws.{no-rate, no-format}
-use Rattle.reading.specs.Statements.{RateAndFormat, ShapesApart, RefusedSix, NoShape, TooLong, NoPerfField, Dropped, LabelCounted, FootageCounted, CountOut, OutOfBounds, CountBounded, AtRate}
+use Rattle.reading.specs.Statements.{RateAndFormat, ShapesApart, RefusedSix, RefusedOne, RefusedTwo, RefusedFour, RefusedThree, LabelCounted, FootageCounted, CountOut, RefusedFive, CountBounded, AtRate}
 use Rattle.reading.proofs.Shapes as shapes
 use Rattle.reading.proofs.Told.{Told, told, cause}
 use Rattle.reading.proofs.Gives.{gives-none, gives-long, gives-dropped, gives-label-count, gives-no-perf, gives-footage-count}
@@ -35,17 +35,17 @@ refused-six l stated rate = (
   ⊎-elim (λ r. ap numberOf (no-rate l stated rate r)) (six-by l stated rate (isRate rate) refl),
 )
 
-pub no-shape : NoShape
-no-shape l stated rate a = (cause l stated rate 1 (omega arith), λ h. ap numberOf (gives-none l stated rate a h))
+pub refused-one : RefusedOne
+refused-one l stated rate a = (cause l stated rate 1 (omega arith), λ h. ap numberOf (gives-none l stated rate a h))
 
-pub too-long : TooLong
-too-long l stated rate a = (cause l stated rate 2 (omega arith), λ h. ap numberOf (gives-long l stated rate a h))
+pub refused-two : RefusedTwo
+refused-two l stated rate a = (cause l stated rate 2 (omega arith), λ h. ap numberOf (gives-long l stated rate a h))
 
-pub no-perf-field : NoPerfField
-no-perf-field l stated rate a = (cause l stated rate 4 (omega arith), λ x. ap numberOf (gives-no-perf l stated rate a x))
+pub refused-four : RefusedFour
+refused-four l stated rate a = (cause l stated rate 4 (omega arith), λ x. ap numberOf (gives-no-perf l stated rate a x))
 
-pub dropped : Dropped
-dropped l stated rate a = (cause l stated rate 3 (omega arith), λ x. ap numberOf (gives-dropped l stated rate a (x .0) (x .1)))
+pub refused-three : RefusedThree
+refused-three l stated rate a = (cause l stated rate 3 (omega arith), λ x. ap numberOf (gives-dropped l stated rate a (x .0) (x .1)))
 
 -- ---- the counts
 pub label-counted : LabelCounted
@@ -67,8 +67,8 @@ gives-out l stated rate a x =
     (λ c. ap numberOf (gives-footage-count l stated rate a (c .0) (x .z) (c .1) ∙ ap (asFootage rate (c .0)) (held-out (x .z) (x .out))))
     (x .count)
 
-pub out-of-bounds : OutOfBounds
-out-of-bounds l stated rate a = (cause l stated rate 5 (omega arith), gives-out l stated rate a)
+pub refused-five : RefusedFive
+refused-five l stated rate a = (cause l stated rate 5 (omega arith), gives-out l stated rate a)
 
 bounded-by : (l : List ℕ) (stated : Stated) (rate : ℕ) (r : Read) → Told l stated rate r → isCount (timecodeOf r .count) ≡ true
 bounded-by l stated rate (Label tc) t = t .1 .1

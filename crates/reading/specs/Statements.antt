@@ -49,14 +49,14 @@ HasShape Nothing l long = HasLabelShape l long ⊎ HasFootageShape l long
 HasShape (Format n) l long = HasFootageShape l long
 
 -- refusal 1 exactly when the text has no shape
-abbrev pub NoShape : Type 0
-NoShape =
+abbrev pub RefusedOne : Type 0
+RefusedOne =
     (l : List ℕ) (stated : Stated) (rate : ℕ) → RateAndFormat stated rate
     → (numberOf (readText l stated rate) ≡ 1) ↔ ((long : Bool) → ¬ HasShape stated l long)
 
 -- refusal 2 exactly when the shape fits, but a field has over 9 digits
-abbrev pub TooLong : Type 0
-TooLong =
+abbrev pub RefusedTwo : Type 0
+RefusedTwo =
     (l : List ℕ) (stated : Stated) (rate : ℕ) → RateAndFormat stated rate
     → (numberOf (readText l stated rate) ≡ 2) ↔ HasShape stated l true
 
@@ -74,8 +74,8 @@ pub record PerfRefused (l : List ℕ) (stated : Stated) : Type 0 where
   pub none : allowsPerfField (formatFor stated true) ≡ false
 
 -- refusal 4 exactly when a perf field is present, and the stated film format has none
-abbrev pub NoPerfField : Type 0
-NoPerfField =
+abbrev pub RefusedFour : Type 0
+RefusedFour =
     (l : List ℕ) (stated : Stated) (rate : ℕ) → RateAndFormat stated rate
     → (numberOf (readText l stated rate) ≡ 4) ↔ PerfRefused l stated
 
@@ -95,8 +95,8 @@ pub record DroppedText (l : List ℕ) (rate : ℕ) : Type 0 where
   pub dropped : droppedIn (dropFrames rate) fields ≡ true
 
 -- refusal 3 exactly when the text is a dropped label, no film format stated
-abbrev pub Dropped : Type 0
-Dropped =
+abbrev pub RefusedThree : Type 0
+RefusedThree =
     (l : List ℕ) (stated : Stated) (rate : ℕ) → RateAndFormat stated rate
     → (numberOf (readText l stated rate) ≡ 3) ↔ ((stated ≡ Nothing) × DroppedText l rate)
 
@@ -137,8 +137,8 @@ pub record CountOut (l : List ℕ) (stated : Stated) (rate : ℕ) : Type 0 where
   pub out : isCount z ≡ false
 
 -- refusal 5 exactly when the resulting count is outside its bounds
-abbrev pub OutOfBounds : Type 0
-OutOfBounds =
+abbrev pub RefusedFive : Type 0
+RefusedFive =
     (l : List ℕ) (stated : Stated) (rate : ℕ) → RateAndFormat stated rate
     → (numberOf (readText l stated rate) ≡ 5) ↔ CountOut l stated rate
 

@@ -12,18 +12,18 @@ use Rattle.timecodes.specs.declared.Answer.the-variants.{At, Refused}
 use Rattle.timecodes.specs.Timecode.{placed, numberOf, timecodeOf}
 use Rattle.runtime_reading.specs.Reading.{readRuntime}
 use Rattle.runtime_reading.specs.ReadingLaws.{no-rate}
-use Rattle.runtime_reading.specs.Statements.{RefusedSix, NoShape, TooLong, RuntimeCounted, OutOfBounds, CountBounded, AtRate}
+use Rattle.runtime_reading.specs.Statements.{RefusedSix, RefusedOne, RefusedTwo, RuntimeCounted, RefusedFive, CountBounded, AtRate}
 use Rattle.runtime_reading.proofs.Gives.{gives-none, gives-long, gives-count}
 use Rattle.runtime_reading.proofs.Told.{Told, told, cause}
 
 pub refused-six : RefusedSix
 refused-six l rate = (cause l rate 6 (omega arith), λ r. ap numberOf (no-rate l rate r))
 
-pub no-shape : NoShape
-no-shape l rate r = (cause l rate 1 (omega arith), λ h. ap numberOf (gives-none l rate r h))
+pub refused-one : RefusedOne
+refused-one l rate r = (cause l rate 1 (omega arith), λ h. ap numberOf (gives-none l rate r h))
 
-pub too-long : TooLong
-too-long l rate r = (cause l rate 2 (omega arith), λ h. ap numberOf (gives-long l rate r h))
+pub refused-two : RefusedTwo
+refused-two l rate r = (cause l rate 2 (omega arith), λ h. ap numberOf (gives-long l rate r h))
 
 pub runtime-counted : RuntimeCounted
 runtime-counted l rate z r = (
@@ -31,8 +31,8 @@ runtime-counted l rate z r = (
   λ x. gives-count l rate r z (x .0) ∙ ap (placed rate) (held-in z (x .1)),
 )
 
-pub out-of-bounds : OutOfBounds
-out-of-bounds l rate r = (
+pub refused-five : RefusedFive
+refused-five l rate r = (
   cause l rate 5 (omega arith),
   λ x. ap numberOf (gives-count l rate r (x .z) (x .count) ∙ ap (placed rate) (held-out (x .z) (x .out))),
 )

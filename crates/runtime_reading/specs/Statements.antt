@@ -24,14 +24,14 @@ abbrev pub RefusedSix : Type 0
 RefusedSix = (l : List ℕ) (rate : ℕ) → (numberOf (readRuntime l rate) ≡ 6) ↔ (isRate rate ≡ false)
 
 -- at a rate, refusal 1 exactly when the text has no shape
-abbrev pub NoShape : Type 0
-NoShape =
+abbrev pub RefusedOne : Type 0
+RefusedOne =
     (l : List ℕ) (rate : ℕ) → isRate rate ≡ true
     → (numberOf (readRuntime l rate) ≡ 1) ↔ ((p : TextParts) → ¬ RuntimeShape l p)
 
 -- refusal 2 exactly when the shape fits, but a field has over 9 digits or the fraction over 6
-abbrev pub TooLong : Type 0
-TooLong = (l : List ℕ) (rate : ℕ) → isRate rate ≡ true → (numberOf (readRuntime l rate) ≡ 2) ↔ HasRuntimeShape l true
+abbrev pub RefusedTwo : Type 0
+RefusedTwo = (l : List ℕ) (rate : ℕ) → isRate rate ≡ true → (numberOf (readRuntime l rate) ≡ 2) ↔ HasRuntimeShape l true
 
 -- ---- the count, and 5
 -- the time of a runtime's parts, in millionths of a second
@@ -59,8 +59,8 @@ pub record CountOut (l : List ℕ) (rate : ℕ) : Type 0 where
   pub out : isCount z ≡ false
 
 -- refusal 5 exactly when the resulting count is outside its bounds
-abbrev pub OutOfBounds : Type 0
-OutOfBounds = (l : List ℕ) (rate : ℕ) → isRate rate ≡ true → (numberOf (readRuntime l rate) ≡ 5) ↔ CountOut l rate
+abbrev pub RefusedFive : Type 0
+RefusedFive = (l : List ℕ) (rate : ℕ) → isRate rate ≡ true → (numberOf (readRuntime l rate) ≡ 5) ↔ CountOut l rate
 
 -- whatever the text, the count is within its bounds
 abbrev pub CountBounded : Type 0

@@ -26,16 +26,16 @@ wide-requires c κs = search needs
 returns : tie.Need-returns
 unfolding handedRead
 returns c =
-    let z = c .before .a .given .0 .0 in
+    let z = c .before .before .a .given .0 .0 .count in
     let back : toZ w64 (ofZ w64 z) ≡ z = search needs in
-    simp (back, c .before .a .given .1)
+    simp (back, c .before .before .a .given .1)
 
 returns-2 : tie.Need-returns-2
 unfolding handedRead
 returns-2 c =
-    let z = c .before .before .a2 .given .0 .0 in
+    let z = c .before .before .before .a2 .given .0 .0 .count in
     let back : toZ w64 (ofZ w64 z) ≡ z = search needs in
-    simp (back, c .number .ensures, c .before .before .a2 .given .1)
+    simp (back, c .before .number .ensures, c .before .before .before .a2 .given .1)
 
 returns-3 : tie.Need-returns-3
 unfolding handedRead
