@@ -2,7 +2,7 @@
 -- Assumes nothing.
 use Prim.Native.Nat.{max}
 use mathlib.Core.Path.{sym, ap, _∙_}
-use Rattle.digits.specs.Statements.{AllDigits, DigitsBack, ValueBack, DecimalLength, WidthIs, DecimalPadded}
+use Rattle.digits.specs.Statements.{AllDigits, DecimalBack, ValueBack, DecimalLength, WidthIs, DecimalPadded}
 use Rattle.digits.specs.Digits as digits
 use Rattle.digits.proofs.Values as values
 use Rattle.digits.proofs.Width as width
@@ -10,8 +10,8 @@ use Rattle.digits.proofs.Width as width
 pub all-digits : AllDigits
 all-digits = values.digits-all
 
-pub digits-back : DigitsBack
-digits-back = width.decimal-back
+pub decimal-back : DecimalBack
+decimal-back = width.decimal-back
 
 pub value-back : ValueBack
 value-back = values.value-back

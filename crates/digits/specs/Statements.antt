@@ -12,8 +12,8 @@ abbrev pub AllDigits : Type 0
 AllDigits = (k n : ℕ) → allDigits (digitsOf k n) ≡ true
 
 -- a number written and read is the number
-abbrev pub DigitsBack : Type 0
-DigitsBack = (k n : ℕ) → valueOf (decimal k n) ≡ n
+abbrev pub DecimalBack : Type 0
+DecimalBack = (k n : ℕ) → valueOf (decimal k n) ≡ n
 
 -- digits read and written, as many as they are, are these digits
 abbrev pub ValueBack : Type 0

@@ -18,7 +18,7 @@ use Rattle.footage_writer.specs.FootageText.{footageText}
 
 -- a footage is a sign, feet unpadded, `+`, frames of two digits at least, and a marker; feet and frames, counted in the format, are the
 -- absolute count; the marker of 3-perf is `.` and feet modulo 3, and no other format has one
-pub record FootageShape (format : FilmFormat) (count : ℤ) : Type 0 where
+pub record WrittenFootage (format : FilmFormat) (count : ℤ) : Type 0 where
   pub feet : List ℕ
   pub frames : List ℕ
   pub marker : List ℕ
@@ -31,7 +31,7 @@ pub record FootageShape (format : FilmFormat) (count : ℤ) : Type 0 where
 
 -- every footage that is written has this shape
 abbrev pub FootageIs : Type 0
-FootageIs = (format : FilmFormat) (count : ℤ) → FootageShape format count
+FootageIs = (format : FilmFormat) (count : ℤ) → WrittenFootage format count
 
 -- a line with fourteen bytes from its place on has room for the footage of any count within the bounds
 abbrev pub FourteenBytes : Type 0

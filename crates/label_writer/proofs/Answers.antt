@@ -1,6 +1,6 @@
 -- The fields of a label at a rate, its text by them, and how long the text is.
 -- Assumes nothing.
-use Prim.Native.Nat.{ℕ, _+_, _≤_, _<_, max}
+use Prim.Native.Nat.{ℕ, _+_, _^_, _≤_, _<_}
 use mathlib.Core.Path.{_≡_, refl}
 use mathlib.Core.Bool.{Bool, true}
 use mathlib.Core.List.{List, _∷_, _++_, append-assoc}
@@ -23,6 +23,7 @@ use Rattle.digits.specs.Digits.{width, decimal}
 use Rattle.written.specs.Parts.{signText, fieldText}
 use Rattle.written.specs.Clock.{clockText}
 use Rattle.written.specs.Written.{Text, NoText}
+use Rattle.written.proofs.Parts.{field-most, clock-most}
 use Rattle.label_writer.specs.declared.TimecodeSections.{TimecodeSections}
 use Rattle.label_writer.specs.Sections.{labelFields, labelSections}
 use Rattle.label_writer.specs.LabelText.{framesMark, sectionsText, sectionsLength, labelText, labelWhen, labelDraft}
@@ -65,6 +66,10 @@ sections-length mark s = length-append (clockText (s .negative) (s .hours) (s .m
 
 pub sections-same : (mark : ℕ) (s : TimecodeSections) → sectionsLength s ≡ length (sectionsText mark s)
 sections-same mark s = omega (arith, sections-length mark s, sections-length 58 s)
+
+pub sections-most : (s : TimecodeSections) → s .hours < 2 ^ 64 → s .minutes < 2 ^ 64 → s .seconds < 2 ^ 64 → s .frames < 2 ^ 64 → sectionsLength s ≤ 84
+sections-most s a b c d =
+    omega (arith, sections-length 58 s, clock-most (s .negative) (s .hours) (s .minutes) (s .seconds) a b c, field-most (s .frames) d)
 
 -- that of a timecode that is admitted is drafted
 pub draft-text : (tc : Timecode) → Valid tc → labelDraft tc ≡ Text (labelText (tc .rate) (tc .count))

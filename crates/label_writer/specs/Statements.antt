@@ -32,7 +32,7 @@ pub record MarkAt : Type 0 where
 
 -- a label is a sign and four fields of two digits at least, `:` between them but the mark of its rate before frames; and the fields are
 -- those of the one allowed label whose count is the absolute count
-pub record LabelShape (rate : ℕ) (count : ℤ) : Type 0 where
+pub record WrittenLabel (rate : ℕ) (count : ℤ) : Type 0 where
   pub hours : List ℕ
   pub minutes : List ℕ
   pub seconds : List ℕ
@@ -48,7 +48,7 @@ pub record LabelShape (rate : ℕ) (count : ℤ) : Type 0 where
 
 -- every label that is written at a rate has this shape
 abbrev pub LabelIs : Type 0
-LabelIs = (rate : ℕ) (count : ℤ) → isRate rate ≡ true → LabelShape rate count
+LabelIs = (rate : ℕ) (count : ℤ) → isRate rate ≡ true → WrittenLabel rate count
 
 -- a label is as long as its sign, its hours in two digits at least, and three marks with two digits each
 abbrev pub LabelLength : Type 0

@@ -15,25 +15,25 @@ use Rattle.digits.proofs.Runs.{run-nine}
 use Rattle.answers.specs.Refusals.{noShape}
 use Rattle.reading.specs.declared.Stated.the-variants.{Nothing}
 use Rattle.reading.specs.Reading.{readText}
-use Rattle.lines.specs.declared.Line.the-variants.{Refused}
-use Rattle.lines.specs.Input.{isBegun, rateIn, textIn, isLine, timecode, orElse, lineOf}
+use Rattle.timecodes.specs.declared.Answer.the-variants.{Refused}
+use Rattle.lines.specs.Input.{isBegun, rateIn, textIn, isLine, lineHolds, lineOf}
 
 -- ---- lines that are none
-pub too-long : (l : List ℕ) → 64 < length l → isLine l ≡ false
+pub long-none : (l : List ℕ) → 64 < length l → isLine l ≡ false
 unfolding isLine
-too-long l h = ap (λ (t : Bool). t && isBegun l) (lt-leb (length l) 64 h)
+long-none l h = ap (λ (t : Bool). t && isBegun l) (lt-leb (length l) 64 h)
 
 none : (s t : Bool) → (s && (t && false)) ≡ false
 none true true = refl
 none true false = refl
 none false t = refl
 
-pub too-short : (l : List ℕ) → length l < 3 → isLine l ≡ false
+pub short-none : (l : List ℕ) → length l < 3 → isLine l ≡ false
 unfolding isLine
-too-short [] h = none (leb (length {A = ℕ} []) 64) (allDigits [])
-too-short (a ∷ []) h = none (leb (length (a ∷ [])) 64) (allDigits (a ∷ []))
-too-short (a ∷ b ∷ []) h = none (leb (length (a ∷ b ∷ [])) 64) (allDigits (a ∷ b ∷ []))
-too-short (a ∷ b ∷ s ∷ l) h = absurd (omega arith)
+short-none [] h = none (leb (length {A = ℕ} []) 64) (allDigits [])
+short-none (a ∷ []) h = none (leb (length (a ∷ [])) 64) (allDigits (a ∷ []))
+short-none (a ∷ b ∷ []) h = none (leb (length (a ∷ b ∷ [])) 64) (allDigits (a ∷ b ∷ []))
+short-none (a ∷ b ∷ s ∷ l) h = absurd (omega arith)
 
 -- ---- lines of 3 to 64 bytes, byte by byte
 in-turn : (x y z : Bool) → ((x && (y && true)) && z) ≡ (x && (y && z))
@@ -72,7 +72,7 @@ module _ (l : List ℕ) (least : 3 ≤ length l) (most : length l ≤ 64) where
 -- ---- what a line has
 pub line-least : (l : List ℕ) → isLine l ≡ true → 3 ≤ length l
 line-least l e =
-    by-contra 3 (length l) (λ k. let f = too-short l k in let z : _≡_ {A = ℕ} 0 1 = cc in omega arith)
+    by-contra 3 (length l) (λ k. let f = short-none l k in let z : _≡_ {A = ℕ} 0 1 = cc in omega arith)
 
 -- a space is no digit
 space-stops : (l : List ℕ) → firstIs (λ b. eqb b 32) l ≡ true → digitFirst l ≡ false
@@ -89,11 +89,11 @@ rate-run l e =
 -- ---- what it holds
 pub not-line : (l : List ℕ) → isLine l ≡ false → lineOf l ≡ Refused noShape
 unfolding lineOf
-not-line l e = ap (λ (t : Bool). orElse t noShape (timecode (rateIn l) (readText (textIn l) Nothing (rateIn l)))) e
+not-line l e = rw e
 
-pub line-held : (l : List ℕ) → isLine l ≡ true → lineOf l ≡ timecode (rateIn l) (readText (textIn l) Nothing (rateIn l))
+pub line-held : (l : List ℕ) → isLine l ≡ true → lineOf l ≡ lineHolds (readText (textIn l) Nothing (rateIn l))
 unfolding lineOf
-line-held l e = ap (λ (t : Bool). orElse t noShape (timecode (rateIn l) (readText (textIn l) Nothing (rateIn l)))) e
+line-held l e = rw e
 
 -- ---- a line made of its parts
 module _ (rate : ℕ) (text : List ℕ) where
@@ -118,5 +118,5 @@ module _ (rate : ℕ) (text : List ℕ) where
       let n : length made ≤ 64 = omega (arith, length-append (digitsOf 2 rate) (32 ∷ text), digits-length 2 rate) in
       rw (le-leb (length made) 64 n, two, digits-all 2 rate, behind)
 
-  pub made-read : rate < 100 → length text ≤ 61 → lineOf made ≡ timecode rate (readText text Nothing rate)
-  made-read h k = line-held made (made-line k) ∙ ap₂ (λ (r : ℕ) (t : List ℕ). timecode r (readText t Nothing r)) (made-rate h) made-text
+  pub made-read : rate < 100 → length text ≤ 61 → lineOf made ≡ lineHolds (readText text Nothing rate)
+  made-read h k = line-held made (made-line k) ∙ ap₂ (λ (r : ℕ) (t : List ℕ). lineHolds (readText t Nothing r)) (made-rate h) made-text

@@ -1,7 +1,5 @@
 pub mod Begun
-pub mod Texts
-pub mod Copying
-pub mod Labelled
 pub mod Held
+pub mod Texts
 pub mod Statements
 pub mod Determined

@@ -1,21 +1,19 @@
--- What a line of input holds: the line program reads lines of two digits of rate, a space, a text.
+-- What a line of input holds (BEHAVIOUR: The line program): two digits of rate, a space, a text.
 -- Assumes nothing.
 use Prim.Native.Nat.{ℕ}
-use mathlib.Core.List.{List}
-use mathlib.Core.Bool.{Bool, true, false, _&&_}
+use mathlib.Core.List.{List, [], _∷_}
+use mathlib.Core.Bool.{Bool, not, _&&_}
 use lib.ListN.{length, take, drop}
 use lib.Dec.{leb, eqb}
-use lib.IntN.{pos}
 use Rattle.digits.specs.Digits.{allDigits, valueOf, firstIs}
-use Rattle.answers.specs.declared.Refusal.{Refusal}
+use Rattle.answers.specs.Order.{Condition, when, unless}
 use Rattle.answers.specs.Refusals.{noShape}
-use Rattle.rates.specs.declared.Timecode.{Timecode}
+use Rattle.timecodes.specs.declared.Answer.{Answer}
+use Rattle.timecodes.specs.declared.Answer.the-variants.{At, Refused}
 use Rattle.reading.specs.declared.Stated.the-variants.{Nothing}
 use Rattle.reading.specs.declared.Read.{Read}
 use Rattle.reading.specs.declared.Read.the-variants as read
 use Rattle.reading.specs.Reading.{readText}
-use Rattle.lines.specs.declared.Line.{Line}
-use Rattle.lines.specs.declared.Line.the-variants.{Holds, Refused}
 
 -- ---- its parts
 -- two digits of rate, a space, a text
@@ -33,28 +31,16 @@ unfoldable pub isLine : List ℕ → Bool
 isLine line = leb (length line) 64 && isBegun line
 
 -- ---- what it holds
--- a count at the rate, whether a label's or a footage's
-abbrev pub timecode : (rate : ℕ) → Read → Line
-timecode rate (read.Label z) = Holds (record { count = z; rate = rate })
-timecode rate (read.Footage z format) = Holds (record { count = z; rate = rate })
-timecode rate (read.Refused e) = Refused e
+-- a timecode, whether a label's or a footage's
+abbrev pub lineHolds : Read → Answer
+lineHolds (read.Label tc) = At tc
+lineHolds (read.Footage tc format) = At tc
+lineHolds (read.Refused e) = Refused e
 
--- a test, and the refusal that is given where it fails, before all that follows
-abbrev pub orElse : Bool → Refusal → Line → Line
-orElse true e rest = rest
-orElse false e rest = Refused e
+-- 1: a line over 64 bytes, or not so begun
+abbrev pub badLine : List ℕ → Condition
+badLine line = when noShape (not (isLine line))
 
--- lines over 64 bytes, or not so begun, get 1, before any 6; else the text is read at the rate, and no film format is stated
-unfoldable pub lineOf : List ℕ → Line
-lineOf line =
-    orElse (isLine line) noShape
-    (timecode (rateIn line) (readText (textIn line) Nothing (rateIn line)))
-
--- the document's number of an answer (0: not refused), and its timecode (a refusal's numbers are 0)
-abbrev pub numberOf : Line → ℕ
-numberOf (Holds tc) = 0
-numberOf (Refused e) = e .number
-
-abbrev pub timecodeOf : Line → Timecode
-timecodeOf (Holds tc) = tc
-timecodeOf (Refused e) = record { count = pos 0; rate = 0 }
+-- it gets 1, before any 6; else the text is read at the rate, and no film format is stated
+unfoldable pub lineOf : List ℕ → Answer
+lineOf line = unless Refused (badLine line ∷ []) (lineHolds (readText (textIn line) Nothing (rateIn line)))

@@ -1,4 +1,4 @@
--- What holds of every answer beyond one call: the statements. Proofs: proofs/Statements.antt.
+-- What holds of every answer beyond one call (BEHAVIOUR: The line program): the statements. Proofs: proofs/Statements.antt.
 -- Assumes nothing.
 use Prim.Native.Nat.{ℕ, _≤_, _<_}
 use mathlib.Core.Path.{_≡_}
@@ -8,14 +8,14 @@ use lib.ListN.{length}
 use Rattle.digits.specs.Digits.{digitsOf}
 use Rattle.reading.specs.declared.Stated.the-variants.{Nothing}
 use Rattle.reading.specs.Reading.{readText}
-use Rattle.lines.specs.Input.{isLine, timecode, lineOf}
+use Rattle.lines.specs.Input.{isLine, lineHolds, lineOf}
 use Rattle.lines.specs.Output.{bytesOf, answerText}
 
 -- two digits of rate, a space and a text of at most 61 bytes are a line, and it holds what the text reads as at that rate
 abbrev pub ReadAtRate : Type 0
 ReadAtRate =
     (rate : ℕ) (text : List ℕ) → rate < 100 → length text ≤ 61
-    → lineOf (digitsOf 2 rate ++ (32 ∷ text)) ≡ timecode rate (readText text Nothing rate)
+    → lineOf (digitsOf 2 rate ++ (32 ∷ text)) ≡ lineHolds (readText text Nothing rate)
 
 -- a line over 64 bytes, or not so begun, is refused 1, whatever its rate
 abbrev pub NotBegun : Type 0

@@ -2,39 +2,56 @@
 // refused 8, where the answer has no room.
 ghost use mathlib.Core.Path.{_≡_};
 ghost use mathlib.Core.Bool.{true};
-ghost use mathlib.Core.List.{_∷_, _++_};
-ghost use Prim.Native.Nat.{_+_, _≤_};
+ghost use mathlib.Core.List.{_∷_, [], _++_};
+ghost use Prim.Native.Nat.{_≤_};
 ghost use lib.ListN.{length};
-ghost use Rattle.lent.specs.Line.{front};
-ghost use Rattle.time.specs.Instant.{Bounded};
-ghost use Rattle.label_writer.specs.LabelText.{labelText};
+ghost use Rattle.lent.specs.Line.{laid};
+ghost use Rattle.timecodes.specs.Admitted.{Valid};
+ghost use Rattle.label_writer.specs.LabelText.{framesMark, sectionsText};
 ghost use Rattle.written.specs.Written.{Text, answerTo, lineTo};
-ghost use Rattle.lines.specs.Input.{isLine, rateIn, timecode, lineOf};
-ghost use Rattle.lines.specs.Output.{signedText, lastText, columnsText, timecodeText, refusedText, answerText};
-use answers::Refusal;
+ghost use Rattle.lines.specs.Input.{isLine, rateIn, lineHolds, lineOf};
+ghost use Rattle.lines.specs.Output.{timecodeText, refusedText, answerText, endedText, columnsOf, columnsText};
 use label_writer::Sectioned;
-use rates::Timecode;
+use label_writer::TimecodeSections;
 use reading::Read;
 use reading::Stated;
+use timecodes::Answer;
+use timecodes::Timecode;
 use written::Written;
 
-// What a line of input holds: a timecode, or why there is none.
-pub enum Line {
-    Holds(Timecode),
-    Refused(Refusal),
+// The three columns of an answer: a count by sign and magnitude, the sections of a label at a rate, ticks by sign and magnitude.
+struct Columns {
+    below: bool,
+    count: u64,
+    sections: TimecodeSections,
+    rate: u64,
+    minus: bool,
+    ticks: u64,
+}
+
+// The answer to a line of input, laid down from `place` on: its length, and every byte of `out` afterwards.
+// Refuses 8: place plus text length exceeds the length of `out`.
+pub fn answer(input: &[u8], out: &mut [u8], place: usize) -> Written
+    ensures answer { λ r. ⌜ r ≡ answerTo (now (out .entry)) place (Text (answerText (now (input .entry)))) ⌝ }
+    ensures line { λ r. ⌜ now (out .exit) ≡ lineTo (now (out .entry)) place (Text (answerText (now (input .entry)))) ⌝ }
+{
+    match read_line(input) {
+        Answer::At(tc) => write_timecode(tc, out, place),
+        Answer::Refused(e) => write_refused(wide(e.number), out, place),
+    }
 }
 
 // What a line of input holds, its newline not counted. Refuses 1: it has over 64 bytes, or does not begin with two digits of rate and a
 // space; else as its text is refused at this rate, no film format stated.
-pub fn read_line(input: &[u8]) -> Line
+fn read_line(input: &[u8]) -> Answer
     ensures answer { λ r. ⌜ r ≡ lineOf (now (input .entry)) ⌝ }
 {
     if !is_line(input) {
-        return Line::Refused(answers::NO_SHAPE);
+        return Answer::Refused(answers::NO_SHAPE);
     }
     let rate = rate_in(input);
     let read = reading::read_text(&input[3..], Stated::Nothing, rate);
-    at_rate(rate, read)
+    line_holds(read)
 }
 
 // Has the line at most 64 bytes, and does it begin with two digits and a space?
@@ -66,141 +83,98 @@ fn rate_in(input: &[u8]) -> u64
 }
 
 // A text's answer as that of its line: a label and a footage hold a timecode alike.
-fn at_rate(rate: u64, read: Read) -> Line
-    ensures answer { λ r. ⌜ r ≡ timecode rate read ⌝ }
+fn line_holds(read: Read) -> Answer
+    ensures answer { λ r. ⌜ r ≡ lineHolds read ⌝ }
 {
     match read {
-        Read::Label(count) => Line::Holds(Timecode { count, rate }),
-        Read::Footage(count, _) => Line::Holds(Timecode { count, rate }),
-        Read::Refused(e) => Line::Refused(e),
+        Read::Label(tc) => Answer::At(tc),
+        Read::Footage(tc, _) => Answer::At(tc),
+        Read::Refused(e) => Answer::Refused(e),
     }
 }
 
-// The answer to a line of input, laid down from `place` on: its length, and every byte of `out` afterwards.
-// Refuses 8: place plus text length exceeds the length of `out`.
-pub fn answer(input: &[u8], out: &mut [u8], place: usize) -> Written
-    ensures answer { λ r. ⌜ r ≡ answerTo (now (out .entry)) place (Text (answerText (now (input .entry)))) ⌝ }
-    ensures line { λ r. ⌜ now (out .exit) ≡ lineTo (now (out .entry)) place (Text (answerText (now (input .entry)))) ⌝ }
-{
-    match read_line(input) {
-        Line::Holds(tc) => write_timecode(tc, out, place),
-        Line::Refused(e) => write_refused(wide(e.number), out, place),
-    }
-}
-
-// Count, label and ticks of a timecode, laid down from `place` on. Asks a rate, and a count within its bounds.
+// Count, label and ticks of a timecode, laid down from `place` on. Asks a timecode that is admitted: its sections are never refused.
 fn write_timecode(tc: Timecode, out: &mut [u8], place: usize) -> Written
-    requires bounded { ⌜ Bounded tc ⌝ }
+    requires timecode { ⌜ Valid tc ⌝ }
     ensures answer { λ r. ⌜ r ≡ answerTo (now (out .entry)) place (Text (timecodeText tc)) ⌝ }
     ensures line { λ r. ⌜ now (out .exit) ≡ lineTo (now (out .entry)) place (Text (timecodeText tc)) ⌝ }
 {
-    let instant = time::instant_of(tc);
-    let minus = numbers::below_zero(instant);
-    let ticks = numbers::magnitude(instant);
-    write_columns(tc, minus, ticks, out, place)
+    match label_writer::sections(tc) {
+        Sectioned::Sections(s) => write_columns(columns_of(tc, s), out, place),
+        Sectioned::Refused(e) => Written::Refused(e),
+    }
 }
 
-// Count, label and these ticks, laid down from `place` on: their length first, one test of room, then the rest is lent on. Asks the same.
-fn write_columns(tc: Timecode, minus: bool, ticks: u64, out: &mut [u8], place: usize) -> Written
-    requires bounded { ⌜ Bounded tc ⌝ }
-    ensures answer { λ r. ⌜ r ≡ answerTo (now (out .entry)) place (Text (columnsText tc minus ticks)) ⌝ }
-    ensures line { λ r. ⌜ now (out .exit) ≡ lineTo (now (out .entry)) place (Text (columnsText tc minus ticks)) ⌝ }
+// The columns of a timecode and the sections of its label.
+fn columns_of(tc: Timecode, s: TimecodeSections) -> Columns
+    ensures answer { λ r. ⌜ r ≡ columnsOf tc s ⌝ }
 {
-    let n = label_length(tc);
-    let below = numbers::below_zero(tc.count);
-    let count = numbers::magnitude(tc.count);
-    let need = signed_length(below, count) + n + signed_length(minus, ticks) + 3;
+    let instant = timecodes::instant_of(tc);
+    Columns {
+        below: numbers::below_zero(tc.count),
+        count: numbers::magnitude(tc.count),
+        sections: s,
+        rate: tc.rate,
+        minus: numbers::below_zero(instant),
+        ticks: numbers::magnitude(instant),
+    }
+}
+
+// The columns laid down from `place` on: their length first, one test of room, then the rest is lent on.
+fn write_columns(c: Columns, out: &mut [u8], place: usize) -> Written
+    ensures answer { λ r. ⌜ r ≡ answerTo (now (out .entry)) place (Text (columnsText c)) ⌝ }
+    ensures line { λ r. ⌜ now (out .exit) ≡ lineTo (now (out .entry)) place (Text (columnsText c)) ⌝ }
+{
+    let need = columns_length(c);
     if lent::room(out.len(), place, need) {
-        put_timecode(&mut out[place..], tc, n, minus, ticks);
+        put_columns(&mut out[place..], c);
         return Written::Length(need);
     }
     Written::Refused(answers::NO_ROOM)
 }
 
-// How many bytes the label has. Asks a rate, and a count within its bounds.
-fn label_length(tc: Timecode) -> usize
-    requires bounded { ⌜ Bounded tc ⌝ }
-    ensures answer { λ r. ⌜ r ≡ length (labelText (tc .rate) (tc .count)) ⌝ }
+// How many bytes the columns have, with the bytes behind them.
+fn columns_length(c: Columns) -> usize
+    ensures answer { λ r. ⌜ r ≡ length (columnsText c) ⌝ }
 {
-    match label_writer::sections(tc) {
-        Sectioned::Sections(s) => written::sign_length(s.negative)
-            + digits::width_of(2, s.hours)
-            + 9,
-        Sectioned::Refused(_) => 0,
-    }
+    let s = c.sections;
+    written::signed_length(c.below, c.count)
+        + label_writer::sections_length(s)
+        + written::signed_length(c.minus, c.ticks)
+        + 3
 }
 
-// How many bytes a number has, its sign with it.
-fn signed_length(minus: bool, m: u64) -> usize
-    ensures answer { λ r. ⌜ r ≡ length (signedText minus m) ⌝ }
+// The columns at the front of a part; every other byte stays. Asks their room.
+fn put_columns(part: &mut [u8], c: Columns)
+    requires room { ⌜ length (columnsText c) ≤ length (now part) ⌝ }
+    ensures line { λ _. ⌜ now (part .exit) ≡ laid (now (part .entry)) (columnsText c) ⌝ }
 {
-    written::sign_length(minus) + digits::width_of(1, m)
+    let s = c.sections;
+    let first = written::signed_length(c.below, c.count) + 1;
+    let second = first + label_writer::sections_length(s) + 1;
+    put_ended(part, c.below, c.count, b' ');
+    put_label(&mut part[first..], s, c.rate);
+    put_ended(&mut part[second..], c.minus, c.ticks, b'\n');
 }
 
-// Count, label of n bytes, and ticks at the front of a part; every other byte stays. Asks a timecode within its bounds, and room.
-fn put_timecode(part: &mut [u8], tc: Timecode, n: usize, minus: bool, ticks: u64)
-    requires bounded { ⌜ Bounded tc ⌝ }
-    requires label { ⌜ n ≡ length (labelText (tc .rate) (tc .count)) ⌝ }
-    requires room { ⌜ length (columnsText tc minus ticks) ≤ length (now part) ⌝ }
-    ensures line { λ _. ⌜ now (part .exit) ≡ front (now (part .entry)) (columnsText tc minus ticks) ⌝ }
+// A number and the byte behind it at the front of a part; every other byte stays. Asks their room.
+fn put_ended(part: &mut [u8], minus: bool, m: u64, end: u8)
+    requires room { ⌜ length (endedText minus m end) ≤ length (now part) ⌝ }
+    ensures line { λ _. ⌜ now (part .exit) ≡ laid (now (part .entry)) (endedText minus m end) ⌝ }
 {
-    let below = numbers::below_zero(tc.count);
-    let count = numbers::magnitude(tc.count);
-    let at = signed_length(below, count);
-    put_signed(part, below, count);
-    put_label_ticks(&mut part[at..], tc, n, minus, ticks);
+    let at = written::signed_length(minus, m);
+    written::put_signed(part, minus, m);
+    lent::put_byte(&mut part[at..], end);
 }
 
-// Label of n bytes and ticks, each behind a space, at the front of a part; every other byte stays. Asks the same.
-fn put_label_ticks(part: &mut [u8], tc: Timecode, n: usize, minus: bool, ticks: u64)
-    requires bounded { ⌜ Bounded tc ⌝ }
-    requires label { ⌜ n ≡ length (labelText (tc .rate) (tc .count)) ⌝ }
-    requires room { ⌜ n + length (lastText minus ticks) + 2 ≤ length (now part) ⌝ }
-    ensures line { λ _. ⌜ now (part .exit) ≡ front (now (part .entry)) (32 ∷ labelText (tc .rate) (tc .count) ++ (32 ∷ lastText minus ticks)) ⌝ }
+// A label and the space behind it at the front of a part; every other byte stays. Asks their room.
+fn put_label(part: &mut [u8], s: TimecodeSections, rate: u64)
+    requires room { ⌜ length (sectionsText (framesMark rate) s ++ (32 ∷ [])) ≤ length (now part) ⌝ }
+    ensures line { λ _. ⌜ now (part .exit) ≡ laid (now (part .entry)) (sectionsText (framesMark rate) s ++ (32 ∷ [])) ⌝ }
 {
-    let at = n + 1;
-    put_label(part, tc);
-    put_ticks(&mut part[at..], minus, ticks);
-}
-
-// A space and the label at the front of a part; every other byte stays. Asks a timecode within its bounds, and room.
-fn put_label(part: &mut [u8], tc: Timecode)
-    requires bounded { ⌜ Bounded tc ⌝ }
-    requires room { ⌜ length (labelText (tc .rate) (tc .count)) + 1 ≤ length (now part) ⌝ }
-    ensures line { λ _. ⌜ now (part .exit) ≡ front (now (part .entry)) (32 ∷ labelText (tc .rate) (tc .count)) ⌝ }
-{
-    lent::put_byte(part, b' ');
-    label_writer::write_label(tc, part, 1);
-}
-
-// A space, the ticks and the newline at the front of a part; every other byte stays. Asks their room.
-fn put_ticks(part: &mut [u8], minus: bool, ticks: u64)
-    requires room { ⌜ length (lastText minus ticks) + 1 ≤ length (now part) ⌝ }
-    ensures line { λ _. ⌜ now (part .exit) ≡ front (now (part .entry)) (32 ∷ lastText minus ticks) ⌝ }
-{
-    lent::put_byte(part, b' ');
-    put_last(&mut part[1..], minus, ticks);
-}
-
-// A number and the newline at the front of a part; every other byte stays. Asks their room.
-fn put_last(part: &mut [u8], minus: bool, m: u64)
-    requires room { ⌜ length (lastText minus m) ≤ length (now part) ⌝ }
-    ensures line { λ _. ⌜ now (part .exit) ≡ front (now (part .entry)) (lastText minus m) ⌝ }
-{
-    let at = signed_length(minus, m);
-    put_signed(part, minus, m);
-    lent::put_byte(&mut part[at..], b'\n');
-}
-
-// A number at the front of a part, its sign with it; every other byte stays. Asks its room.
-fn put_signed(part: &mut [u8], minus: bool, m: u64)
-    requires room { ⌜ length (signedText minus m) ≤ length (now part) ⌝ }
-    ensures line { λ _. ⌜ now (part .exit) ≡ front (now (part .entry)) (signedText minus m) ⌝ }
-{
-    let at = written::sign_length(minus);
-    let w = digits::width_of(1, m);
-    written::put_sign(part, minus);
-    digits::put_digits(&mut part[at..], w, m);
+    let at = label_writer::sections_length(s);
+    label_writer::put_sections(part, s, rate);
+    lent::put_byte(&mut part[at..], b' ');
 }
 
 // `refused` and a number, laid down from `place` on.
@@ -208,7 +182,7 @@ fn write_refused(number: u64, out: &mut [u8], place: usize) -> Written
     ensures answer { λ r. ⌜ r ≡ answerTo (now (out .entry)) place (Text (refusedText number)) ⌝ }
     ensures line { λ r. ⌜ now (out .exit) ≡ lineTo (now (out .entry)) place (Text (refusedText number)) ⌝ }
 {
-    let need = digits::width_of(1, number) + 9;
+    let need = written::signed_length(false, number) + 9;
     if lent::room(out.len(), place, need) {
         put_refused(&mut out[place..], number);
         return Written::Length(need);
@@ -219,22 +193,10 @@ fn write_refused(number: u64, out: &mut [u8], place: usize) -> Written
 // `refused`, a number and the newline at the front of a part; every other byte stays. Asks their room.
 fn put_refused(part: &mut [u8], number: u64)
     requires room { ⌜ length (refusedText number) ≤ length (now part) ⌝ }
-    ensures line { λ _. ⌜ now (part .exit) ≡ front (now (part .entry)) (refusedText number) ⌝ }
+    ensures line { λ _. ⌜ now (part .exit) ≡ laid (now (part .entry)) (refusedText number) ⌝ }
 {
-    put_word(part, b"refused ");
-    put_last(&mut part[8..], false, number);
-}
-
-// A word at the front of a part; every other byte stays. Asks its room.
-fn put_word(part: &mut [u8], word: &[u8])
-    requires room { ⌜ length (now word) ≤ length (now part) ⌝ }
-    ensures line { λ _. ⌜ now (part .exit) ≡ front (now (part .entry)) (now (word .entry)) ⌝ }
-{
-    let mut i = 0;
-    while i < word.len() {
-        part[i] = word[i];
-        i += 1;
-    }
+    lent::put_text(part, b"refused ");
+    put_ended(&mut part[8..], false, number, b'\n');
 }
 
 // A refusal's number among all numbers.

@@ -1,14 +1,16 @@
 -- Each answer tells the text's shape and its fault, and each shape and fault gives its answer.
 -- Assumes nothing.
-use Prim.Native.Nat.{ℕ}
+use Prim.Native.Nat.{ℕ, zero, suc, _≤_}
 use native.Mathlib.Omega.{arith}
-use mathlib.Core.Path.{_≡_, refl, ap, _∙_, subst}
+use mathlib.Core.Path.{_≡_, refl, sym, ap, _∙_, subst}
 use mathlib.Core.Logic.{⊎-elim}
 use mathlib.Core.List.{List}
 use mathlib.Core.Bool.{Bool, true, false}
 use Rattle.answers.specs.Refusals.{isCount}
 use Rattle.answers.specs.Laws.{held-in, held-out}
 use Rattle.rates.specs.Rates.{isRate}
+use Rattle.timecodes.specs.declared.Timecode.{Timecode}
+use Rattle.timecodes.specs.Admitted.{Valid}
 use Rattle.reading.specs.declared.Stated.{Stated}
 use Rattle.reading.specs.declared.Read.{Read}
 use Rattle.reading.specs.declared.Read.the-variants.{Label, Footage, Refused}
@@ -16,7 +18,7 @@ use Rattle.reading.specs.Answer.{numberOf, timecodeOf, asLabel, asFootag
 use Rattle.reading.specs.Shaped.{isStated}
 use Rattle.reading.specs.Reading.{readText}
 use Rattle.reading.specs.ReadingLaws.{no-rate, no-format}
-use Rattle.reading.specs.Statements.{RateAndFormat, ShapesApart, RefusedSix, RefusedOne, RefusedTwo, RefusedFour, RefusedThree, LabelCounted, FootageCounted, CountOut, RefusedFive, CountBounded, AtRate}
+use Rattle.reading.specs.Statements.{RateAndFormat, ShapesApart, RefusedSix, RefusedOne, RefusedTwo, RefusedFour, RefusedThree, LabelCounted, FootageCounted, CountOut, RefusedFive, CountBounded, AtRate, ReadValid, NumberMost}
 use Rattle.reading.proofs.Shapes as shapes
 use Rattle.reading.proofs.Told.{Told, told, cause}
 use Rattle.reading.proofs.Gives.{gives-none, gives-long, gives-dropped, gives-label-count, gives-no-perf, gives-footage-count}
@@ -83,3 +85,33 @@ at-rate l stated rate tc = (
   λ e. subst (Told l stated rate) e (told l stated rate) .0,
   λ format e. subst (Told l stated rate) e (told l stated rate) .0,
 )
+
+module _ (l : List ℕ) (stated : Stated) (rate : ℕ) where
+  rated-by : (t : Bool) → isRate rate ≡ t → numberOf (readText l stated rate) ≡ 0 → isRate rate ≡ true
+  rated-by true r e = r
+  rated-by false r e = let f = ap numberOf (no-rate l stated rate r) in absurd (omega arith)
+
+  valid : (tc : Timecode) → numberOf (readText l stated rate) ≡ 0 → tc .rate ≡ rate → timecodeOf (readText l stated rate) ≡ tc → Valid tc
+  valid tc n r e = record {
+    rate = ap isRate r ∙ rated-by (isRate rate) refl n;
+    count = ap (λ (x : Timecode). isCount (x .count)) (sym e) ∙ count-bounded l stated rate;
+  }
+
+  number-by : (n : ℕ) → numberOf (readText l stated rate) ≡ n → n ≤ 6
+  number-by zero e = omega arith
+  number-by (suc zero) e = omega arith
+  number-by (suc (suc zero)) e = omega arith
+  number-by (suc (suc (suc zero))) e = omega arith
+  number-by (suc (suc (suc (suc zero)))) e = omega arith
+  number-by (suc (suc (suc (suc (suc zero))))) e = omega arith
+  number-by (suc (suc (suc (suc (suc (suc n)))))) e =
+      let f = refused-six l stated rate .1 (cause l stated rate (suc (suc (suc (suc (suc (suc n)))))) (omega arith) e) in omega arith
+
+pub read-valid : ReadValid
+read-valid l stated rate tc = (
+  λ e. valid l stated rate tc (ap numberOf e) (at-rate l stated rate tc .0 e) (ap timecodeOf e),
+  λ format e. valid l stated rate tc (ap numberOf e) (at-rate l stated rate tc .1 format e) (ap timecodeOf e),
+)
+
+pub number-most : NumberMost
+number-most l stated rate = number-by l stated rate (numberOf (readText l stated rate)) refl

@@ -1,6 +1,6 @@
 -- What a text reads as, by its shape (BEHAVIOUR: Text shapes): each refusal exactly, and the counts. Proofs: proofs/Statements.antt.
 -- Assumes nothing.
-use Prim.Native.Nat.{ℕ}
+use Prim.Native.Nat.{ℕ, _≤_}
 use mathlib.Core.Path.{_≡_}
 use mathlib.Core.Logic.{_↔_, _⊎_}
 use mathlib.Core.List.{List, map}
@@ -11,6 +11,7 @@ use Rattle.answers.specs.Refusals.{isCount}
 use Rattle.rates.specs.Rates.{isRate, dropFrames}
 use Rattle.timecodes.specs.declared.Timecode.{Timecode}
 use Rattle.timecodes.specs.Timecode.{timecode}
+use Rattle.timecodes.specs.Admitted.{Valid}
 use Rattle.film.specs.declared.FilmFormat.{FilmFormat}
 use Rattle.film.specs.Film.{allowsPerfField}
 use Rattle.labels.specs.Label.{droppedIn}
@@ -152,3 +153,13 @@ AtRate =
     (l : List ℕ) (stated : Stated) (rate : ℕ) (tc : Timecode)
     → (readText l stated rate ≡ Label tc → tc .rate ≡ rate)
     × ((format : FilmFormat) → readText l stated rate ≡ Footage tc format → tc .rate ≡ rate)
+
+-- so every operation admits it
+abbrev pub ReadValid : Type 0
+ReadValid =
+    (l : List ℕ) (stated : Stated) (rate : ℕ) (tc : Timecode)
+    → (readText l stated rate ≡ Label tc → Valid tc) × ((format : FilmFormat) → readText l stated rate ≡ Footage tc format → Valid tc)
+
+-- and a refusal has one of the numbers 1 to 6
+abbrev pub NumberMost : Type 0
+NumberMost = (l : List ℕ) (stated : Stated) (rate : ℕ) → numberOf (readText l stated rate) ≤ 6

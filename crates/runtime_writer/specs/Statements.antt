@@ -38,7 +38,7 @@ SameValue = (k n : ℕ) → n < 10 ^ k → Zeroed k n (fractionText k n)
 -- ---- the whole
 -- a runtime is a sign, three fields of two digits at least divided by `:`, `.` and a fraction; minutes and seconds are under 60; and what
 -- these are worth, in units of 10 ^ k a second, is the nearest of the absolute time, halves away from zero
-pub record RuntimeShape (rate k : ℕ) (count : ℤ) : Type 0 where
+pub record WrittenRuntime (rate k : ℕ) (count : ℤ) : Type 0 where
   pub hours : List ℕ
   pub minutes : List ℕ
   pub seconds : List ℕ
@@ -58,7 +58,7 @@ pub record RuntimeShape (rate k : ℕ) (count : ℤ) : Type 0 where
 
 -- every runtime that is written at a rate has this shape: the nearest time to its precision
 abbrev pub RuntimeNearest : Type 0
-RuntimeNearest = (rate k : ℕ) (count : ℤ) → isRate rate ≡ true → RuntimeShape rate k count
+RuntimeNearest = (rate k : ℕ) (count : ℤ) → isRate rate ≡ true → WrittenRuntime rate k count
 
 -- a line with eighteen bytes from its place on has room for the runtime of any count within the bounds
 abbrev pub EighteenBytes : Type 0

@@ -2,8 +2,7 @@
 -- Assumes nothing.
 use native.Mathlib.Omega.{arith}
 use borrow.Author.Needs.{needs}
-use Rattle.written.proofs.Parts.{field-most, clock-most}
-use Rattle.label_writer.proofs.Answers.{sections-length}
+use Rattle.label_writer.proofs.Answers.{sections-length, sections-most}
 use Rattle.label_writer.proofs.sections_length.Statement.{statement}
 use Rattle.label_writer.proofs.sections_length.Tie as tie
 
@@ -16,14 +15,7 @@ field-length-requires c κs = search needs
 add-result : tie.Need-add-result
 add-result c =
     let s = c .before .before .args .s in
-    record {
-      fits =
-          omega (
-            arith,
-            clock-most (s .negative) (s .hours) (s .minutes) (s .seconds) (search needs) (search needs) (search needs),
-            field-most (s .frames) (search needs),
-          );
-    }
+    record { fits = omega (arith, sections-length 58 s, sections-most s (search needs) (search needs) (search needs) (search needs)) }
 
 returns : tie.Need-returns
 returns c = omega (arith, sections-length 58 (c .before .before .args .s))

@@ -7,16 +7,16 @@ use mathlib.Core.Bool.{true}
 use borrow.Author.Tests.{not-true, not-false}
 use lib.ListN.{length, getD}
 use Rattle.digits.specs.Digits.{isDigit}
-use Rattle.lines.proofs.Begun.{too-long, too-short, first-none, second-none, by-space}
+use Rattle.lines.proofs.Begun.{long-none, short-none, first-none, second-none, by-space}
 use borrow.Author.Needs.{needs}
 use Rattle.lines.proofs.is_line.Statement.{statement}
 use Rattle.lines.proofs.is_line.Tie as tie
 
 returns : tie.Need-returns
-returns c = sym (too-long (c .before .before .args .input .now) (omega arith))
+returns c = sym (long-none (c .before .before .args .input .now) (omega arith))
 
 returns-2 : tie.Need-returns-2
-returns-2 c = sym (too-short (c .before .before .before .args .input .now) (omega arith))
+returns-2 c = sym (short-none (c .before .before .before .args .input .now) (omega arith))
 
 -- from 3 to 64 bytes
 least : (c : tie.Else2) → 3 ≤ length (c .before .before .before .args .input .now)

@@ -1,32 +1,32 @@
 -- `lines::read_line` meets its contract: a line that is none is refused, and the text of any other is read at its rate.
 -- Assumes nothing.
-use native.Mathlib.Omega.{arith}
 use Prim.Native.Nat.{ℕ, _-_, _≤_}
-use mathlib.Core.Path.{_≡_, sym, ap, _∙_}
+use native.Mathlib.Omega.{arith}
+use mathlib.Core.Path.{_≡_, sym, ap, ap₂, _∙_}
 use mathlib.Core.List.{List}
 use mathlib.Core.Bool.{true}
-use borrow.Author.Tests.{not-true, not-false}
 use lib.ListN.{length, take, drop, length-drop}
 use lib.Seq.{take-all}
+use borrow.Author.Needs.{needs}
+use Rattle.numbers.proofs.Tests.{fails, passes}
 use Rattle.reading.specs.declared.Stated.the-variants.{Nothing}
 use Rattle.reading.specs.Reading.{readText}
-use Rattle.lines.specs.Input.{isLine, textIn, timecode}
+use Rattle.lines.specs.Input.{isLine, textIn, lineHolds}
 use Rattle.lines.proofs.Begun.{line-least, not-line, line-held}
-use borrow.Author.Needs.{needs}
 use Rattle.lines.proofs.read_line.Statement.{statement}
 use Rattle.lines.proofs.read_line.Tie as tie
+
+line : (c : tie.Else1) → isLine (c .before .before .before .args .input .now) ≡ true
+line c = passes (c .before .is-line .ensures) (c .if1 .left)
+
+least : (c : tie.Else1) → 3 ≤ length (c .before .before .before .args .input .now)
+least c = line-least (c .before .before .before .args .input .now) (line c)
 
 is-line-requires : tie.Need-is-line-requires
 is-line-requires c κs = search needs
 
 returns : tie.Need-returns
-returns c = sym (not-line (c .before .before .before .args .input .now) (sym (c .before .is-line .ensures) ∙ not-true _ (c .if1 .taken)))
-
-line : (c : tie.Else1) → isLine (c .before .before .before .args .input .now) ≡ true
-line c = sym (c .before .is-line .ensures) ∙ not-false _ (c .if1 .left)
-
-least : (c : tie.Else1) → 3 ≤ length (c .before .before .before .args .input .now)
-least c = line-least (c .before .before .before .args .input .now) (line c)
+returns c = sym (not-line (c .before .before .before .args .input .now) (fails (c .before .is-line .ensures) (c .if1 .taken)))
 
 rate-in-requires : tie.Need-rate-in-requires
 rate-in-requires c κs = line c
@@ -43,18 +43,16 @@ part-read-text-end c = search needs
 read-text-requires : tie.Need-read-text-requires
 read-text-requires c κs = search needs
 
-at-rate-requires : tie.Need-at-rate-requires
-at-rate-requires c κs = search needs
+line-holds-requires : tie.Need-line-holds-requires
+line-holds-requires c κs = search needs
 
 returns-2 : tie.Need-returns-2
 returns-2 c =
     let there = c .before .before .before .before in
     let l = there .before .before .before .args .input .now in
     let rest : take (length l - 3) (drop 3 l) ≡ textIn l = take-all (length l - 3) (drop 3 l) (omega (arith, length-drop 3 l)) in
-    c .at-rate .ensures
-    ∙ ap (timecode (c .before .before .before .rate-in .result))
-    (c .before .read-text .ensures ∙ ap (λ (t : List ℕ). readText t Nothing (c .before .before .before .rate-in .result)) rest)
-    ∙ ap (λ (r : ℕ). timecode r (readText (textIn l) Nothing r)) (c .before .before .before .rate-in .ensures)
+    c .line-holds .ensures
+    ∙ ap lineHolds (c .before .read-text .ensures ∙ ap₂ (λ (t : List ℕ) (r : ℕ). readText t Nothing r) rest (c .before .before .before .rate-in .ensures))
     ∙ sym (line-held l (line there))
 
 pub read-line-spec : {M : Type 1} → statement M
@@ -68,5 +66,5 @@ read-line-spec =
     part-read-text-start
     part-read-text-end
     read-text-requires
-    at-rate-requires
+    line-holds-requires
     returns-2)

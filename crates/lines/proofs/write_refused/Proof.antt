@@ -1,41 +1,34 @@
--- `lines::write_refused` meets its contract: the length is that of the refusal, which is laid down exactly where it fits.
+-- `lines::write_refused` meets its contract: with room the text is laid down from its place on, and without nothing was done.
 -- Assumes nothing.
+use Prim.Native.Nat.{_+_, _≤_}
 use native.Mathlib.Omega.{arith}
-use Prim.Native.Nat.{_+_, _≤_, _<_}
-use mathlib.Core.Path.{_≡_, refl}
+use mathlib.Core.Path.{_≡_}
+use mathlib.Core.Bool.{false}
 use lib.ListN.{length}
-use Rattle.lent.proofs.Laws.{part-length, fits-yes, fits-no}
-use Rattle.written.specs.Written.{Text}
-use Rattle.written.proofs.Laws.{laid, no-room}
-use Rattle.written.proofs.Parts.{wide-most}
+use borrow.Author.Needs.{needs}
+use Rattle.lent.proofs.Laws.{part-length, fits-yes}
+use Rattle.written.proofs.Parts.{padded-most}
+use Rattle.written.proofs.Laws.{meets-in, meets-out}
 use Rattle.lines.specs.Output.{refusedText}
 use Rattle.lines.proofs.Texts.{refused-length}
-use borrow.Author.Needs.{needs}
 use Rattle.lines.proofs.write_refused.Statement.{statement}
 use Rattle.lines.proofs.write_refused.Tie as tie
 
-long : (c : tie.After-width-of) → c .width-of .result + 9 ≡ length (refusedText (c .before .before .args .number))
-long c = omega (arith, c .width-of .ensures, refused-length (c .before .before .args .number))
+-- what is tested for room is the length of the text
+long : (c : tie.After-signed-length) → c .signed-length .result + 9 ≡ length (refusedText (c .before .before .args .number))
+long c = omega (arith, c .signed-length .ensures, refused-length (c .before .before .args .number))
 
-fit : (c : tie.Then1)
-    → let a = c .before .before .before .before .args in a .place + length (refusedText (a .number)) ≤ length (a .out .now)
+-- with room, the text lies within the line
+fit : (c : tie.Then1) → let a = c .before .before .before .before .args in a .place + length (refusedText (a .number)) ≤ length (a .out .now)
 fit c =
     let a = c .before .before .before .before .args in
     fits-yes (a .out .now) (a .place) (refusedText (a .number)) _ _ (long (c .before .before)) (c .before .room .ensures) (c .if1 .taken)
 
-unfit : (c : tie.Else1)
-    → let a = c .before .before .before .before .args in length (a .out .now) < a .place + length (refusedText (a .number))
-unfit c =
-    let a = c .before .before .before .before .args in
-    fits-no (a .out .now) (a .place) (refusedText (a .number)) _ _ (long (c .before .before)) (c .before .room .ensures) (c .if1 .left)
-
-width-of-requires : tie.Need-width-of-requires
-width-of-requires c κs = search needs
+signed-length-requires : tie.Need-signed-length-requires
+signed-length-requires c κs = search needs
 
 add-need : tie.Need-add-need
-add-need c =
-    let number = c .before .before .args .number in
-    omega (arith, wide-most 1 number (c .width-of .result) (omega arith) (search needs) (c .width-of .ensures))
+add-need c = let number = c .before .before .args .number in record { fits = omega (arith, padded-most false 1 number (omega arith) (search needs)) }
 
 room-requires : tie.Need-room-requires
 room-requires c κs = search needs
@@ -50,9 +43,7 @@ part-put-refused-end : tie.Need-part-put-refused-end
 part-put-refused-end c = search needs
 
 put-refused-requires : tie.Need-put-refused-requires
-put-refused-requires c κs =
-    let a = c .before .before .before .before .before .args in
-    omega (arith, part-length (a .out .now) (a .place), fit (c .before))
+put-refused-requires c κs = let a = c .before .before .before .before .before .args in omega (arith, part-length (a .out .now) (a .place), fit (c .before))
 
 same-length : tie.Need-same-length
 same-length c = search needs
@@ -60,21 +51,18 @@ same-length c = search needs
 returns : tie.Need-returns
 returns c =
     let a = c .before .before .before .before .before .before .before .before .args in
-    let text = refusedText (a .number) in
-    laid (a .out .now) (a .place) (Text text) text _ _ refl (long (c .before .before .before .before .before .before))
-    (fit (c .before .before .before .before)) (c .before .before .put-refused .ensures)
+    meets-in (a .out .now) (a .place) (refusedText (a .number)) _ _ (long (c .before .before .before .before .before .before)) (c .before .before .before .before .before .room .ensures) _ (c .before .before .before .before .if1 .taken) (c .before .before .put-refused .ensures)
 
 returns-2 : tie.Need-returns-2
 returns-2 c =
     let a = c .before .before .before .before .args in
-    let text = refusedText (a .number) in
-    no-room (a .out .now) (a .place) (Text text) text refl (unfit c)
+    meets-out (a .out .now) (a .place) (refusedText (a .number)) _ _ (long (c .before .before)) (c .before .room .ensures) (c .if1 .left)
 
 pub write-refused-spec : {M : Type 1} → statement M
 write-refused-spec =
     tie.close
     (tie.spec
-    width-of-requires
+    signed-length-requires
     add-need
     room-requires
     sub-put-refused

@@ -1,60 +1,61 @@
--- `lines::write_timecode` meets its contract: sign and magnitude of the instant are those of the last column.
+-- `lines::write_timecode` meets its contract: the columns of an admitted timecode are its text, and its sections are never refused.
 -- Assumes nothing.
-use mathlib.Core.Path.{_≡_, ap, ap₂, _∙_}
-use lib.IntN.{natAbs}
-use mir.Syntax.{w64}
-use mir.Val.{toZ, ofZ}
-use mir.Facts.{toZ-ofZ}
-use Rattle.numbers.specs.Sign.{isNeg}
-use Rattle.time.specs.Instant.{instant}
-use Rattle.written.specs.Written.{Draft, Text, answerTo, lineTo}
-use Rattle.lines.specs.Output.{columnsText, timecodeText}
+use Prim.Native.Nat.{ℕ}
+use native.Mathlib.Omega.{arith}
+use mathlib.Core.Path.{_≡_, sym, ap, _∙_}
 use borrow.Author.Needs.{needs}
+use Rattle.label_writer.specs.declared.Sectioned.the-variants.{Sections, Refused}
+use Rattle.label_writer.specs.Sections.{sectioned}
+use Rattle.written.specs.Written.{Text}
+use Rattle.written.proofs.Laws.{meets-same}
+use Rattle.lines.specs.Output.{columnsText}
+use Rattle.lines.proofs.Texts.{sections-there, columns-are}
 use Rattle.lines.proofs.write_timecode.Statement.{statement}
 use Rattle.lines.proofs.write_timecode.Tie as tie
 
-instant-of-requires : tie.Need-instant-of-requires
-instant-of-requires c κs = search needs
+sections-requires : tie.Need-sections-requires
+sections-requires c κs = search needs
 
-below-zero-requires : tie.Need-below-zero-requires
-below-zero-requires c κs = search needs
+enum-known-s : tie.Need-enum-known-s
+enum-known-s c = search needs
 
-magnitude-requires : tie.Need-magnitude-requires
-magnitude-requires c κs = search needs
+columns-of-requires : tie.Need-columns-of-requires
+columns-of-requires c κs = search needs
 
 write-columns-requires : tie.Need-write-columns-requires
 write-columns-requires c κs = search needs
 
+enum-known-e : tie.Need-enum-known-e
+enum-known-e c = search needs
+
 same-length : tie.Need-same-length
 same-length c = search needs
 
--- the ticks, as the machine reads them
-ticks-is : (c : tie.After-instant-of) → toZ w64 (ofZ w64 (c .instant-of .result)) ≡ instant (c .before .before .args .tc)
-ticks-is c = toZ-ofZ (record { sfits = c .instant-of .ok }) ∙ c .instant-of .ensures
-
-same : (c : tie.After-magnitude)
-    → let a = c .before .before .before .before .args in
-    _≡_ {A = Draft} (Text (columnsText (a .tc) (c .before .below-zero .result) (c .magnitude .result))) (Text (timecodeText (a .tc)))
-unfolding timecodeText
-same c =
-    let a = c .before .before .before .before .args in
-    let t = ticks-is (c .before .before) in
-    ap₂ (λ m n. Text (columnsText (a .tc) m n)) (c .before .below-zero .ensures ∙ ap isNeg t) (c .magnitude .ensures ∙ ap natAbs t)
-
 returns : tie.Need-returns
 returns c =
-    let a = c .before .before .before .before .before .before .before .before .args in
-    let d = same (c .before .before .before .before) in
-    let e = c .before .before .write-columns .ensures in
-    (e .0 ∙ ap (answerTo (a .out .now) (a .place)) d, e .1 ∙ ap (lineTo (a .out .now) (a .place)) d)
+    let start = c .before .before .before .before .before .before .before .before .before .before in
+    let a = start .args in
+    let there = sym (c .before .before .before .before .before .before .before .before .sections .ensures) ∙ c .before .before .before .before .before .before .s .given .1 in
+    let same = ap (λ k. Text (columnsText k)) (c .before .before .before .before .columns-of .ensures) ∙ ap Text (columns-are (a .tc) (start .pre) _ there) in
+    meets-same (a .out .now) (a .place) _ _ _ _ same (c .before .before .write-columns .ensures)
+
+returns-2 : tie.Need-returns-2
+returns-2 c =
+    let start = c .before .before .before .before .before in
+    let none = sym (c .before .before .before .sections .ensures) ∙ c .before .e .given .1 in
+    let there = sections-there (start .args .tc) (start .pre) in
+    let z : _≡_ {A = ℕ} 0 1 = cc in
+    absurd (omega arith)
 
 pub write-timecode-spec : {M : Type 1} → statement M
 write-timecode-spec =
     tie.close
     (tie.spec
-    instant-of-requires
-    below-zero-requires
-    magnitude-requires
+    sections-requires
+    enum-known-s
+    columns-of-requires
     write-columns-requires
+    enum-known-e
     same-length
-    returns)
+    returns
+    returns-2)

@@ -1,0 +1,97 @@
+-- `lines::put_columns` meets its contract: label and ticks, each lent the rest of the part, stand right behind what is there.
+-- Assumes nothing.
+use Prim.Native.Nat.{_+_, _≤_}
+use native.Mathlib.Omega.{arith}
+use lib.ListN.{length}
+use borrow.Author.Needs.{needs}
+use Rattle.lent.proofs.Laws.{part-length, laid-three}
+use Rattle.label_writer.specs.LabelText.{sectionsLength}
+use Rattle.written.specs.Parts.{signedText}
+use Rattle.lines.specs.Output.{endedText, labelColumn}
+use Rattle.lines.proofs.Texts.{ended-length, label-length, columns-length}
+use Rattle.lines.proofs.put_columns.Statement.{statement}
+use Rattle.lines.proofs.put_columns.Tie as tie
+
+-- the columns lie within the room asked for
+fit : (c : tie.Start)
+    → let a = c .args .c in
+    length (signedText (a .below) (a .count)) + sectionsLength (a .sections) + length (signedText (a .minus) (a .ticks)) + 3 ≤ length (c .args .part .now)
+fit c = omega (arith, c .pre, columns-length (c .args .c))
+
+signed-length-requires : tie.Need-signed-length-requires
+signed-length-requires c κs = search needs
+
+add-first : tie.Need-add-first
+add-first c = record { fits = omega (arith, fit (c .before .before .before)) }
+
+sections-length-requires : tie.Need-sections-length-requires
+sections-length-requires c κs = search needs
+
+add-second : tie.Need-add-second
+add-second c = record { fits = omega (arith, fit (c .before .before .before .before)) }
+
+add-second-2 : tie.Need-add-second-2
+add-second-2 c = record { fits = omega (arith, fit (c .before .before .before .before)) }
+
+put-ended-requires : tie.Need-put-ended-requires
+put-ended-requires c κs = let a = c .before .before .before .before .before .args .c in omega (arith, fit (c .before .before .before .before .before), ended-length (a .below) (a .count) 32)
+
+sub-put-label : tie.Need-sub-put-label
+sub-put-label c = omega (arith, fit (c .before .before .before .before .before .before .before .before))
+
+part-put-label-start : tie.Need-part-put-label-start
+part-put-label-start c = omega (arith, fit (c .before .before .before .before .before .before .before .before))
+
+part-put-label-end : tie.Need-part-put-label-end
+part-put-label-end c = search needs
+
+put-label-requires : tie.Need-put-label-requires
+put-label-requires c κs = let a = c .before .before .before .before .before .before .before .before .before .args .c in omega (arith, fit (c .before .before .before .before .before .before .before .before .before), label-length a)
+
+sub-put-ended : tie.Need-sub-put-ended
+sub-put-ended c = omega (arith, fit (c .before .before .before .before .before .before .before .before .before .before .before .before))
+
+part-put-ended-start : tie.Need-part-put-ended-start
+part-put-ended-start c = omega (arith, fit (c .before .before .before .before .before .before .before .before .before .before .before .before))
+
+part-put-ended-end : tie.Need-part-put-ended-end
+part-put-ended-end c = search needs
+
+put-ended-requires-2 : tie.Need-put-ended-requires-2
+put-ended-requires-2 c κs = let a = c .before .before .before .before .before .before .before .before .before .before .before .before .before .args .c in omega (arith, fit (c .before .before .before .before .before .before .before .before .before .before .before .before .before), ended-length (a .minus) (a .ticks) 10)
+
+same-length : tie.Need-same-length
+same-length c = search needs
+
+returns : tie.Need-returns
+returns c =
+    let start = c .before .before .before .before .before .before .before .before .before .before .before .before .before .before .before .before in
+    let a = start .args .c in
+    laid-three (start .args .part .now) _ _ _ (endedText (a .below) (a .count) 32) (labelColumn a) (endedText (a .minus) (a .ticks) 10) _ _
+    (start .pre)
+    (c .before .before .before .before .before .before .before .before .before .before .put-ended .ensures)
+    (omega (arith, c .before .before .before .before .before .before .before .before .before .before .before .before .before .signed-length .ensures, ended-length (a .below) (a .count) 32))
+    (c .before .before .before .before .before .before .put-label .ensures)
+    (omega (arith, c .before .before .before .before .before .before .before .before .before .before .before .before .sections-length .ensures, label-length a))
+    (c .before .before .put-ended2 .ensures)
+
+pub put-columns-spec : {M : Type 1} → statement M
+put-columns-spec =
+    tie.close
+    (tie.spec
+    signed-length-requires
+    add-first
+    sections-length-requires
+    add-second
+    add-second-2
+    put-ended-requires
+    sub-put-label
+    part-put-label-start
+    part-put-label-end
+    put-label-requires
+    sub-put-ended
+    part-put-ended-start
+    part-put-ended-end
+    put-ended-requires-2
+    same-length
+    returns)
