@@ -1,133 +1,97 @@
 // The line program: reads lines, two digits of rate, a space and a text, and writes for each its count, label and ticks, or why it is refused.
-// Input of any size goes through fixed buffers: 65 bytes of a line are kept, since one of over 64 is refused whatever it says.
+// All that it decides is feeding's, for input of any size and any chunks; here are the buffers, the reads and the writes.
 ghost use mathlib.Core.Path.{_≡_};
-ghost use Prim.Native.Nat.{_≤_};
+ghost use Prim.Native.Nat.{_*_, _≤_};
 ghost use lib.ListN.{length};
-ghost use Rattle.streams.specs.Kept.{keptAfter, outAfter};
-ghost use Rattle.lines.specs.Output.{answerText};
+ghost use Rattle.feeding.specs.Feeding.{fedOf};
 use streams::Gathered;
 
-// What is kept from byte to byte: the line so far, and how many bytes of answers are not yet written.
-struct State {
-    line: Gathered,
-    used: usize,
-}
-
-// The answer to a line goes behind those that are kept, which are written first where there is no room; and how many bytes are kept.
-fn put_answer(input: &[u8], out: &mut [u8], used: usize) -> usize
-    ensures answer { λ r. ⌜ r ≡ keptAfter (now (out .entry)) used (answerText (now (input .entry))) ⌝ }
-    ensures line { λ r. ⌜ now (out .exit) ≡ outAfter (now (out .entry)) used (answerText (now (input .entry))) ⌝ }
-{
-    let mut text = [0u8; 47];
-    let n = written::length(lines::answer(input, &mut text, 0));
-    streams::put_text(out, used, &text[0..n])
-}
-
-// A line ends: it is answered, and the next begins.
-fn end_line(line: &[u8], out: &mut [u8], s: State) -> State
-    requires kept { ⌜ s .line .len ≤ length (now line) ⌝ }
-    ensures kept { λ r. ⌜ r .line .len ≤ length (now (line .entry)) ⌝ }
-{
-    let g = s.line;
-    let len = g.len;
-    let used = put_answer(&line[0..len], out, s.used);
-    State {
-        line: Gathered::new(),
-        used,
+// What is to be written is written.
+fn write_sheet(out: &[u8], used: usize) {
+    if used <= out.len() {
+        io::write_all(1, &out[0..used]);
     }
 }
 
-// One byte of input.
-fn step(b: u8, line: &mut [u8], out: &mut [u8], s: State) -> State
-    requires kept { ⌜ s .line .len ≤ length (now line) ⌝ }
-    ensures kept { λ r. ⌜ r .line .len ≤ length (now (line .entry)) ⌝ }
+// A chunk that the sheet can answer whole: none of it is left. Asks 47 bytes of sheet for each of the chunk's, and that 65 bytes of a line
+// are kept: one of over 64 is refused whatever it says.
+fn pour(chunk: &[u8], buffer: &mut [u8], out: &mut [u8], g: Gathered) -> Gathered
+    requires line { ⌜ 65 ≤ length (now buffer) ⌝ }
+    requires sheet { ⌜ 47 * length (now chunk) ≤ length (now out) ⌝ }
+    ensures whole { λ r. ⌜ fedOf (now (buffer .entry)) (now (out .entry)) g (now (chunk .entry)) .eaten ≡ length (now (chunk .entry)) ⌝ }
+    ensures gathered { λ r. ⌜ r ≡ fedOf (now (buffer .entry)) (now (out .entry)) g (now (chunk .entry)) .machine .gathered ⌝ }
+    ensures buffer { λ r. ⌜ now (buffer .exit) ≡ fedOf (now (buffer .entry)) (now (out .entry)) g (now (chunk .entry)) .machine .buffer ⌝ }
 {
-    if b == b'\n' {
-        return end_line(line, out, s);
-    }
-    let g = s.line;
-    let more = g.take(line, b);
-    State {
-        line: more,
-        used: s.used,
-    }
-}
-
-// A chunk of input, byte by byte.
-fn feed(chunk: &[u8], line: &mut [u8], out: &mut [u8], s: State) -> State
-    requires kept { ⌜ s .line .len ≤ length (now line) ⌝ }
-    ensures kept { λ r. ⌜ r .line .len ≤ length (now (line .entry)) ⌝ }
-{
-    let mut t = s;
-    let mut i = 0;
-    while i < chunk.len() {
-        t = step(chunk[i], line, out, t);
-        i += 1;
-    }
-    t
+    let fed = feeding::feed(chunk, buffer, out, g);
+    write_sheet(out, fed.used);
+    let last = fed.gathered;
+    last
 }
 
 // A read, and whether there may be more.
 struct Turn {
     more: bool,
-    state: State,
+    gathered: Gathered,
 }
 
-// One read, and what came of it.
-fn one_read(line: &mut [u8], out: &mut [u8], s: State) -> Turn
-    requires kept { ⌜ s .line .len ≤ length (now line) ⌝ }
-    ensures kept { λ r. ⌜ r .state .line .len ≤ length (now (line .entry)) ⌝ }
+// One read, and what came of it: 4096 bytes at most, whose answers have 192,512.
+fn one_read(buffer: &mut [u8], out: &mut [u8], g: Gathered) -> Turn
+    requires line { ⌜ 65 ≤ length (now buffer) ⌝ }
+    requires sheet { ⌜ 192512 ≤ length (now out) ⌝ }
 {
-    let mut chunk = io::large_buffer();
+    let mut chunk = io::buffer();
     let got = libc::read(0, &mut chunk);
     if got <= 0 {
         return Turn {
             more: false,
-            state: s,
+            gathered: g,
         };
     }
     let n = io::count(got, &chunk);
-    let t = feed(&chunk[..n], line, out, s);
+    let last = pour(&chunk[..n], buffer, out, g);
     Turn {
         more: true,
-        state: t,
+        gathered: last,
     }
 }
 
 // A proved loop ends: the turns are counted down from a number that no run uses up.
-fn read_all(line: &mut [u8], out: &mut [u8]) -> State
-    ensures kept { λ r. ⌜ r .line .len ≤ length (now (line .entry)) ⌝ }
+fn read_all(buffer: &mut [u8], out: &mut [u8]) -> Gathered
+    requires line { ⌜ 65 ≤ length (now buffer) ⌝ }
+    requires sheet { ⌜ 192512 ≤ length (now out) ⌝ }
 {
-    let mut s = State {
-        line: Gathered::new(),
-        used: 0,
-    };
+    let mut g = Gathered::new();
     let mut turns = u64::MAX;
     while 0 < turns {
-        let t = one_read(line, out, s);
-        s = t.state;
+        let t = one_read(buffer, out, g);
+        g = t.gathered;
         if !t.more {
-            return s;
+            return g;
         }
         turns -= 1;
     }
-    s
+    g
 }
 
 // A last line without its newline counts.
-fn run(line: &mut [u8], out: &mut [u8]) {
-    let s = read_all(line, out);
-    let g = s.line;
-    if g.is_empty() {
-        streams::write_kept(out, s.used);
-        return;
-    }
-    let last = end_line(line, out, s);
-    streams::write_kept(out, last.used);
+fn run(buffer: &mut [u8], out: &mut [u8])
+    requires line { ⌜ 65 ≤ length (now buffer) ⌝ }
+    requires sheet { ⌜ 192512 ≤ length (now out) ⌝ }
+{
+    let g = read_all(buffer, out);
+    let used = feeding::finish(buffer, out, g);
+    write_sheet(out, used);
+}
+
+// A sheet for the answers to a chunk.
+fn sheet() -> [u8; 192512]
+    ensures long { λ r. ⌜ 192512 ≡ length r ⌝ }
+{
+    [0u8; 192512]
 }
 
 fn main() {
-    let mut line = [0u8; 65];
-    let mut out = io::large_buffer();
-    run(&mut line, &mut out);
+    let mut buffer = [0u8; 65];
+    let mut out = sheet();
+    run(&mut buffer, &mut out);
 }

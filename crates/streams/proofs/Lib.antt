@@ -1,5 +1,7 @@
+pub mod Parting
 pub mod Gathering
-pub mod Copying
-pub mod Keeping
+pub mod Putting
+pub mod Standing
 pub mod Statements
+pub mod Whole
 pub mod Determined

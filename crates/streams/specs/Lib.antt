@@ -1,3 +1,5 @@
 pub mod Lines
-pub mod Kept
+pub mod Parting
+pub mod Gathering
+pub mod Sheet
 pub mod Statements

@@ -1,18 +1,31 @@
--- What holds of a line once all its bytes have come: it is kept whole, or known to be too long. Proofs: proofs/Statements.antt.
+-- What holds of lines and chunks. Proofs: proofs/Statements.antt.
 -- Assumes nothing.
-use Prim.Native.Nat.{ℕ, _≤_, _<_}
+use Prim.Native.Nat.{ℕ}
 use mathlib.Core.Path.{_≡_}
-use mathlib.Core.List.{List}
-use mathlib.Core.Bool.{true, false}
+use mathlib.Core.List.{List, _++_, map}
 use lib.ListN.{length}
-use Rattle.streams.specs.Lines.{noByte, keptBytes, gathered}
+use Rattle.streams.specs.Lines.{Lines}
+use Rattle.streams.specs.Parting.{behind, parted, partedBy, joined, linesOf}
+use Rattle.streams.specs.Gathering.{noByte, keptOf, handed}
 
--- a line that the buffer can hold is kept, byte for byte, and is not over
-abbrev pub LineKept : Type 0
-LineKept =
-    (line text : List ℕ) → length text ≤ length line
-    → let g = gathered line noByte text in (keptBytes (g .buffer) (g .state) ≡ text) × (g .state .over ≡ false)
+-- a text in two chunks: the second goes on where the first left off
+abbrev pub TwoChunks : Type 0
+TwoChunks = (held a b : List ℕ) → parted held (a ++ b) ≡ behind (parted held a .done) (parted (parted held a .rest) b)
 
--- a longer one is over
-abbrev pub LineOver : Type 0
-LineOver = (line text : List ℕ) → length line < length text → gathered line noByte text .state .over ≡ true
+-- in any chunks, of any size, also empty ones: only the text matters
+abbrev pub AnyChunks : Type 0
+AnyChunks = (held : List ℕ) (chunks : List (List ℕ)) → partedBy held chunks ≡ parted held (joined chunks)
+
+-- the fold finds the lines of the grammar, and no others
+abbrev pub FoldFinds : Type 0
+FoldFinds = (text : List ℕ) → Lines text (linesOf text)
+
+abbrev pub OneReading : Type 0
+OneReading = (text : List ℕ) (ls : List (List ℕ)) → Lines text ls → linesOf text ≡ ls
+
+-- the lines that are handed over are those of the text: of each its first bytes, as many as the buffer holds, and whether it has more.
+-- A newline ends a line, and nothing else does; a last line without one counts
+abbrev pub LinesHanded : Type 0
+LinesHanded =
+    (buffer text : List ℕ) (ls : List (List ℕ)) → Lines text ls
+    → handed buffer noByte text ≡ map (keptOf (length buffer)) ls

@@ -1,9 +1,11 @@
-// Lines gathered from bytes that come one by one, and text kept until there is enough to write: what the programs share.
-// Refuses nothing: a line that is too long says so, and text that finds no room is written.
+// Lines gathered from chunks of any size, and text put on a sheet: what the programs share. It reads and writes nothing itself, and
+// refuses nothing: a line that is too long says so, and text that finds no room changes nothing.
 mod gathered;
-mod kept;
+mod sheets;
 
 pub use gathered::Gathered;
-pub use kept::put_signed;
-pub use kept::put_text;
-pub use kept::write_kept;
+pub use gathered::Step;
+pub use gathered::gather;
+pub use sheets::put_byte;
+pub use sheets::put_signed;
+pub use sheets::put_text;

@@ -1,27 +1,30 @@
--- `line::read_all` meets its contract: each read keeps the line within its buffer.
+-- `line::read_all` meets its contract: the turns that are left fall with each read, and buffer and sheet keep their lengths.
 -- Assumes nothing.
+use mathlib.Core.Path.{_≡_}
 use native.Mathlib.Omega.{arith}
-use Prim.Native.Nat.{_≤_}
-use mathlib.Core.Path.{_≡_, ap}
 use lib.ListN.{length}
 use borrow.Author.Needs.{needs}
 use Rattle.line.proofs.read_all.Statement.{statement}
 use Rattle.line.proofs.read_all.Tie as tie
+use Rattle.line.proofs.read_all.Reads as reads
+use Rattle.line.proofs.read_all.Lts as lts
+use Rattle.line.proofs.one_read.Reads as one-read-reads
+use Rattle.streams.proofs.gathered.Gathered.new.Reads as new-reads
 
 abbrev Inv-loop : tie.InvT-loop
-Inv-loop line₀ out₀ s₀ turns₀ line out s turns = (length line ≡ length line₀) × (length out ≡ length out₀) × (s .line .len ≤ length line)
+Inv-loop buffer₀ out₀ g₀ turns₀ buffer out g turns = (length buffer ≡ length buffer₀) × (length out ≡ length out₀)
 
 abbrev μ-loop : tie.MeasureT-loop
-μ-loop line₀ out₀ s₀ turns₀ line out s turns = turns
+μ-loop buffer₀ out₀ g₀ turns₀ buffer out g turns = turns
 
 new-requires : tie.Need-new-requires Inv-loop μ-loop
 new-requires c κs = search needs
 
 loop-holds : tie.Need-loop-holds Inv-loop μ-loop
-loop-holds c = let none = ap (λ g. g .len) (c .new .ensures) in search needs
+loop-holds c = search needs
 
 one-read-requires : tie.Need-one-read-requires Inv-loop μ-loop
-one-read-requires c κs = omega arith
+one-read-requires c κs = (omega arith, omega arith)
 
 same-length : tie.Need-same-length Inv-loop μ-loop
 same-length c = search needs

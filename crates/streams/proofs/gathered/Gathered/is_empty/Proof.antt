@@ -3,6 +3,8 @@
 use borrow.Author.Needs.{needs}
 use Rattle.streams.proofs.gathered.Gathered.is_empty.Statement.{statement}
 use Rattle.streams.proofs.gathered.Gathered.is_empty.Tie as tie
+use Rattle.streams.proofs.gathered.Gathered.is_empty.Reads as reads
+use Rattle.streams.proofs.gathered.Gathered.is_empty.Lts as lts
 
 returns : tie.Need-returns
 returns c = search needs

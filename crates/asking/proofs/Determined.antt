@@ -1,0 +1,14 @@
+-- Each public function's contract allows one outcome: two that meet its equation are equal.
+-- Assumes nothing.
+use mathlib.Core.Path.{sym, ap, _∙_}
+use Rattle.outcomes.specs.Outcome.{Determined}
+use Rattle.asking.proofs.values.number as number
+use Rattle.asking.proofs.values.number.Reads as number-reads
+use Rattle.asking.proofs.words.understand as understand
+use Rattle.asking.proofs.words.understand.Reads as understand-reads
+
+pub number-determined : Determined number.ended number-reads.Asked number-reads.Learnt
+number-determined κs a asked x y p q = ap (λ z. (z, x .1)) (p ∙ sym q)
+
+pub understand-determined : Determined understand.ended understand-reads.Asked understand-reads.Learnt
+understand-determined κs a asked x y p q = ap (λ z. (z, x .1)) (p ∙ sym q)

@@ -1,0 +1,53 @@
+-- `asking::values::magnitude` meets its contract: what is held of the digits so far.
+-- Assumes nothing.
+use Prim.Native.Nat.{_-_}
+use native.Mathlib.Omega.{arith}
+use lib.ListN.{length}
+use borrow.Author.Needs.{needs}
+use Rattle.asking.proofs.Numbers.{Valuing, valuing-start, valuing-turn, valuing-done, here}
+use Rattle.asking.proofs.values.magnitude.Statement.{statement}
+use Rattle.asking.proofs.values.magnitude.Tie as tie
+use Rattle.asking.proofs.values.magnitude.Reads as reads
+use Rattle.asking.proofs.values.magnitude.Lts as lts
+use Rattle.asking.proofs.values.push.Reads as push-reads
+
+abbrev Inv-loop : tie.InvT-loop
+Inv-loop d m₀ i₀ m i = Valuing d m i
+
+abbrev μ-loop : tie.MeasureT-loop
+μ-loop d m₀ i₀ m i = length d - i
+
+loop-holds : tie.Need-loop-holds Inv-loop μ-loop
+loop-holds c = valuing-start _
+
+shared-slice-read-push : tie.Need-shared-slice-read-push Inv-loop μ-loop
+shared-slice-read-push c = search needs
+
+push-requires : tie.Need-push-requires Inv-loop μ-loop
+push-requires c κs = here _ (c .before .before .before .before .pre) _ (c .before .loop-test .taken)
+
+add-i : tie.Need-add-i Inv-loop μ-loop
+add-i c = search needs
+
+loop-less : tie.Need-loop-less Inv-loop μ-loop
+loop-less c = search needs
+
+loop-again : tie.Need-loop-again Inv-loop μ-loop
+loop-again c = valuing-turn _ _ _ _ (c .before .before .before .loop .inv) (c .before .before .before .before .before .pre) (c .before .before .loop-test .taken) (c .push .ensures)
+
+returns : tie.Need-returns Inv-loop μ-loop
+returns c = valuing-done _ _ _ (c .before .loop .inv) (c .loop-test .left)
+
+pub magnitude-spec : {M : Type 1} → statement M
+magnitude-spec =
+    tie.close
+    (tie.spec
+    Inv-loop
+    μ-loop
+    loop-holds
+    shared-slice-read-push
+    push-requires
+    add-i
+    loop-less
+    loop-again
+    returns)

@@ -1,0 +1,51 @@
+-- `asking::words::word_at` meets its contract: the number there, where its letter allows it.
+-- Assumes nothing.
+use mathlib.Core.Path.{_≡_, sym, ap, _∙_}
+use borrow.Author.Needs.{needs}
+use mir.Syntax.{w64}
+use mir.Val.{toZ, ofZ}
+use Rattle.asking.specs.Asked.{isAllowed, allowed}
+use Rattle.asking.proofs.Taken.{allowed-yes, allowed-no}
+use Rattle.asking.proofs.words.word_at.Statement.{statement}
+use Rattle.asking.proofs.words.word_at.Tie as tie
+use Rattle.asking.proofs.words.word_at.Reads as reads
+use Rattle.asking.proofs.words.word_at.Lts as lts
+use Rattle.asking.proofs.values.number.Reads as number-reads
+use Rattle.asking.proofs.words.is_allowed.Reads as is-allowed-reads
+
+number-requires : tie.Need-number-requires
+number-requires c κs = search needs
+
+enum-known-w : tie.Need-enum-known-w
+enum-known-w c = search needs
+
+enum-told : tie.Need-enum-told
+enum-told c = search needs
+
+returns : tie.Need-returns
+returns c = sym (ap (allowed (c .before .before .before .before .args .kind)) (sym (c .before .before .number .ensures) ∙ c .enum-told .given .1))
+
+is-allowed-requires : tie.Need-is-allowed-requires
+is-allowed-requires c κs = search needs
+
+-- the number, read back
+back : (c : tie.After-known-told) → toZ w64 (ofZ w64 (c .before .w .given .0 .0)) ≡ c .before .w .given .0 .0
+back c = search needs
+
+returns-2 : tie.Need-returns-2
+returns-2 c = sym (ap (allowed (c .before .before .before .before .before .before .before .args .kind)) (sym (c .before .before .before .before .before .number .ensures) ∙ c .before .before .before .w .given .1) ∙ allowed-yes _ _ _ (sym (ap (isAllowed (c .before .before .before .before .before .before .before .args .kind)) (back (c .before .before))) ∙ sym (c .before .is-allowed .ensures) ∙ c .if1 .taken))
+
+returns-3 : tie.Need-returns-3
+returns-3 c = sym (ap (allowed (c .before .before .before .before .before .before .before .args .kind)) (sym (c .before .before .before .before .before .number .ensures) ∙ c .before .before .before .w .given .1) ∙ allowed-no _ _ _ (sym (ap (isAllowed (c .before .before .before .before .before .before .before .args .kind)) (back (c .before .before))) ∙ sym (c .before .is-allowed .ensures) ∙ c .if1 .left))
+
+pub word-at-spec : {M : Type 1} → statement M
+word-at-spec =
+    tie.close
+    (tie.spec
+    number-requires
+    enum-known-w
+    enum-told
+    returns
+    is-allowed-requires
+    returns-2
+    returns-3)

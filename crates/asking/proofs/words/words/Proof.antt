@@ -1,0 +1,108 @@
+-- `asking::words::words` meets its contract: what is wanted from here is what is wanted from the start.
+-- Assumes nothing.
+use Prim.Native.Nat.{_-_}
+use mathlib.Core.Path.{_≡_, sym, ap, _∙_}
+use native.Mathlib.Omega.{arith}
+use lib.ListN.{set, drop}
+use borrow.Author.Needs.{needs}
+use mir.Syntax.{w64}
+use mir.Val.{toZ, ofZ}
+use Rattle.asking.specs.Asked.{allowed}
+use Rattle.asking.specs.Numbers.{numberAt}
+use Rattle.asking.specs.Table.{kindOf}
+use Rattle.asking.proofs.Taken.{Going, going-start, going-within, going-none, going-turn, going-ended}
+use Rattle.asking.proofs.words.words.Statement.{statement}
+use Rattle.asking.proofs.words.words.Tie as tie
+use Rattle.asking.proofs.words.words.Reads as reads
+use Rattle.asking.proofs.words.words.Lts as lts
+use Rattle.asking.proofs.table.kind_of.Reads as kind-of-reads
+use Rattle.asking.proofs.words.ended.Reads as ended-reads
+use Rattle.asking.proofs.words.is_number.Reads as is-number-reads
+use Rattle.asking.proofs.words.not_understood.Reads as not-understood-reads
+use Rattle.asking.proofs.words.word_at.Reads as word-at-reads
+
+abbrev Inv-loop : tie.InvT-loop
+Inv-loop row line from values₀ at₀ k₀ values at k = Going row line from values at k
+
+abbrev μ-loop : tie.MeasureT-loop
+μ-loop row line from values₀ at₀ k₀ values at k = 5 - k
+
+loop-holds : tie.Need-loop-holds Inv-loop μ-loop
+loop-holds c = going-start _ _ _
+
+is-number-requires : tie.Need-is-number-requires Inv-loop μ-loop
+is-number-requires c κs = search needs
+
+kind-of-requires : tie.Need-kind-of-requires Inv-loop μ-loop
+kind-of-requires c κs = (c .before .before .before .before .pre, omega (arith, going-within _ _ _ _ _ _ (c .before .before .loop .inv) _ (c .before .is-number .ensures) (c .if1 .taken)))
+
+word-at-requires : tie.Need-word-at-requires Inv-loop μ-loop
+word-at-requires c κs = search needs
+
+enum-known-w : tie.Need-enum-known-w Inv-loop μ-loop
+enum-known-w c = search needs
+
+enum-told : tie.Need-enum-told Inv-loop μ-loop
+enum-told c = search needs
+
+not-understood-requires : tie.Need-not-understood-requires Inv-loop μ-loop
+not-understood-requires c κs = search needs
+
+-- what `word_at` answered, and its number, read back
+there : (c : tie.After-word-at Inv-loop μ-loop)
+    → let a = c .before .before .before .before .before .before .args in
+    let k = c .before .before .before .before .loop .k in
+    let at = c .before .before .before .before .loop .at in
+    allowed (kindOf (a .row) k) (numberAt at (drop at (a .line .now))) ≡ c .word-at .result
+there c =
+    let at = c .before .before .before .before .loop .at in
+    sym (c .word-at .ensures ∙ ap (λ z. allowed z (numberAt at (drop at (c .before .before .before .before .before .before .args .line .now)))) (c .before .kind-of .ensures))
+
+back : (c : tie.After-known-told Inv-loop μ-loop) → toZ w64 (ofZ w64 (c .before .w .given .0 .0)) ≡ c .before .w .given .0 .0
+back c = search needs
+
+returns : tie.Need-returns Inv-loop μ-loop
+returns c = c .not-understood .ensures ∙ going-none _ _ _ _ _ _ (c .before .before .before .before .before .before .before .loop .inv) _ (c .before .before .before .before .before .before .is-number .ensures) (c .before .before .before .before .before .if1 .taken) (there (c .before .before .before) ∙ c .before .enum-told .given .1)
+
+mul-values : tie.Need-mul-values Inv-loop μ-loop
+mul-values c = omega (arith, going-within _ _ _ _ _ _ (c .before .before .before .before .before .before .before .loop .inv) _ (c .before .before .before .before .before .before .is-number .ensures) (c .before .before .before .before .before .if1 .taken))
+
+array-set-from-values : tie.Need-array-set-from-values Inv-loop μ-loop
+array-set-from-values c = going-within _ _ _ _ _ _ (c .before .before .before .before .before .before .before .loop .inv) _ (c .before .before .before .before .before .before .is-number .ensures) (c .before .before .before .before .before .if1 .taken)
+
+add-k : tie.Need-add-k Inv-loop μ-loop
+add-k c = omega (arith, going-within _ _ _ _ _ _ (c .before .before .before .before .before .before .before .loop .inv) _ (c .before .before .before .before .before .before .is-number .ensures) (c .before .before .before .before .before .if1 .taken))
+
+loop-less : tie.Need-loop-less Inv-loop μ-loop
+loop-less c = omega (arith, going-within _ _ _ _ _ _ (c .before .before .before .before .before .before .before .loop .inv) _ (c .before .before .before .before .before .before .is-number .ensures) (c .before .before .before .before .before .if1 .taken))
+
+loop-again : tie.Need-loop-again Inv-loop μ-loop
+loop-again c = rw (back c) (going-turn _ _ _ _ _ _ (c .before .before .before .before .before .before .before .loop .inv) _ (c .before .before .before .before .before .before .is-number .ensures) (c .before .before .before .before .before .if1 .taken) _ _ (there (c .before .before .before) ∙ c .before .w .given .1))
+
+ended-requires : tie.Need-ended-requires Inv-loop μ-loop
+ended-requires c κs = (c .before .before .before .before .pre, omega (arith, c .before .before .loop .inv .left))
+
+returns-2 : tie.Need-returns-2 Inv-loop μ-loop
+returns-2 c = c .ended .ensures ∙ going-ended _ _ _ _ _ _ (c .before .before .before .loop .inv) _ (c .before .before .is-number .ensures) (c .before .if1 .left)
+
+pub words-spec : {M : Type 1} → statement M
+words-spec =
+    tie.close
+    (tie.spec
+    Inv-loop
+    μ-loop
+    loop-holds
+    is-number-requires
+    kind-of-requires
+    word-at-requires
+    enum-known-w
+    enum-told
+    not-understood-requires
+    returns
+    mul-values
+    array-set-from-values
+    add-k
+    loop-less
+    loop-again
+    ended-requires
+    returns-2)

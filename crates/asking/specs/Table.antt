@@ -1,0 +1,107 @@
+-- The table of commands: each one's word, and a letter for each word behind it.
+-- Assumes nothing.
+use Prim.Native.Nat.{ℕ, zero, suc}
+use Prim.Native.String.{String}
+use Prim.Native.Char.{code}
+use mathlib.Core.List.{List, [], _∷_, _++_}
+use mathlib.Core.Bool.{Bool, true, false, cond, not, _&&_}
+use lib.Dec.{eqb}
+use lib.ListN.{getD}
+
+-- ---- words
+-- the bytes of a quoted word
+abbrev pub spelt : String → List ℕ
+spelt String.[] = []
+spelt (String._∷_ c s) = code c ∷ spelt s
+
+-- the word that a line begins with: its bytes before the first space
+unfoldable pub wordOf : List ℕ → List ℕ
+wordOf [] = []
+wordOf (b ∷ l) = cond (eqb b 32) [] (b ∷ wordOf l)
+
+-- no byte of it is a space
+unfoldable pub isPlain : List ℕ → Bool
+isPlain [] = true
+isPlain (b ∷ l) = not (eqb b 32) && isPlain l
+
+-- the same bytes
+unfoldable pub same : (l m : List ℕ) → Bool
+same [] [] = true
+same [] (b ∷ m) = false
+same (a ∷ l) [] = false
+same (a ∷ l) (b ∷ m) = eqb a b && same l m
+
+-- ---- the rows
+-- a command's word, and the letters of the words behind it: `r` a rate, `n` any number, `p` a place (from 0 on), `m` a room (0 to 128);
+-- last `t` a text, the rest of the line, or `*` a rest that the command takes apart itself
+pub record Row : Type 0 where
+  pub name : List ℕ
+  pub letters : List ℕ
+
+abbrev pub row : (name letters : String) → Row
+row name letters = record { name = spelt name; letters = spelt letters }
+
+unfoldable pub rows : List Row
+rows =
+    row "help" ""
+    ∷ row "read" "rt"
+    ∷ row "read_as" "nrt"
+    ∷ row "read_runtime" "rt"
+    ∷ row "label" "rnpm"
+    ∷ row "footage" "nrnpm"
+    ∷ row "runtime" "rnnpm"
+    ∷ row "count" "rn"
+    ∷ row "from_ticks" "rn"
+    ∷ row "from_seconds" "rnn"
+    ∷ row "minute" "n"
+    ∷ row "ticks" "rn"
+    ∷ row "seconds" "rn"
+    ∷ row "neg" "rn"
+    ∷ row "abs" "rn"
+    ∷ row "rebase" "rnr"
+    ∷ row "add" "rnrn"
+    ∷ row "sub" "rnrn"
+    ∷ row "cmp" "rnrn"
+    ∷ row "mul" "rnnn"
+    ∷ row "div" "rnn"
+    ∷ row "rem" "rnn"
+    ∷ row "divq" "rnnn"
+    ∷ row "remq" "rnnn"
+    ∷ row "convert" "rn*"
+    ∷ []
+
+-- the row of a number, and one of no word for any other number
+abbrev pub rowAt : ℕ → Row
+rowAt n = getD rows n (row "" "")
+
+-- this is the word of the row
+abbrev pub isNamed : ℕ → (word : List ℕ) → Bool
+isNamed n word = same word (rowAt n .name)
+
+-- the number of the first row that has the word, counted from i; as many as there are rows where none has it
+unfoldable pub rowFrom : ℕ → List Row → (word : List ℕ) → ℕ
+rowFrom i [] word = i
+rowFrom i (r ∷ rs) word = cond (same word (r .name)) i (rowFrom (suc i) rs word)
+
+abbrev pub rowNamed : (word : List ℕ) → ℕ
+rowNamed word = rowFrom 0 rows word
+
+-- the letter of the k-th word behind a command's; a space where there is none
+abbrev pub kindOf : (row k : ℕ) → ℕ
+kindOf n k = getD (rowAt n .letters) k 32
+
+-- ---- the table's bytes: words filled up with spaces to 16 bytes, letters to 8
+unfoldable pub filled : ℕ → List ℕ → List ℕ
+filled zero l = []
+filled (suc n) [] = 32 ∷ filled n []
+filled (suc n) (b ∷ l) = b ∷ filled n l
+
+abbrev pub rowBytes : Row → List ℕ
+rowBytes r = filled 16 (r .name) ++ filled 8 (r .letters)
+
+unfoldable pub bytesIn : List Row → List ℕ
+bytesIn [] = []
+bytesIn (r ∷ rs) = rowBytes r ++ bytesIn rs
+
+unfoldable pub tableBytes : List ℕ
+tableBytes = bytesIn rows

@@ -1,0 +1,11 @@
+// What a line of the calculator asks (docs/ASK.md): which command, by its row in the table, the numbers behind its word, and where the
+// rest begins. Refuses nothing itself: a line that is no command is not understood, and a number's bounds are the operations' matter.
+
+mod table;
+mod values;
+mod words;
+
+pub use values::number;
+pub use values::Word;
+pub use words::understand;
+pub use words::Asked;

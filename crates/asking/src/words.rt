@@ -1,0 +1,172 @@
+// A line taken apart: the command's word, the numbers behind it as its row has them, and where the rest of the line begins.
+ghost use mathlib.Core.Path.{_≡_};
+ghost use mathlib.Core.Bool.{not, _&&_};
+ghost use Prim.Native.Nat.{_<_, _≤_};
+ghost use lib.ListN.{length, drop};
+ghost use lib.Dec.{ltb, leb};
+ghost use lib.IntN.{natAbs};
+ghost use Rattle.numbers.specs.Sign.{isNeg};
+ghost use Rattle.asking.specs.Numbers.{numberAt};
+ghost use Rattle.asking.specs.Table.{wordOf, kindOf};
+ghost use Rattle.asking.specs.Asked.{isAllowed, allowed, isLast, restAt, unknown, endedAt, wordsFrom, noValues, askedOf};
+use crate::values;
+use crate::values::Word;
+use crate::table;
+
+// What a line asks: the row of its command, 25 where it is not understood; the command's numbers, zeros behind them; and the place where
+// a text or a list begins, else the line's end.
+pub struct Asked {
+    pub row: usize,
+    pub values: [i64; 5],
+    pub rest: usize,
+}
+
+// The place where the rest of a line begins; or something else stands there.
+enum Rest {
+    At(usize),
+    Other,
+}
+
+// A line that is not understood.
+fn not_understood() -> Asked
+    ensures answer { λ r. ⌜ r ≡ unknown ⌝ }
+{
+    Asked {
+        row: 25,
+        values: [0i64; 5],
+        rest: 0,
+    }
+}
+
+// Where the first word of a line ends: at the first space, or at the line's end.
+fn word_end(line: &[u8]) -> usize
+    ensures answer { λ r. ⌜ r ≡ length (wordOf (now (line .entry))) ⌝ }
+{
+    let mut i = 0;
+    while i < line.len() {
+        if line[i] == b' ' {
+            return i;
+        }
+        i += 1;
+    }
+    i
+}
+
+// Is a room of so many bytes understood?
+fn is_room(z: i64) -> bool
+    ensures answer { λ r. ⌜ r ≡ not (isNeg z) && leb (natAbs z) 128 ⌝ }
+{
+    if numbers::below_zero(z) {
+        return false;
+    }
+    numbers::magnitude(z) <= 128
+}
+
+// Is this number allowed where a row has this letter?
+fn is_allowed(kind: u8, z: i64) -> bool
+    ensures answer { λ r. ⌜ r ≡ isAllowed kind z ⌝ }
+{
+    if kind == b'p' {
+        return !numbers::below_zero(z);
+    }
+    if kind == b'm' {
+        return is_room(z);
+    }
+    true
+}
+
+// The number at a place of the line, behind one space, that is allowed where a row has this letter.
+fn word_at(line: &[u8], at: usize, kind: u8) -> Word
+    ensures answer { λ r. ⌜ r ≡ allowed kind (numberAt at (drop at (now (line .entry)))) ⌝ }
+{
+    let w = values::number(line, at);
+    let Word::Number(z, _) = w else {
+        return Word::Nothing;
+    };
+    if is_allowed(kind, z) {
+        return w;
+    }
+    Word::Nothing
+}
+
+// Where the rest of the line begins, by the last letter of the row.
+fn rest_at(line: &[u8], at: usize, kind: u8) -> Rest
+    ensures answer { λ r. ⌜ r ≡ restAt kind at (drop at (now (line .entry))) ⌝ }
+{
+    if line.len() <= at {
+        return Rest::At(at);
+    }
+    if kind == b'*' {
+        return Rest::At(at);
+    }
+    if kind != b't' {
+        return Rest::Other;
+    }
+    if line[at] != b' ' {
+        return Rest::Other;
+    }
+    Rest::At(at + 1)
+}
+
+// What is asked once the numbers are taken. Asks a row, and one of its letters.
+fn ended(row: usize, line: &[u8], at: usize, k: usize, values: [i64; 5]) -> Asked
+    requires row { ⌜ row < 25 ⌝ }
+    requires letter { ⌜ k ≤ 5 ⌝ }
+    ensures answer { λ r. ⌜ r ≡ endedAt row (now (line .entry)) at k values ⌝ }
+{
+    let r = rest_at(line, at, table::kind_of(row, k));
+    let Rest::At(rest) = r else {
+        return not_understood();
+    };
+    Asked { row, values, rest }
+}
+
+// Is a number the k-th word behind the command's? Asks a row.
+fn is_number(row: usize, k: usize) -> bool
+    requires row { ⌜ row < 25 ⌝ }
+    ensures answer { λ r. ⌜ r ≡ ltb k 5 && not (isLast (kindOf row k)) ⌝ }
+{
+    if k >= 5 {
+        return false;
+    }
+    let kind = table::kind_of(row, k);
+    if kind == b' ' {
+        return false;
+    }
+    if kind == b't' {
+        return false;
+    }
+    kind != b'*'
+}
+
+// The words behind the command's, from a place on. Asks a row.
+fn words(row: usize, line: &[u8], from: usize) -> Asked
+    requires row { ⌜ row < 25 ⌝ }
+    ensures answer { λ r. ⌜ r ≡ wordsFrom 5 row (now (line .entry)) from 0 noValues ⌝ }
+{
+    let mut values = [0i64; 5];
+    let mut at = from;
+    let mut k = 0;
+    while is_number(row, k) {
+        let w = word_at(line, at, table::kind_of(row, k));
+        let Word::Number(z, next) = w else {
+            return not_understood();
+        };
+        values[k] = z;
+        at = next;
+        k += 1;
+    }
+    ended(row, line, at, k, values)
+}
+
+// What a line asks: its first word is a command's, and the words behind it are as the command's row has them; else it is not understood.
+pub fn understand(line: &[u8]) -> Asked
+    ensures answer { λ r. ⌜ r ≡ askedOf (now (line .entry)) ⌝ }
+{
+    let end = word_end(line);
+    let row = table::row_named(&line[0..end]);
+    if row < 25 {
+        return words(row, line, end);
+    }
+    not_understood()
+}

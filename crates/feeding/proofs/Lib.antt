@@ -1,0 +1,5 @@
+pub mod Following
+pub mod Standing
+pub mod Statements
+pub mod Whole
+pub mod Determined

@@ -1,0 +1,29 @@
+-- `feeding::finish` meets its contract: a line is answered where a byte of it has come.
+-- Assumes nothing.
+use mathlib.Core.Path.{sym, _∙_}
+use borrow.Author.Needs.{needs}
+use Rattle.feeding.proofs.Following.{finished-none, finished-last}
+use Rattle.feeding.proofs.finish.Statement.{statement}
+use Rattle.feeding.proofs.finish.Tie as tie
+use Rattle.feeding.proofs.finish.Reads as reads
+use Rattle.feeding.proofs.finish.Lts as lts
+use Rattle.feeding.proofs.answer.Reads as answer-reads
+use Rattle.streams.proofs.gathered.Gathered.is_empty.Reads as is-empty-reads
+
+is-empty-requires : tie.Need-is-empty-requires
+is-empty-requires c κs = search needs
+
+returns : tie.Need-returns
+returns c = let a = c .before .before .before .before .args in finished-none (a .buffer .now) (a .out .now) (a .g) (sym (c .before .is-empty .ensures) ∙ c .if1 .taken)
+
+answer-requires : tie.Need-answer-requires
+answer-requires c κs = search needs
+
+same-length : tie.Need-same-length
+same-length c = search needs
+
+returns-2 : tie.Need-returns-2
+returns-2 c = let a = c .before .before .before .before .before .before .before .before .args in finished-last (a .buffer .now) (a .out .now) (a .g) _ _ (sym (c .before .before .before .before .before .is-empty .ensures) ∙ c .before .before .before .before .if1 .left) (c .before .before .answer .ensures)
+
+pub finish-spec : {M : Type 1} → statement M
+finish-spec = tie.close (tie.spec is-empty-requires returns answer-requires same-length returns-2)

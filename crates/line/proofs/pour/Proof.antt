@@ -1,0 +1,33 @@
+-- `line::pour` meets its contract: the chunk is taken whole, and what came of it is handed on.
+-- Assumes nothing.
+use mathlib.Core.Path.{ap}
+use borrow.Author.Needs.{needs}
+use Rattle.feeding.proofs.Statements.{taken-whole}
+use Rattle.line.proofs.pour.Statement.{statement}
+use Rattle.line.proofs.pour.Tie as tie
+use Rattle.line.proofs.pour.Reads as reads
+use Rattle.line.proofs.pour.Lts as lts
+use Rattle.feeding.proofs.feed.Reads as feed-reads
+use Rattle.line.proofs.write_sheet.Reads as write-sheet-reads
+
+feed-requires : tie.Need-feed-requires
+feed-requires c κs = search needs
+
+write-sheet-requires : tie.Need-write-sheet-requires
+write-sheet-requires c κs = search needs
+
+same-length : tie.Need-same-length
+same-length c = search needs
+
+same-length-2 : tie.Need-same-length-2
+same-length-2 c = search needs
+
+returns : tie.Need-returns
+returns c =
+    let a = c .before .before .before .before .before .before .before .before .before .before .before .before .before .args in
+    let e = c .before .before .before .before .before .before .before .feed .ensures in
+    (taken-whole (a .buffer .now) (a .out .now) (a .g) (a .chunk .now) (c .before .before .before .before .before .before .before .before .before .before .before .before .before .pre .1), (ap (λ z. z .gathered) (e .0), e .1 .0))
+
+pub pour-spec : {M : Type 1} → statement M
+pour-spec =
+    tie.close (tie.spec feed-requires write-sheet-requires same-length same-length-2 returns)

@@ -1,0 +1,58 @@
+-- `streams::put_signed` meets its contract: the rest of the sheet is lent on, where there is room.
+-- Assumes nothing.
+use native.Mathlib.Omega.{arith}
+use borrow.Author.Needs.{needs}
+use Rattle.written.specs.Parts.{signedText}
+use Rattle.streams.proofs.Putting.{put-fits, put-in, put-out}
+use Rattle.streams.proofs.sheets.put_signed.Statement.{statement}
+use Rattle.streams.proofs.sheets.put_signed.Tie as tie
+use Rattle.streams.proofs.sheets.put_signed.Reads as reads
+use Rattle.streams.proofs.sheets.put_signed.Lts as lts
+use Rattle.lent.proofs.room.Reads as room-reads
+use Rattle.written.proofs.put_signed.Reads as put-signed-reads
+use Rattle.written.proofs.signed_length.Reads as signed-length-reads
+
+signed-length-requires : tie.Need-signed-length-requires
+signed-length-requires c κs = search needs
+
+room-requires : tie.Need-room-requires
+room-requires c κs = search needs
+
+sub-put-signed : tie.Need-sub-put-signed
+sub-put-signed c = let a = c .before .before .before .before .args in omega (arith, put-fits (a .out .now) (a .used) (signedText (a .minus) (a .m)) _ _ (c .before .before .signed-length .ensures) (c .before .room .ensures) (c .if1 .taken))
+
+part-put-signed-start : tie.Need-part-put-signed-start
+part-put-signed-start c = let a = c .before .before .before .before .args in omega (arith, put-fits (a .out .now) (a .used) (signedText (a .minus) (a .m)) _ _ (c .before .before .signed-length .ensures) (c .before .room .ensures) (c .if1 .taken))
+
+part-put-signed-end : tie.Need-part-put-signed-end
+part-put-signed-end c = search needs
+
+put-signed-requires : tie.Need-put-signed-requires
+put-signed-requires c κs = search needs
+
+add-result : tie.Need-add-result
+add-result c = let a = c .before .before .before .before .before .before .before .before .args in omega (arith, put-fits (a .out .now) (a .used) (signedText (a .minus) (a .m)) _ _ (c .before .before .before .before .before .before .signed-length .ensures) (c .before .before .before .before .before .room .ensures) (c .before .before .before .before .if1 .taken))
+
+same-length : tie.Need-same-length
+same-length c = search needs
+
+returns : tie.Need-returns
+returns c = let a = c .before .before .before .before .before .before .before .before .args in put-in (a .out .now) (a .used) (signedText (a .minus) (a .m)) _ _ (c .before .before .before .before .before .before .signed-length .ensures) (c .before .before .before .before .before .room .ensures) _ (c .before .before .before .before .if1 .taken) (c .before .before .put-signed .ensures)
+
+returns-2 : tie.Need-returns-2
+returns-2 c = let a = c .before .before .before .before .args in put-out (a .out .now) (a .used) (signedText (a .minus) (a .m)) _ _ (c .before .before .signed-length .ensures) (c .before .room .ensures) (c .if1 .left)
+
+pub put-signed-spec : {M : Type 1} → statement M
+put-signed-spec =
+    tie.close
+    (tie.spec
+    signed-length-requires
+    room-requires
+    sub-put-signed
+    part-put-signed-start
+    part-put-signed-end
+    put-signed-requires
+    add-result
+    same-length
+    returns
+    returns-2)

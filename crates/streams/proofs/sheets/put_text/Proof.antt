@@ -1,0 +1,53 @@
+-- `streams::put_text` meets its contract: the rest of the sheet is lent on, where there is room.
+-- Assumes nothing.
+use mathlib.Core.Path.{refl}
+use native.Mathlib.Omega.{arith}
+use borrow.Author.Needs.{needs}
+use Rattle.streams.proofs.Putting.{put-fits, put-in, put-out}
+use Rattle.streams.proofs.sheets.put_text.Statement.{statement}
+use Rattle.streams.proofs.sheets.put_text.Tie as tie
+use Rattle.streams.proofs.sheets.put_text.Reads as reads
+use Rattle.streams.proofs.sheets.put_text.Lts as lts
+use Rattle.lent.proofs.put_text.Reads as put-text-reads
+use Rattle.lent.proofs.room.Reads as room-reads
+
+room-requires : tie.Need-room-requires
+room-requires c κs = search needs
+
+sub-put-text : tie.Need-sub-put-text
+sub-put-text c = omega (arith, put-fits (c .before .before .before .before .args .out .now) (c .before .before .before .before .args .used) (c .before .before .before .before .args .text .now) _ _ refl (c .before .room .ensures) (c .if1 .taken))
+
+part-put-text-start : tie.Need-part-put-text-start
+part-put-text-start c = omega (arith, put-fits (c .before .before .before .before .args .out .now) (c .before .before .before .before .args .used) (c .before .before .before .before .args .text .now) _ _ refl (c .before .room .ensures) (c .if1 .taken))
+
+part-put-text-end : tie.Need-part-put-text-end
+part-put-text-end c = search needs
+
+put-text-requires : tie.Need-put-text-requires
+put-text-requires c κs = search needs
+
+add-result : tie.Need-add-result
+add-result c = omega (arith, put-fits (c .before .before .before .before .before .before .before .before .args .out .now) (c .before .before .before .before .before .before .before .before .args .used) (c .before .before .before .before .before .before .before .before .args .text .now) _ _ refl (c .before .before .before .before .before .room .ensures) (c .before .before .before .before .if1 .taken))
+
+same-length : tie.Need-same-length
+same-length c = search needs
+
+returns : tie.Need-returns
+returns c = put-in (c .before .before .before .before .before .before .before .before .args .out .now) (c .before .before .before .before .before .before .before .before .args .used) (c .before .before .before .before .before .before .before .before .args .text .now) _ _ refl (c .before .before .before .before .before .room .ensures) _ (c .before .before .before .before .if1 .taken) (c .before .before .put-text .ensures)
+
+returns-2 : tie.Need-returns-2
+returns-2 c = put-out (c .before .before .before .before .args .out .now) (c .before .before .before .before .args .used) (c .before .before .before .before .args .text .now) _ _ refl (c .before .room .ensures) (c .if1 .left)
+
+pub put-text-spec : {M : Type 1} → statement M
+put-text-spec =
+    tie.close
+    (tie.spec
+    room-requires
+    sub-put-text
+    part-put-text-start
+    part-put-text-end
+    put-text-requires
+    add-result
+    same-length
+    returns
+    returns-2)
