@@ -1,8 +1,8 @@
 // What C may call: every public operation under a name that begins with `tzq_`, its answer as plain numbers, a refusal's number always
 // among them (0: not refused). No rule is made here.
-mod handed;
-mod reads;
-mod sums;
-mod tables;
-mod times;
-mod writes;
+pub mod handed;
+pub mod reads;
+pub mod sums;
+pub mod tables;
+pub mod times;
+pub mod writes;

@@ -14,7 +14,7 @@ use Rattle.streams.specs.Sheet.{textOn}
 use Rattle.streams.proofs.Parting.{two-chunks, one-reading, each-append}
 use Rattle.streams.proofs.Standing.{Stands, stands-none}
 use Rattle.feeding.specs.Feeding.{begun, fedOf}
-use Rattle.feeding.specs.Statements.{Writes, ends, goes, Answered, TakenWhole, Stopped}
+use Rattle.feeding.specs.Statements.{Writes, ends, goes, Answered, TakenWhole, StoppedFull}
 use Rattle.feeding.proofs.Standing.{chunk-is, fed-length, finish-is, whole, stopped}
 
 -- the answers to the lines of what comes, where `held` has come of the first one already
@@ -49,6 +49,6 @@ answered buffer out input text ls h r lines w =
 pub taken-whole : TakenWhole
 taken-whole buffer out g chunk h = whole chunk 0 (begun buffer out g) (omega arith) ∙ omega arith
 
-pub stopped-full : Stopped
+pub stopped-full : StoppedFull
 stopped-full buffer out g chunk =
     ⊎-elim (λ p. inl (p ∙ omega arith)) (λ p. inr p) (stopped chunk 0 (begun buffer out g))

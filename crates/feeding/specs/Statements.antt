@@ -32,8 +32,8 @@ abbrev pub TakenWhole : Type 0
 TakenWhole = (buffer out : List ℕ) (g : Gathered) (chunk : List ℕ) → 47 * length chunk ≤ length out → fedOf buffer out g chunk .eaten ≡ length chunk
 
 -- of any chunk all is taken, or the sheet has no room for the longest answer: nothing is lost, and nothing is held back for long
-abbrev pub Stopped : Type 0
-Stopped =
+abbrev pub StoppedFull : Type 0
+StoppedFull =
     (buffer out : List ℕ) (g : Gathered) (chunk : List ℕ)
     → let e = fedOf buffer out g chunk in
     (e .eaten ≡ length chunk) ⊎ (length out < e .machine .sheet .used + 47)

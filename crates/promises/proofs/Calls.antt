@@ -21,6 +21,8 @@ one-answer = record {
   read-text = record { asks-nothing = λ κs a. tt; one-outcome = reading-determined.read-text-determined };
   read-runtime = record { asks-nothing = λ κs a. tt; one-outcome = runtime-reading-determined.read-runtime-determined };
   sections = record { asks-nothing = λ κs a. tt; one-outcome = label-writer-determined.sections-determined };
+  sections-length = record { asks-nothing = λ κs a. tt; one-outcome = label-writer-determined.sections-length-determined };
+  put-sections = record { asks-nothing = λ κs a. tt; one-outcome = label-writer-determined.put-sections-determined };
   write-label = record { asks-nothing = λ κs a. tt; one-outcome = label-writer-determined.write-label-determined };
   write-footage = record { asks-nothing = λ κs a. tt; one-outcome = footage-writer-determined.write-footage-determined };
   write-runtime = record { asks-nothing = λ κs a. tt; one-outcome = runtime-writer-determined.write-runtime-determined };

@@ -9,26 +9,30 @@ use Rattle.film.specs.Film.{isFormat, formatAt}
 use Rattle.film.specs.Footage.{footageCount, footageOf}
 use Rattle.labels.specs.Label.{labelCount, isDropped}
 use Rattle.labels.specs.Sections.{fieldsAt, droppedBefore, sectionsOf}
-use Rattle.scanner.specs.Then.{fieldThen, byteThen, endOr, signThen, fieldsThen}
+use Rattle.scanner.specs.Then.{fieldThen, byteThen}
+use Rattle.scanner.specs.Scan.{signOf, tailOf}
+use Rattle.scanner.specs.Fields.{fieldsIn, fieldsFound}
+use Rattle.scanner.specs.Long.{fieldsLong}
+use Rattle.scanner.specs.Text.{textScan}
 use Rattle.label_scan.specs.Label.{labelScan}
 use Rattle.footage_scan.specs.Footage.{footageScan}
 use Rattle.reading.specs.Reading.{labelRead, footageRead, readText}
 use Rattle.label_writer.specs.Sections.{labelFields, labelSections}
-use Rattle.label_writer.specs.LabelText.{fieldsText, sectionsText, labelText}
+use Rattle.written.specs.Clock.{clockText}
+use Rattle.label_writer.specs.LabelText.{sectionsText, labelText}
 use Rattle.footage_writer.specs.FootageText.{feetText, footageText}
 use Rattle.time.specs.Bounds.{isFraction}
-use Rattle.time.specs.Instant.{instant}
-use Rattle.arithmetic.specs.Pair.{instantsOf}
+use Rattle.timecodes.specs.Instant.{instant}
 use Rattle.arithmetic.specs.Sum.{joined}
 use Rattle.arithmetic.specs.Truncating.{divOf}
 use Rattle.arithmetic.specs.Flooring.{divqOf}
-use Rattle.chains.specs.Chain.{stepOf, carried, convertOf}
+use Rattle.chains.specs.Chain.{convertOf}
 use Rattle.promises.specs.Cases.{StarredCases}
 
 pub starred-cases : StarredCases
 unfolding nearestN valueFrom span digitsOf widthBy width decimal held rates isRate rateRow
     dropFrames isDrop isFormat formatAt footageCount footageOf labelCount isDropped fieldsAt droppedBefore sectionsOf
-    fieldThen byteThen endOr signThen fieldsThen labelScan footageScan labelRead footageRead readText labelFields
-    labelSections fieldsText sectionsText labelText feetText footageText isFraction instant instantsOf joined divOf divqOf stepOf carried convertOf
+    fieldThen byteThen signOf tailOf fieldsIn fieldsFound fieldsLong textScan labelScan footageScan labelRead footageRead readText labelFields
+    labelSections clockText sectionsText labelText feetText footageText isFraction instant joined divOf divqOf convertOf
 starred-cases =
-    ((refl, refl), ((refl, refl), (refl, ((refl, refl), ((refl, refl), ((refl, refl), ((refl, refl), ((refl, refl), (refl, ((refl, λ rate r. rw r), ((refl, λ rate r. rw r), (λ rate r. rw r, (λ rate r. rw r, (refl, (refl, tt)))))))))))))))
+    ((refl, refl), ((refl, refl), (refl, ((refl, refl), ((refl, refl), ((refl, refl), ((refl, refl), ((refl, refl), (refl, ((refl, λ rate r. simp r), ((refl, λ rate r. simp r), (λ rate r. simp r, (λ rate r. simp r, (refl, (refl, tt)))))))))))))))

@@ -25,10 +25,10 @@ use Rattle.time.specs.Seconds as seconds
 use Rattle.arithmetic.specs.declared.Compared.{Compared}
 use Rattle.arithmetic.specs.declared.Compared.the-variants as compared
 use Rattle.arithmetic.specs.Compare as order
-use Rattle.chains.specs.declared.Converted.{Converted}
-use Rattle.chains.specs.declared.Converted.the-variants as converted
-use Rattle.chains.specs.Chain.{timecode}
-use Rattle.chains.specs.Chain as chain
+use Rattle.timecodes.specs.declared.Answer.{Answer}
+use Rattle.timecodes.specs.declared.Answer.the-variants as answer-is
+use Rattle.timecodes.specs.Timecode.{timecode}
+use Rattle.timecodes.specs.Timecode as answered
 use Rattle.written.specs.declared.Written.{Written}
 use Rattle.written.specs.declared.Written.the-variants.{Length, Refused}
 use Rattle.written.specs.Written.{Draft, answerTo, lineTo, numberOf, lengthOf}
@@ -46,12 +46,12 @@ count-zero : (a : Counted) → 0 < count.numberOf a → count.countOf a ≡ pos 
 count-zero (counted.Count z) h = absurd (omega arith)
 count-zero (counted.Refused e) h = refl
 
-text-zero : (a : Read) → 0 < text.numberOf a → (text.countOf a ≡ pos 0) × (text.formatOf a ≡ 0)
+text-zero : (a : Read) → 0 < text.numberOf a → (text.timecodeOf a ≡ timecode (pos 0) 0) × (text.formatOf a ≡ 0)
 text-zero (read.Label z) h = absurd (omega arith)
 text-zero (read.Footage z format) h = absurd (omega arith)
 text-zero (read.Refused e) h = (refl, refl)
 
-ticks-zero : (a : Ticked) → 0 < ticks.numberOf a → ticks.valueOf a ≡ pos 0
+ticks-zero : (a : Ticked) → 0 < ticks.numberOf a → ticks.ticksIn a ≡ pos 0
 ticks-zero (ticked.Ticks t) h = absurd (omega arith)
 ticks-zero (ticked.Refused e) h = refl
 
@@ -59,13 +59,13 @@ seconds-zero : (a : Timed) → 0 < seconds.numberOf a → (seconds.numeratorOf a
 seconds-zero (timed.Seconds p q) h = absurd (omega arith)
 seconds-zero (timed.Refused e) h = (refl, refl)
 
-order-zero : (a : Compared) → 0 < order.numberOf a → order.valueOf a ≡ pos 0
+order-zero : (a : Compared) → 0 < order.numberOf a → order.orderIn a ≡ pos 0
 order-zero (compared.Order o) h = absurd (omega arith)
 order-zero (compared.Refused e) h = refl
 
-end-zero : (a : Converted) → 0 < chain.numberOf a → chain.timecodeOf a ≡ timecode (pos 0) 0
-end-zero (converted.At tc) h = absurd (omega arith)
-end-zero (converted.Refused e) h = refl
+answer-zero : (a : Answer) → 0 < answered.numberOf a → answered.timecodeOf a ≡ timecode (pos 0) 0
+answer-zero (answer-is.At tc) h = absurd (omega arith)
+answer-zero (answer-is.Refused e) h = refl
 
 sections-zero : (a : Sectioned) → 0 < fields.numberOf a → fields.sectionsIn a ≡ noSections
 sections-zero (sectioned.Sections x) h = absurd (omega arith)
@@ -86,7 +86,7 @@ refused-zero = record {
   ticks = ticks-zero;
   seconds = seconds-zero;
   order = order-zero;
-  end = end-zero;
+  answer = answer-zero;
   sections = sections-zero;
   row = row-zero;
   format = format-zero;

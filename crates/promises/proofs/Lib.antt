@@ -1,6 +1,8 @@
 pub mod Calls
+pub mod CallsC
+pub mod Ties
+pub mod TiesC
 pub mod Demand1
-pub mod Behind
 pub mod When
 pub mod Read
 pub mod ReadBack

@@ -2,29 +2,34 @@
 -- Assumes nothing.
 use Rattle.promises.specs.Promises.{Promises}
 use Rattle.numbers.proofs.Statements as numbers
-use Rattle.digits.proofs.Statements as digits
 use Rattle.lent.proofs.Statements as lent
+use Rattle.digits.proofs.Statements as digits
 use Rattle.rates.proofs.Statements as rates
 use Rattle.film.proofs.Statements as film
 use Rattle.labels.proofs.Statements as labels
 use Rattle.minutes.proofs.Statements as minutes
-use Rattle.label_scan.proofs.Statements as label-text
-use Rattle.footage_scan.proofs.Statements as footage-text
-use Rattle.runtime_scan.proofs.Statements as runtime-text
+use Rattle.scanner.proofs.Statements as scanner
+use Rattle.label_scan.proofs.Statements as label-scan
+use Rattle.footage_scan.proofs.Statements as footage-scan
+use Rattle.runtime_scan.proofs.Statements as runtime-scan
 use Rattle.reading.proofs.Statements as reading
 use Rattle.runtime_reading.proofs.Statements as runtime-reading
 use Rattle.written.proofs.Statements as written
-use Rattle.label_writer.proofs.Statements as label-line
-use Rattle.footage_writer.proofs.Statements as footage-line
-use Rattle.runtime_writer.proofs.Statements as runtime-line
+use Rattle.label_writer.proofs.Statements as label-writer
+use Rattle.footage_writer.proofs.Statements as footage-writer
+use Rattle.runtime_writer.proofs.Statements as runtime-writer
 use Rattle.time.proofs.Statements as time
 use Rattle.arithmetic.proofs.Statements as arithmetic
 use Rattle.chains.proofs.Demand3 as chains
 use Rattle.streams.proofs.Statements as streams
 use Rattle.lines.proofs.Statements as lines
-use Rattle.promises.proofs.Demand1.{refused-zero, refused-keeps-line}
+use Rattle.feeding.proofs.Statements as feeding
 use Rattle.promises.proofs.Calls.{one-answer}
+use Rattle.promises.proofs.CallsC.{one-answer-c}
+use Rattle.promises.proofs.Ties.{ties}
+use Rattle.promises.proofs.TiesC.{ties-c}
 use Rattle.promises.proofs.When.{refused-when}
+use Rattle.promises.proofs.Demand1.{refused-zero, refused-keeps-line}
 use Rattle.promises.proofs.Demand2.{demand2-at5, demand2-at11}
 use Rattle.promises.proofs.ReadBack.{labels-read-back, footage-read-back, unstated-read-back}
 use Rattle.promises.proofs.Cases.{starred-cases}
@@ -32,6 +37,9 @@ use Rattle.promises.proofs.Cases.{starred-cases}
 pub promises : Promises
 promises = record {
   one-answer = one-answer;
+  one-answer-c = one-answer-c;
+  ties = ties;
+  ties-c = ties-c;
   refused-when = refused-when;
   refused-zero = refused-zero;
   refused-keeps-line = refused-keeps-line;
@@ -62,17 +70,20 @@ promises = record {
   truncate-one = numbers.truncate-one;
   lowest-one = numbers.lowest-one;
   all-digits = digits.all-digits;
-  digits-back = digits.digits-back;
+  decimal-back = digits.decimal-back;
   value-back = digits.value-back;
   decimal-length = digits.decimal-length;
   width-is = digits.width-is;
+  decimal-padded = digits.decimal-padded;
+  laid-is = lent.laid-is;
   same-length = lent.same-length;
   text-there = lent.text-there;
   others-stay = lent.others-stay;
   ticks-consistent = rates.ticks-consistent;
+  drops-at = rates.drops-at;
   format-numbered = film.format-numbered;
   only-three-perf = film.only-three-perf;
-  film-count-back = film.footage-back;
+  footage-back = film.footage-back;
   has-fields = labels.has-fields;
   one-number = labels.one-number;
   counts-earlier = labels.counts-earlier;
@@ -84,55 +95,67 @@ promises = record {
   fill-day60 = labels.fill-day60;
   first-of-minute = minutes.first-of-minute;
   listed-entries = minutes.listed-entries;
-  label-reads = label-text.label-reads;
-  label-fits = label-text.label-fits;
-  label-too-long = label-text.label-too-long;
-  label-no-shape = label-text.label-no-shape;
-  one-label-shape = label-text.one-label-shape;
-  label-back = label-text.label-back;
-  footage-reads = footage-text.footage-reads;
-  footage-fits = footage-text.footage-fits;
-  footage-too-long = footage-text.footage-too-long;
-  footage-no-shape = footage-text.footage-no-shape;
-  one-footage-shape = footage-text.one-footage-shape;
-  footage-below = footage-text.footage-below;
-  footage-text-back = footage-text.footage-back;
-  runtime-reads = runtime-text.runtime-reads;
-  runtime-fits = runtime-text.runtime-fits;
-  runtime-too-long = runtime-text.runtime-too-long;
-  runtime-no-shape = runtime-text.runtime-no-shape;
-  one-runtime-shape = runtime-text.one-runtime-shape;
-  runtime-bounded = runtime-text.runtime-bounded;
+  text-reads = scanner.text-reads;
+  fit-sound = scanner.fit-sound;
+  one-text-shape = scanner.one-text-shape;
+  text-bounded = scanner.text-bounded;
+  label-reads = label-scan.label-reads;
+  label-fits = label-scan.label-fits;
+  label-too-long = label-scan.label-too-long;
+  label-no-shape = label-scan.label-no-shape;
+  one-label-shape = label-scan.one-label-shape;
+  label-back = label-scan.label-back;
+  footage-reads = footage-scan.footage-reads;
+  footage-fits = footage-scan.footage-fits;
+  footage-too-long = footage-scan.footage-too-long;
+  footage-no-shape = footage-scan.footage-no-shape;
+  one-footage-shape = footage-scan.one-footage-shape;
+  footage-below = footage-scan.footage-below;
+  footage-text-back = footage-scan.footage-text-back;
+  runtime-reads = runtime-scan.runtime-reads;
+  runtime-fits = runtime-scan.runtime-fits;
+  runtime-too-long = runtime-scan.runtime-too-long;
+  runtime-no-shape = runtime-scan.runtime-no-shape;
+  one-runtime-shape = runtime-scan.one-runtime-shape;
+  runtime-bounded = runtime-scan.runtime-bounded;
   shapes-apart = reading.shapes-apart;
   reading-refused-six = reading.refused-six;
-  reading-no-shape = reading.no-shape;
-  reading-too-long = reading.too-long;
-  no-perf-field = reading.no-perf-field;
-  dropped = reading.dropped;
+  reading-refused-one = reading.refused-one;
+  reading-refused-two = reading.refused-two;
+  refused-four = reading.refused-four;
+  refused-three = reading.refused-three;
   label-counted = reading.label-counted;
   footage-counted = reading.footage-counted;
-  reading-out-of-bounds = reading.out-of-bounds;
+  reading-refused-five = reading.refused-five;
   reading-count-bounded = reading.count-bounded;
+  reading-at-rate = reading.at-rate;
+  read-valid = reading.read-valid;
+  number-most = reading.number-most;
   runtime-reading-refused-six = runtime-reading.refused-six;
-  runtime-reading-no-shape = runtime-reading.no-shape;
-  runtime-reading-too-long = runtime-reading.too-long;
+  runtime-reading-refused-one = runtime-reading.refused-one;
+  runtime-reading-refused-two = runtime-reading.refused-two;
   runtime-counted = runtime-reading.runtime-counted;
-  runtime-reading-out-of-bounds = runtime-reading.out-of-bounds;
+  runtime-reading-refused-five = runtime-reading.refused-five;
   runtime-reading-count-bounded = runtime-reading.count-bounded;
+  runtime-reading-at-rate = runtime-reading.at-rate;
   refused-keeps = written.refused-keeps;
   length-stands = written.length-stands;
+  answer-behind = written.answer-behind;
+  number-behind = written.number-behind;
   no-room-exactly = written.no-room-exactly;
-  label-length = label-line.label-length;
-  label-bounds = label-line.label-bounds;
-  label-bytes = label-line.label-bytes;
-  label-written = label-line.label-written;
-  fields-back = footage-line.fields-back;
-  fourteen-bytes = footage-line.fourteen-bytes;
-  some-digit = runtime-line.some-digit;
-  no-last-zero = runtime-line.no-last-zero;
-  same-value = runtime-line.same-value;
-  runtime-within = runtime-line.runtime-within;
-  eighteen-bytes = runtime-line.eighteen-bytes;
+  mark-at = label-writer.mark-at;
+  label-is = label-writer.label-is;
+  label-length = label-writer.label-length;
+  label-bounds = label-writer.label-bounds;
+  label-bytes = label-writer.label-bytes;
+  label-written = label-writer.label-written;
+  footage-is = footage-writer.footage-is;
+  fourteen-bytes = footage-writer.fourteen-bytes;
+  some-digit = runtime-writer.some-digit;
+  no-last-zero = runtime-writer.no-last-zero;
+  same-value = runtime-writer.same-value;
+  runtime-nearest = runtime-writer.runtime-nearest;
+  eighteen-bytes = runtime-writer.eighteen-bytes;
   ticks-nearest = time.ticks-nearest;
   seconds-nearest = time.seconds-nearest;
   ticks-back = time.ticks-back;
@@ -147,9 +170,15 @@ promises = record {
   quotient-floor = arithmetic.quotient-floor;
   remainder-nearest = arithmetic.remainder-nearest;
   compare-is-order = arithmetic.compare-is-order;
-  line-kept = streams.line-kept;
-  line-over = streams.line-over;
+  two-chunks = streams.two-chunks;
+  any-chunks = streams.any-chunks;
+  fold-finds = streams.fold-finds;
+  one-reading = streams.one-reading;
+  lines-handed = streams.lines-handed;
   read-at-rate = lines.read-at-rate;
   not-begun = lines.not-begun;
   short-answer = lines.short-answer;
+  answered = feeding.answered;
+  taken-whole = feeding.taken-whole;
+  stopped-full = feeding.stopped-full;
 }

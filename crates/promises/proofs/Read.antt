@@ -14,21 +14,19 @@ use Rattle.film.specs.Film.{formatNumber, isFormat}
 use Rattle.film.specs.FormatLaws.{at-number}
 use Rattle.labels.specs.Label.{hoursIn, minutesIn, secondsIn, framesIn}
 use Rattle.label_scan.specs.declared.LabelScan.{LabelScan}
-use Rattle.label_scan.specs.Label.{fits, labelScan}
-use Rattle.label_scan.specs.Label as label
-use Rattle.answers.specs.Refusals.{noShape}
+use Rattle.scanner.specs.declared.text.Fit.the-variants.{NoShape}
+use Rattle.scanner.specs.Shapes.{withMinus}
+use Rattle.label_scan.specs.Label.{fittingLabel, misfitLabel, labelScan}
 use Rattle.footage_scan.specs.declared.FootageScan.{FootageScan}
-use Rattle.footage_scan.specs.declared.FootageScan.the-variants as scan
-use Rattle.scanner.specs.Shapes.{signed}
-use Rattle.footage_scan.specs.Footage.{footageScan}
+use Rattle.footage_scan.specs.Footage.{fittingFootage, footageScan}
 use Rattle.reading.specs.declared.Stated.the-variants.{Nothing, Format}
-use Rattle.reading.specs.Shaped.{formatIn, formatFor, footageShaped, labelOr}
+use Rattle.reading.specs.Shaped.{formatFrom, formatFor, footageShaped, labelOr}
 use Rattle.reading.specs.Reading.{labelRead, footageRead, readShaped, readText}
 use Rattle.reading.specs.ReadingLaws.{read-shaped}
 use Rattle.written.specs.Parts.{signText}
 
 -- a sign written in front is a sign in front
-pub sign-is : (minus : Bool) (l : List ℕ) → signText minus ++ l ≡ signed minus l
+pub sign-is : (minus : Bool) (l : List ℕ) → signText minus ++ l ≡ withMinus minus l
 sign-is true l = refl
 sign-is false l = refl
 
@@ -44,28 +42,28 @@ four-fields (h ∷ m ∷ s ∷ f ∷ g ∷ l) e = absurd (omega arith)
 
 module _ (rate : ℕ) (text : List ℕ) (r : isRate rate ≡ true) where
   -- a label, no film format stated
-  pub read-label : (minus : Bool) (fields : List ℕ) → labelScan text ≡ fits minus fields
+  pub read-label : (minus : Bool) (fields : List ℕ) → labelScan text ≡ fittingLabel minus fields
       → readText text Nothing rate ≡ labelRead rate minus fields
   read-label minus fields e =
       read-shaped text Nothing rate r refl
       ∙ ap (λ (s : LabelScan). readShaped rate Nothing (labelOr (footageShaped (footageScan text)) s)) e
 
-  module _ (minus : Bool) (feet frames : ℕ) (perf : Bool) (e : footageScan text ≡ scan.Footage minus feet frames perf) where
+  module _ (minus : Bool) (feet frames : ℕ) (perf : Bool) (e : footageScan text ≡ fittingFootage minus feet frames perf) where
     -- a footage that is no label, no film format stated
-    pub read-unstated : labelScan text ≡ label.refused noShape
-        → readText text Nothing rate ≡ footageRead (formatFor Nothing perf) minus feet frames perf
+    pub read-unstated : labelScan text ≡ misfitLabel NoShape
+        → readText text Nothing rate ≡ footageRead rate (formatFor Nothing perf) minus feet frames perf
     read-unstated none =
         read-shaped text Nothing rate r refl
         ∙ ap (λ (s : LabelScan). readShaped rate Nothing (labelOr (footageShaped (footageScan text)) s)) none
         ∙ ap (λ (s : FootageScan). readShaped rate Nothing (footageShaped s)) e
 
     -- a footage in a stated film format
-    pub read-stated : (format : FilmFormat) → readText text (Format (formatNumber format)) rate ≡ footageRead format minus feet frames perf
+    pub read-stated : (format : FilmFormat) → readText text (Format (formatNumber format)) rate ≡ footageRead rate format minus feet frames perf
     unfolding isFormat
     read-stated format =
         read-shaped text (Format (formatNumber format)) rate r (numbered format)
         ∙ ap (λ (s : FootageScan). readShaped rate (Format (formatNumber format)) (footageShaped s)) e
-        ∙ ap (λ (f : Filmed). footageRead (formatIn f) minus feet frames perf) (at-number format)
+        ∙ ap (λ (f : Filmed). footageRead rate (formatFrom f) minus feet frames perf) (at-number format)
       where
         numbered : (f : FilmFormat) → isFormat (formatNumber f) ≡ true
         numbered FF35mm4perf = refl

@@ -9,7 +9,7 @@ use lib.ListN.{length, length-append}
 use Rattle.digits.specs.Digits.{decimal}
 use Rattle.digits.proofs.Values.{digits-length}
 use Rattle.labels.specs.Label.{hoursIn, minutesIn, secondsIn, framesIn}
-use Rattle.label_scan.specs.Label.{fits, labelScan}
+use Rattle.label_scan.specs.Label.{fittingLabel, labelScan}
 use Rattle.label_scan.proofs.Statements.{label-back}
 use Rattle.written.proofs.Parts.{decimal-short}
 use Rattle.promises.specs.Demand2.{twoDigitText, StrictText}
@@ -45,10 +45,10 @@ module _ (timebase : ℕ) (few : timebase ≤ 60) (fields text : List ℕ) (x : 
       let s = x .strict in record { hours = omega arith; minutes = omega arith; seconds = omega arith; frames = omega arith }
 
   -- a strict label is scanned as its fields
-  pub strict-scan : labelScan text ≡ fits false fields
+  pub strict-scan : labelScan text ≡ fittingLabel false fields
   strict-scan =
       let t = strict-digits in
       ap labelScan (x .spelt ∙ sym (two-digits fields (x .first) (x .second) (x .third) t))
       ∙ label-back false (hoursIn fields) (minutesIn fields) (secondsIn fields) (framesIn fields) (x .first) (x .second) (x .third)
       (omega arith) (omega arith) (omega arith) (omega arith) (x .first-divides) (x .second-divides) (x .third-divides)
-      ∙ ap (fits false) (sym (four-fields fields (x .strict .four)))
+      ∙ ap (fittingLabel false) (sym (four-fields fields (x .strict .four)))

@@ -17,6 +17,7 @@ use Rattle.rates.specs.Rates as rates
 use Rattle.timecodes.specs.declared.Timecode.{Timecode}
 use Rattle.timecodes.specs.declared.Answer.the-variants.{At, Refused}
 use Rattle.timecodes.specs.Timecode.{numberOf}
+use Rattle.timecodes.specs.Instant.{instant}
 use Rattle.timecodes.specs.Admitted.{admits, admitsBoth}
 use Rattle.film.specs.declared.Filmed.the-variants as filmed
 use Rattle.film.specs.Film.{badFormat, formatIn, formatAt}
@@ -57,7 +58,7 @@ given conditions tc = unless-number numberOf Refused (λ e. refl) conditions (At
 second-number : (tc : Timecode) (answer : Timed) → SecondsOf tc answer → seconds.numberOf answer ≡ first (admits tc)
 second-number tc answer h = by (judged (admits tc)) refl answer h
   where
-    taken : (answer : Timed) → IsSeconds _ answer → seconds.numberOf answer ≡ 0
+    taken : (answer : Timed) → IsSeconds (instant tc) answer → seconds.numberOf answer ≡ 0
     taken (timed.Seconds p q) k = refl
     taken (timed.Refused e) k = absurd k
 

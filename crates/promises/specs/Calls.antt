@@ -7,6 +7,10 @@ use Rattle.runtime_reading.proofs.read_runtime as read-runtime
 use Rattle.runtime_reading.proofs.read_runtime.Reads as read-runtime-reads
 use Rattle.label_writer.proofs.sections as sections
 use Rattle.label_writer.proofs.sections.Reads as sections-reads
+use Rattle.label_writer.proofs.sections_length as sections-length
+use Rattle.label_writer.proofs.sections_length.Reads as sections-length-reads
+use Rattle.label_writer.proofs.put_sections as put-sections
+use Rattle.label_writer.proofs.put_sections.Reads as put-sections-reads
 use Rattle.label_writer.proofs.write_label as write-label
 use Rattle.label_writer.proofs.write_label.Reads as write-label-reads
 use Rattle.footage_writer.proofs.write_footage as write-footage
@@ -75,6 +79,8 @@ pub record OneAnswer : Type 0 where
   pub read-runtime : Answers read-runtime.ended read-runtime-reads.Asked read-runtime-reads.Learnt
   -- writing
   pub sections : Answers sections.ended sections-reads.Asked sections-reads.Learnt
+  pub sections-length : Answers sections-length.ended sections-length-reads.Asked sections-length-reads.Learnt
+  pub put-sections : Answers put-sections.ended put-sections-reads.Asked put-sections-reads.Learnt
   pub write-label : Answers write-label.ended write-label-reads.Asked write-label-reads.Learnt
   pub write-footage : Answers write-footage.ended write-footage-reads.Asked write-footage-reads.Learnt
   pub write-runtime : Answers write-runtime.ended write-runtime-reads.Asked write-runtime-reads.Learnt

@@ -1,4 +1,4 @@
--- The starred cases of the document: rows of a single table, under one statement.
+-- The worked cases: rows of a single table, under one statement.
 -- Assumes nothing.
 use Prim.Native.Nat.{ℕ}
 use Prim.Native.String.{String}
@@ -6,7 +6,6 @@ use mathlib.Core.Path.{_≡_}
 use mathlib.Core.Bool.{true}
 use mathlib.Core.List.{List, [], _∷_}
 use lib.IntN.{ℤ, pos, negsuc}
-use Rattle.answers.specs.declared.Counted.the-variants.{Count}
 use Rattle.rates.specs.Rates.{isRate}
 use Rattle.film.specs.declared.FilmFormat.{FilmFormat}
 use Rattle.film.specs.declared.FilmFormat.the-variants.{FF35mm3perf}
@@ -20,11 +19,12 @@ use Rattle.footage_writer.specs.FootageText.{footageText}
 use Rattle.arithmetic.specs.Truncating.{divOf}
 use Rattle.arithmetic.specs.Flooring.{divqOf}
 use Rattle.arithmetic.specs.Sum.{addOf}
-use Rattle.chains.specs.declared.Converted.the-variants.{At}
-use Rattle.chains.specs.Chain.{timecode, convertOf}
+use Rattle.timecodes.specs.declared.Answer.the-variants.{At}
+use Rattle.timecodes.specs.Timecode.{timecode}
+use Rattle.chains.specs.Chain.{convertOf}
 use Rattle.lines.specs.Output.{bytesOf}
 
--- what a row says, in the document's words
+-- what a row says
 pub data Case : Type 0 where
   label : (rate : ℕ) (count : ℤ) (text : String) → Case  -- rate 5: 1800 is `00:01:00;02`
   gives : (rate : ℕ) (text : String) (number : ℕ) → Case  -- rate 5: `00:01:00;00` gives 3
@@ -36,14 +36,14 @@ pub data Case : Type 0 where
 
 -- a count is a text where it is written so, and the text is read as the count; what names no rate holds at every rate
 abbrev pub Holds : Case → Type 0
-Holds (label rate count text) = (labelText rate count ≡ bytesOf text) × (readText (bytesOf text) Nothing rate ≡ Label count)
+Holds (label rate count text) = (labelText rate count ≡ bytesOf text) × (readText (bytesOf text) Nothing rate ≡ Label (timecode count rate))
 Holds (gives rate text number) = numberOf (readText (bytesOf text) Nothing rate) ≡ number
 Holds (footage format count text) =
     (footageText format count ≡ bytesOf text)
-    × ((rate : ℕ) → isRate rate ≡ true → readText (bytesOf text) (Format (formatNumber format)) rate ≡ Footage count format)
-Holds (divided count n answer) = (rate : ℕ) → isRate rate ≡ true → divOf (timecode count rate) n ≡ Count answer
-Holds (dividedBy count p q answer) = (rate : ℕ) → isRate rate ≡ true → divqOf (timecode count rate) p q ≡ Count answer
-Holds (plus count rate other otherRate answer) = addOf (timecode count rate) (timecode other otherRate) ≡ Count answer
+    × ((rate : ℕ) → isRate rate ≡ true → readText (bytesOf text) (Format (formatNumber format)) rate ≡ Footage (timecode count rate) format)
+Holds (divided count n answer) = (rate : ℕ) → isRate rate ≡ true → divOf (timecode count rate) n ≡ At (timecode answer rate)
+Holds (dividedBy count p q answer) = (rate : ℕ) → isRate rate ≡ true → divqOf (timecode count rate) p q ≡ At (timecode answer rate)
+Holds (plus count rate other otherRate answer) = addOf (timecode count rate) (timecode other otherRate) ≡ At (timecode answer rate)
 Holds (through count rate list answer last) = convertOf (timecode count rate) list ≡ At (timecode answer last)
 
 abbrev pub All : List Case → Type 0

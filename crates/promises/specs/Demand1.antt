@@ -8,9 +8,12 @@ use lib.IntN.{pos}
 use Rattle.answers.specs.declared.Counted.{Counted}
 use Rattle.answers.specs.Refusals as counted
 use Rattle.rates.specs.declared.Rated.{Rated}
-use Rattle.rates.specs.declared.Timecode.{Timecode}
-use Rattle.rates.specs.Rates.{framerate}
+use Rattle.rates.specs.Rates.{noRow}
 use Rattle.rates.specs.Rates as rated
+use Rattle.timecodes.specs.declared.Timecode.{Timecode}
+use Rattle.timecodes.specs.declared.Answer.{Answer}
+use Rattle.timecodes.specs.Timecode.{timecode}
+use Rattle.timecodes.specs.Timecode as answered
 use Rattle.film.specs.declared.Filmed.{Filmed}
 use Rattle.film.specs.Film as filmed
 use Rattle.reading.specs.declared.Read.{Read}
@@ -21,9 +24,6 @@ use Rattle.time.specs.declared.Timed.{Timed}
 use Rattle.time.specs.Seconds as timed
 use Rattle.arithmetic.specs.declared.Compared.{Compared}
 use Rattle.arithmetic.specs.Compare as compared
-use Rattle.chains.specs.declared.Converted.{Converted}
-use Rattle.chains.specs.Chain.{timecode}
-use Rattle.chains.specs.Chain as converted
 use Rattle.written.specs.Written.{Draft, answerTo, lineTo, numberOf, lengthOf}
 use Rattle.label_writer.specs.declared.TimecodeSections.{TimecodeSections}
 use Rattle.label_writer.specs.declared.Sectioned.{Sectioned}
@@ -36,16 +36,16 @@ use Rattle.runtime_writer.specs.RuntimeText.{runtimeDraft}
 abbrev pub noSections : TimecodeSections
 noSections = record { negative = false; hours = 0; minutes = 0; seconds = 0; frames = 0 }
 
--- a refusal returns its number with count 0; any other number in the answer is 0, a fraction 0/1: of every kind of answer
+-- a refusal gives its number with count 0; any other number in the answer is 0, a fraction 0/1: of every kind of answer
 pub record RefusedZero : Type 0 where
   pub count : (a : Counted) → 0 < counted.numberOf a → counted.countOf a ≡ pos 0
-  pub text : (a : Read) → 0 < read.numberOf a → (read.countOf a ≡ pos 0) × (read.formatOf a ≡ 0)
-  pub ticks : (a : Ticked) → 0 < ticked.numberOf a → ticked.valueOf a ≡ pos 0
+  pub text : (a : Read) → 0 < read.numberOf a → (read.timecodeOf a ≡ timecode (pos 0) 0) × (read.formatOf a ≡ 0)
+  pub ticks : (a : Ticked) → 0 < ticked.numberOf a → ticked.ticksIn a ≡ pos 0
   pub seconds : (a : Timed) → 0 < timed.numberOf a → (timed.numeratorOf a ≡ pos 0) × (timed.denominatorOf a ≡ 1)
-  pub order : (a : Compared) → 0 < compared.numberOf a → compared.valueOf a ≡ pos 0
-  pub end : (a : Converted) → 0 < converted.numberOf a → converted.timecodeOf a ≡ timecode (pos 0) 0
+  pub order : (a : Compared) → 0 < compared.numberOf a → compared.orderIn a ≡ pos 0
+  pub answer : (a : Answer) → 0 < answered.numberOf a → answered.timecodeOf a ≡ timecode (pos 0) 0
   pub sections : (a : Sectioned) → 0 < sectioned.numberOf a → sectioned.sectionsIn a ≡ noSections
-  pub row : (a : Rated) → 0 < rated.numberOf a → rated.rowOf a ≡ framerate 0 0 0 0
+  pub row : (a : Rated) → 0 < rated.numberOf a → rated.rowOf a ≡ noRow
   pub format : (a : Filmed) → 0 < filmed.numberOf a → filmed.formatOf a ≡ 0
 
 -- where a writer refuses, whatever the line and the place, its length is 0, and no byte of the line changes

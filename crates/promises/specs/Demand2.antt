@@ -21,7 +21,7 @@ use Rattle.reading.specs.Reading.{readText}
 use Rattle.written.specs.declared.Written.the-variants.{Length}
 use Rattle.written.specs.Written.{answerTo, lineTo}
 use Rattle.label_writer.specs.LabelText.{labelText, labelDraft}
-use Rattle.chains.specs.Chain.{timecode}
+use Rattle.timecodes.specs.Timecode.{timecode}
 
 -- ---- strict two-digit labels
 -- four fields of two digits, unsigned, with a divider before each but the first
@@ -51,7 +51,7 @@ pub record ReadAs (rate timebase n : ℕ) : Type 0 where
   pub fields : List ℕ
   pub text : List ℕ
   pub label : StrictText timebase fields text
-  pub read : readAt rate text ≡ Label (pos n)
+  pub read : readAt rate text ≡ Label (timecode (pos n) rate)
 
 -- a number from 0 to whole - 1
 pub record CountUnder (whole : ℕ) (z : ℤ) : Type 0 where
@@ -69,22 +69,22 @@ pub record Demand2 (rate timebase D whole : ℕ) : Type 0 where
   -- each other label's count is the number of allowed labels earlier in the day
   pub counts-earlier :
       (fields text : List ℕ) → StrictText timebase fields text → droppedIn D fields ≡ false
-      → readAt rate text ≡ Label (pos (before (isAllowed timebase D) (labelNumber timebase fields)))
+      → readAt rate text ≡ Label (timecode (pos (before (isAllowed timebase D) (labelNumber timebase fields))) rate)
   -- so they fill 0 to whole - 1: each of these is read from a label, and no other number is
   pub each-read : (n : ℕ) → n < whole → ReadAs rate timebase n
   pub no-other :
-      (fields text : List ℕ) (z : ℤ) → StrictText timebase fields text → readAt rate text ≡ Label z → CountUnder whole z
+      (fields text : List ℕ) (z : ℤ) → StrictText timebase fields text → readAt rate text ≡ Label (timecode z rate) → CountUnder whole z
   -- once each: two labels that are read as one count have the same fields
   pub once :
       (a b text other : List ℕ) (z : ℤ) → StrictText timebase a text → StrictText timebase b other
-      → readAt rate text ≡ Label z → readAt rate other ≡ Label z → a ≡ b
+      → readAt rate text ≡ Label (timecode z rate) → readAt rate other ≡ Label (timecode z rate) → a ≡ b
   -- writing gives each label's fields back, with `:` `:` `;`
   pub fields-back :
-      (fields text : List ℕ) (z : ℤ) → StrictText timebase fields text → readAt rate text ≡ Label z
+      (fields text : List ℕ) (z : ℤ) → StrictText timebase fields text → readAt rate text ≡ Label (timecode z rate)
       → labelText rate z ≡ twoDigitText fields 58 58 59
   -- given room: eleven bytes from its place on, and these alone, are then the label's
   pub written-back :
-      (fields text : List ℕ) (z : ℤ) (line : List ℕ) (place : ℕ) → StrictText timebase fields text → readAt rate text ≡ Label z
+      (fields text : List ℕ) (z : ℤ) (line : List ℕ) (place : ℕ) → StrictText timebase fields text → readAt rate text ≡ Label (timecode z rate)
       → place + 11 ≤ length line
       → (answerTo line place (labelDraft (timecode z rate)) ≡ Length 11)
       × (lineTo line place (labelDraft (timecode z rate)) ≡ splice line place (twoDigitText fields 58 58 59))

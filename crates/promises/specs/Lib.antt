@@ -1,4 +1,8 @@
+pub mod Answers
 pub mod Calls
+pub mod CallsC
+pub mod Ties
+pub mod TiesC
 pub mod Demand1
 pub mod When
 pub mod Demand2

@@ -1,29 +1,34 @@
 -- All that is promised beyond one call, in the reader's order: one record, so that none is missing. Its value: proofs/Promises.antt.
 -- Assumes nothing.
 use Rattle.numbers.specs.Statements as numbers
-use Rattle.digits.specs.Statements as digits
 use Rattle.lent.specs.Statements as lent
+use Rattle.digits.specs.Statements as digits
 use Rattle.rates.specs.Statements as rates
 use Rattle.film.specs.Statements as film
 use Rattle.labels.specs.Statements as labels
 use Rattle.minutes.specs.Statements as minutes
-use Rattle.label_scan.specs.Statements as label-text
-use Rattle.footage_scan.specs.Statements as footage-text
-use Rattle.runtime_scan.specs.Statements as runtime-text
+use Rattle.scanner.specs.Statements as scanner
+use Rattle.label_scan.specs.Statements as label-scan
+use Rattle.footage_scan.specs.Statements as footage-scan
+use Rattle.runtime_scan.specs.Statements as runtime-scan
 use Rattle.reading.specs.Statements as reading
 use Rattle.runtime_reading.specs.Statements as runtime-reading
 use Rattle.written.specs.Statements as written
-use Rattle.label_writer.specs.Statements as label-line
-use Rattle.footage_writer.specs.Statements as footage-line
-use Rattle.runtime_writer.specs.Statements as runtime-line
+use Rattle.label_writer.specs.Statements as label-writer
+use Rattle.footage_writer.specs.Statements as footage-writer
+use Rattle.runtime_writer.specs.Statements as runtime-writer
 use Rattle.time.specs.Statements as time
 use Rattle.arithmetic.specs.Statements as arithmetic
 use Rattle.chains.specs.Demand3 as chains
 use Rattle.streams.specs.Statements as streams
 use Rattle.lines.specs.Statements as lines
-use Rattle.promises.specs.Demand1.{RefusedZero, RefusedKeepsLine}
+use Rattle.feeding.specs.Statements as feeding
 use Rattle.promises.specs.Calls.{OneAnswer}
+use Rattle.promises.specs.CallsC.{OneAnswerC}
+use Rattle.promises.specs.Ties.{Ties}
+use Rattle.promises.specs.TiesC.{TiesC}
 use Rattle.promises.specs.When.{RefusedWhen}
+use Rattle.promises.specs.Demand1.{RefusedZero, RefusedKeepsLine}
 use Rattle.promises.specs.Demand2.{Demand2At5, Demand2At11}
 use Rattle.promises.specs.ReadBack.{LabelsReadBack, FootageReadBack, UnstatedReadBack}
 use Rattle.promises.specs.Cases.{StarredCases}
@@ -31,6 +36,9 @@ use Rattle.promises.specs.Cases.{StarredCases}
 pub record Promises : Type 0 where
   -- demand 1
   pub one-answer : OneAnswer
+  pub one-answer-c : OneAnswerC
+  pub ties : Ties
+  pub ties-c : TiesC
   pub refused-when : RefusedWhen
   pub refused-zero : RefusedZero
   pub refused-keeps-line : RefusedKeepsLine
@@ -66,18 +74,21 @@ pub record Promises : Type 0 where
   pub truncate-one : numbers.TruncateOne
   pub lowest-one : numbers.LowestOne
   pub all-digits : digits.AllDigits
-  pub digits-back : digits.DigitsBack
+  pub decimal-back : digits.DecimalBack
   pub value-back : digits.ValueBack
   pub decimal-length : digits.DecimalLength
   pub width-is : digits.WidthIs
+  pub decimal-padded : digits.DecimalPadded
+  pub laid-is : lent.LaidIs
   pub same-length : lent.SameLength
   pub text-there : lent.TextThere
   pub others-stay : lent.OthersStay
   -- rates, film and labels
   pub ticks-consistent : rates.TicksConsistent
+  pub drops-at : rates.DropsAt
   pub format-numbered : film.FormatNumbered
   pub only-three-perf : film.OnlyThreePerf
-  pub film-count-back : film.FootageBack
+  pub footage-back : film.FootageBack
   pub has-fields : labels.HasFields
   pub one-number : labels.OneNumber
   pub counts-earlier : labels.CountsEarlier
@@ -90,56 +101,68 @@ pub record Promises : Type 0 where
   pub first-of-minute : minutes.FirstOfMinute
   pub listed-entries : minutes.ListedEntries
   -- texts read
-  pub label-reads : label-text.LabelReads
-  pub label-fits : label-text.LabelFits
-  pub label-too-long : label-text.LabelTooLong
-  pub label-no-shape : label-text.LabelNoShape
-  pub one-label-shape : label-text.OneLabelShape
-  pub label-back : label-text.LabelBack
-  pub footage-reads : footage-text.FootageReads
-  pub footage-fits : footage-text.FootageFits
-  pub footage-too-long : footage-text.FootageTooLong
-  pub footage-no-shape : footage-text.FootageNoShape
-  pub one-footage-shape : footage-text.OneFootageShape
-  pub footage-below : footage-text.FootageBelow
-  pub footage-text-back : footage-text.FootageBack
-  pub runtime-reads : runtime-text.RuntimeReads
-  pub runtime-fits : runtime-text.RuntimeFits
-  pub runtime-too-long : runtime-text.RuntimeTooLong
-  pub runtime-no-shape : runtime-text.RuntimeNoShape
-  pub one-runtime-shape : runtime-text.OneRuntimeShape
-  pub runtime-bounded : runtime-text.RuntimeBounded
+  pub text-reads : scanner.TextReads
+  pub fit-sound : scanner.FitSound
+  pub one-text-shape : scanner.OneTextShape
+  pub text-bounded : scanner.TextBounded
+  pub label-reads : label-scan.LabelReads
+  pub label-fits : label-scan.LabelFits
+  pub label-too-long : label-scan.LabelTooLong
+  pub label-no-shape : label-scan.LabelNoShape
+  pub one-label-shape : label-scan.OneLabelShape
+  pub label-back : label-scan.LabelBack
+  pub footage-reads : footage-scan.FootageReads
+  pub footage-fits : footage-scan.FootageFits
+  pub footage-too-long : footage-scan.FootageTooLong
+  pub footage-no-shape : footage-scan.FootageNoShape
+  pub one-footage-shape : footage-scan.OneFootageShape
+  pub footage-below : footage-scan.FootageBelow
+  pub footage-text-back : footage-scan.FootageTextBack
+  pub runtime-reads : runtime-scan.RuntimeReads
+  pub runtime-fits : runtime-scan.RuntimeFits
+  pub runtime-too-long : runtime-scan.RuntimeTooLong
+  pub runtime-no-shape : runtime-scan.RuntimeNoShape
+  pub one-runtime-shape : runtime-scan.OneRuntimeShape
+  pub runtime-bounded : runtime-scan.RuntimeBounded
   pub shapes-apart : reading.ShapesApart
   pub reading-refused-six : reading.RefusedSix
-  pub reading-no-shape : reading.NoShape
-  pub reading-too-long : reading.TooLong
-  pub no-perf-field : reading.NoPerfField
-  pub dropped : reading.Dropped
+  pub reading-refused-one : reading.RefusedOne
+  pub reading-refused-two : reading.RefusedTwo
+  pub refused-four : reading.RefusedFour
+  pub refused-three : reading.RefusedThree
   pub label-counted : reading.LabelCounted
   pub footage-counted : reading.FootageCounted
-  pub reading-out-of-bounds : reading.OutOfBounds
+  pub reading-refused-five : reading.RefusedFive
   pub reading-count-bounded : reading.CountBounded
+  pub reading-at-rate : reading.AtRate
+  pub read-valid : reading.ReadValid
+  pub number-most : reading.NumberMost
   pub runtime-reading-refused-six : runtime-reading.RefusedSix
-  pub runtime-reading-no-shape : runtime-reading.NoShape
-  pub runtime-reading-too-long : runtime-reading.TooLong
+  pub runtime-reading-refused-one : runtime-reading.RefusedOne
+  pub runtime-reading-refused-two : runtime-reading.RefusedTwo
   pub runtime-counted : runtime-reading.RuntimeCounted
-  pub runtime-reading-out-of-bounds : runtime-reading.OutOfBounds
+  pub runtime-reading-refused-five : runtime-reading.RefusedFive
   pub runtime-reading-count-bounded : runtime-reading.CountBounded
+  pub runtime-reading-at-rate : runtime-reading.AtRate
   -- texts written
   pub refused-keeps : written.RefusedKeeps
   pub length-stands : written.LengthStands
+  pub answer-behind : written.AnswerBehind
+  pub number-behind : written.NumberBehind
   pub no-room-exactly : written.NoRoomExactly
-  pub label-length : label-line.LabelLength
-  pub label-bounds : label-line.LabelBounds
-  pub label-bytes : label-line.LabelBytes
-  pub label-written : label-line.LabelWritten
-  pub fields-back : footage-line.FieldsBack
-  pub fourteen-bytes : footage-line.FourteenBytes
-  pub some-digit : runtime-line.SomeDigit
-  pub no-last-zero : runtime-line.NoLastZero
-  pub same-value : runtime-line.SameValue
-  pub runtime-within : runtime-line.RuntimeWithin
-  pub eighteen-bytes : runtime-line.EighteenBytes
+  pub mark-at : label-writer.MarkAt
+  pub label-is : label-writer.LabelIs
+  pub label-length : label-writer.LabelLength
+  pub label-bounds : label-writer.LabelBounds
+  pub label-bytes : label-writer.LabelBytes
+  pub label-written : label-writer.LabelWritten
+  pub footage-is : footage-writer.FootageIs
+  pub fourteen-bytes : footage-writer.FourteenBytes
+  pub some-digit : runtime-writer.SomeDigit
+  pub no-last-zero : runtime-writer.NoLastZero
+  pub same-value : runtime-writer.SameValue
+  pub runtime-nearest : runtime-writer.RuntimeNearest
+  pub eighteen-bytes : runtime-writer.EighteenBytes
   -- time and arithmetic
   pub ticks-nearest : time.TicksNearest
   pub seconds-nearest : time.SecondsNearest
@@ -155,9 +178,15 @@ pub record Promises : Type 0 where
   pub quotient-floor : arithmetic.QuotientFloor
   pub remainder-nearest : arithmetic.RemainderNearest
   pub compare-is-order : arithmetic.CompareIsOrder
-  -- the line program
-  pub line-kept : streams.LineKept
-  pub line-over : streams.LineOver
+  -- the programs
+  pub two-chunks : streams.TwoChunks
+  pub any-chunks : streams.AnyChunks
+  pub fold-finds : streams.FoldFinds
+  pub one-reading : streams.OneReading
+  pub lines-handed : streams.LinesHanded
   pub read-at-rate : lines.ReadAtRate
   pub not-begun : lines.NotBegun
   pub short-answer : lines.ShortAnswer
+  pub answered : feeding.Answered
+  pub taken-whole : feeding.TakenWhole
+  pub stopped-full : feeding.StoppedFull

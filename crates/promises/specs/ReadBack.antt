@@ -6,6 +6,7 @@ use mathlib.Core.Bool.{true}
 use lib.IntN.{ℤ}
 use Rattle.answers.specs.Refusals.{isCount}
 use Rattle.rates.specs.Rates.{isRate}
+use Rattle.timecodes.specs.Timecode.{timecode}
 use Rattle.film.specs.declared.FilmFormat.{FilmFormat}
 use Rattle.film.specs.declared.FilmFormat.the-variants.{FF35mm4perf, FF35mm3perf}
 use Rattle.film.specs.Film.{formatNumber}
@@ -19,17 +20,17 @@ use Rattle.footage_writer.specs.FootageText.{footageText}
 abbrev pub LabelsReadBack : Type 0
 LabelsReadBack =
     (rate : ℕ) (count : ℤ) → isRate rate ≡ true → isCount count ≡ true
-    → readText (labelText rate count) Nothing rate ≡ Label count
+    → readText (labelText rate count) Nothing rate ≡ Label (timecode count rate)
 
 -- in every film format, the footage of any count within its bounds is read, with that format stated, as that count in that format
 abbrev pub FootageReadBack : Type 0
 FootageReadBack =
     (format : FilmFormat) (rate : ℕ) (count : ℤ) → isRate rate ≡ true → isCount count ≡ true
-    → readText (footageText format count) (Format (formatNumber format)) rate ≡ Footage count format
+    → readText (footageText format count) (Format (formatNumber format)) rate ≡ Footage (timecode count rate) format
 
 -- with none stated, the footage of 4-perf and of 3-perf is read in its own format
 abbrev pub UnstatedReadBack : Type 0
 UnstatedReadBack =
     (rate : ℕ) (count : ℤ) → isRate rate ≡ true → isCount count ≡ true
-    → (readText (footageText FF35mm4perf count) Nothing rate ≡ Footage count FF35mm4perf)
-    × (readText (footageText FF35mm3perf count) Nothing rate ≡ Footage count FF35mm3perf)
+    → (readText (footageText FF35mm4perf count) Nothing rate ≡ Footage (timecode count rate) FF35mm4perf)
+    × (readText (footageText FF35mm3perf count) Nothing rate ≡ Footage (timecode count rate) FF35mm3perf)

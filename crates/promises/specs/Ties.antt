@@ -13,8 +13,9 @@ use Rattle.arithmetic.specs.Truncating.{divOf, remOf}
 use Rattle.chains.specs.Chain.{convertOf}
 use Rattle.film.specs.Film.{formatAt}
 use Rattle.footage_writer.specs.FootageText.{footageDraft}
-use Rattle.label_writer.specs.LabelText.{labelDraft}
+use Rattle.label_writer.specs.LabelText.{framesMark, labelDraft, sectionsLength, sectionsText}
 use Rattle.label_writer.specs.Sections.{sectioned}
+use Rattle.lent.specs.Line.{laid}
 use Rattle.minutes.specs.Minutes.{minuteAt}
 use Rattle.rates.specs.Rates.{rateAt}
 use Rattle.reading.specs.Reading.{readText}
@@ -34,6 +35,10 @@ use Rattle.runtime_reading.proofs.read_runtime as read-runtime
 use Rattle.runtime_reading.proofs.read_runtime.Reads as read-runtime-reads
 use Rattle.label_writer.proofs.sections as sections
 use Rattle.label_writer.proofs.sections.Reads as sections-reads
+use Rattle.label_writer.proofs.sections_length as sections-length
+use Rattle.label_writer.proofs.sections_length.Reads as sections-length-reads
+use Rattle.label_writer.proofs.put_sections as put-sections
+use Rattle.label_writer.proofs.put_sections.Reads as put-sections-reads
 use Rattle.label_writer.proofs.write_label as write-label
 use Rattle.label_writer.proofs.write_label.Reads as write-label-reads
 use Rattle.footage_writer.proofs.write_footage as write-footage
@@ -108,6 +113,12 @@ pub record Ties : Type 0 where
   pub sections :
       (κs : Times sections.ended) (a : Args (sections.ended .signature) κs) (x : Outcome sections.ended κs a)
       → Allowed sections.ended sections-reads.Learnt κs a x → x .0 ≡ sectioned (a .0)
+  pub sections-length :
+      (κs : Times sections-length.ended) (a : Args (sections-length.ended .signature) κs) (x : Outcome sections-length.ended κs a)
+      → Allowed sections-length.ended sections-length-reads.Learnt κs a x → x .0 ≡ sectionsLength (a .0)
+  pub put-sections :
+      (κs : Times put-sections.ended) (a : Args (put-sections.ended .signature) κs) (x : Outcome put-sections.ended κs a)
+      → Allowed put-sections.ended put-sections-reads.Learnt κs a x → x .1 .0 ≡ laid (a .0 .now) (sectionsText (framesMark (a .1 .1 .0)) (a .1 .0))
   pub write-label :
       (κs : Times write-label.ended) (a : Args (write-label.ended .signature) κs) (x : Outcome write-label.ended κs a)
       → Allowed write-label.ended write-label-reads.Learnt κs a x → (x .0 ≡ answerTo (a .1 .0 .now) (a .1 .1 .0) (labelDraft (a .0))) × (x .1 .1 .0 ≡ lineTo (a .1 .0 .now) (a .1 .1 .0) (labelDraft (a .0)))
