@@ -1,4 +1,4 @@
--- Laws of a number held to the bounds of a count: what callers cite in the place of the definition's text.
+-- Laws of a number held to the bounds of a count (BEHAVIOUR: Refusals): what callers cite in the place of the definition's text.
 -- Assumes nothing.
 use mathlib.Core.Path.{_≡_, sym, _∙_, ap, subst}
 use mathlib.Core.Bool.{Bool, true, false, not, cond}

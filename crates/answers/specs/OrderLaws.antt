@@ -1,4 +1,4 @@
--- Laws of the order of refusals, for every type of answers: what a list of conditions refuses, and what an answer behind it tells.
+-- Laws of the order of refusals, for every type of answers (BEHAVIOUR: Refusals): what a list of conditions refuses, and what an answer behind it tells.
 -- Assumes nothing.
 use Prim.Native.Nat.{ℕ}
 use mathlib.Core.Path.{_≡_, refl, sym, _∙_, ap}

@@ -13,12 +13,12 @@ use lib.Dec.{eqb, ltb, leb}
 use borrow.Author.Tests.{lt-ltb, le-ltb, le-leb, lt-leb, ltb-true, ltb-false, eq-eqb, ne-eqb}
 use lib.IntN.{negsuc}
 use Rattle.numbers.specs.Sign.{signed}
-use Rattle.digits.specs.Digits.{isDigit, allDigits, valueFrom, valueOf, firstIs, span, leading}
+use Rattle.digits.specs.Digits.{isByte, isDigit, allDigits, valueFrom, valueOf, firstIs, span, leading}
 use Rattle.digits.proofs.Values.{digit-bounds, all-head, all-tail, value-snoc}
 use Rattle.digits.proofs.Runs.{span-within, leading-all}
 use Rattle.asking.specs.declared.values.Word.{Word}
 use Rattle.asking.specs.declared.values.Word.the-variants.{Number, Nothing}
-use Rattle.asking.specs.Numbers.{isWithin, signedWord, isByte, digitsAt, signedAt, numberAt, Held, pushed}
+use Rattle.asking.specs.Numbers.{isWithin, signedWord, digitsAt, signedAt, numberAt, Held, pushed}
 
 -- ---- one digit more
 pub pushed-past : (m b : ℕ) → 922337203685477580 < m → 18446744073709551615 ≡ pushed m b

@@ -16,7 +16,7 @@ use Rattle.asking.specs.declared.values.Word.the-variants.{Number, Nothi
 use Rattle.asking.specs.declared.words.Rest.the-variants as rest
 use Rattle.asking.specs.Numbers.{numberAt}
 use Rattle.asking.specs.Table.{wordOf, isPlain, rowNamed, kindOf}
-use Rattle.asking.specs.Asked.{isAllowed, allowed, isLast, restAt, unknown, noValues, endedAt, wordThen, wordsFrom, askedOf}
+use Rattle.asking.specs.Asked.{isInRange, allowed, isLast, restAt, unknown, noValues, endedAt, wordThen, wordsFrom, askedOf}
 
 -- ---- the loop of `word_end`: no space stands before i
 pub record Ending (line : List ℕ) (i : ℕ) : Type 0 where
@@ -72,16 +72,16 @@ word-plain (b ∷ l) = word-plain-by b l (eqb b 32) refl (word-plain l)
 
 -- ---- a word by its letter
 module _ (kind : ℕ) (z : ℤ) where
-  pub allowed-place : kind ≡ 112 → not (isNeg z) ≡ isAllowed kind z
-  unfolding isAllowed
+  pub allowed-place : kind ≡ 112 → not (isNeg z) ≡ isInRange kind z
+  unfolding isInRange
   allowed-place e = rw (eq-eqb kind 112 e)
 
-  pub allowed-room : (kind ≡ 112 → ⊥) → kind ≡ 109 → (not (isNeg z) && leb (natAbs z) 128) ≡ isAllowed kind z
-  unfolding isAllowed
+  pub allowed-room : (kind ≡ 112 → ⊥) → kind ≡ 109 → (not (isNeg z) && leb (natAbs z) 128) ≡ isInRange kind z
+  unfolding isInRange
   allowed-room e f = rw (ne-eqb kind 112 e, eq-eqb kind 109 f)
 
-  pub allowed-any : (kind ≡ 112 → ⊥) → (kind ≡ 109 → ⊥) → true ≡ isAllowed kind z
-  unfolding isAllowed
+  pub allowed-any : (kind ≡ 112 → ⊥) → (kind ≡ 109 → ⊥) → true ≡ isInRange kind z
+  unfolding isInRange
   allowed-any e f = rw (ne-eqb kind 112 e, ne-eqb kind 109 f)
 
 -- ---- where the rest begins
@@ -189,10 +189,10 @@ pub room-not : (z : ℤ) (m : ℕ) → isNeg z ≡ false → m ≡ natAbs z → 
 room-not z m e f = rw (e, f)
 
 -- ---- a number where its letter allows it
-pub allowed-yes : (kind : ℕ) (z : ℤ) (next : ℕ) → isAllowed kind z ≡ true → allowed kind (Number z next) ≡ Number z next
+pub allowed-yes : (kind : ℕ) (z : ℤ) (next : ℕ) → isInRange kind z ≡ true → allowed kind (Number z next) ≡ Number z next
 allowed-yes kind z next e = rw e
 
-pub allowed-no : (kind : ℕ) (z : ℤ) (next : ℕ) → isAllowed kind z ≡ false → allowed kind (Number z next) ≡ Nothing
+pub allowed-no : (kind : ℕ) (z : ℤ) (next : ℕ) → isInRange kind z ≡ false → allowed kind (Number z next) ≡ Nothing
 allowed-no kind z next e = rw e
 
 -- ---- the whole line

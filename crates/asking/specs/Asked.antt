@@ -1,4 +1,4 @@
--- What a line asks: its command, the numbers behind the command's word, and where the rest of the line begins.
+-- What a line asks (docs/ASK.md): its command, the numbers behind the command's word, and where the rest of the line begins.
 -- Assumes nothing.
 use Prim.Native.Nat.{ℕ, zero, suc, _+_}
 use mathlib.Core.List.{List, [], _∷_}
@@ -13,19 +13,19 @@ use Rattle.asking.specs.declared.values.Word.the-variants.{Number, Nothi
 use Rattle.asking.specs.declared.words.Asked.{Asked}
 use Rattle.asking.specs.declared.words.Rest.{Rest}
 use Rattle.asking.specs.declared.words.Rest.the-variants as rest
-use Rattle.asking.specs.Numbers.{isByte, numberAt}
+use Rattle.asking.specs.Numbers.{numberAt}
 use Rattle.asking.specs.Table.{wordOf, rowNamed, kindOf}
 
 -- ---- a word by its letter
 -- a place is from 0 on, a room from 0 to 128, any other number any
-unfoldable pub isAllowed : (kind : ℕ) → ℤ → Bool
-isAllowed kind z =
+unfoldable pub isInRange : (kind : ℕ) → ℤ → Bool
+isInRange kind z =
     cond (eqb kind 112) (not (isNeg z))
     (cond (eqb kind 109) (not (isNeg z) && leb (natAbs z) 128)
     true)
 
 abbrev pub allowed : (kind : ℕ) → Word → Word
-allowed kind (Number z next) = cond (isAllowed kind z) (Number z next) Nothing
+allowed kind (Number z next) = cond (isInRange kind z) (Number z next) Nothing
 allowed kind Nothing = Nothing
 
 -- a letter that is no number's: no word, a text, a rest

@@ -1,4 +1,4 @@
--- Numbers in a line: behind a space an optional `-` and one or more digits, within 64 bits signed; zeros in front are fine.
+-- Numbers in a line (docs/ASK.md): behind a space an optional `-` and one or more digits, within 64 bits signed; zeros in front are fine.
 -- Assumes nothing.
 use Prim.Native.Nat.{ℕ, _+_, _-_, _*_, _<_}
 use mathlib.Core.Path.{_≡_}
@@ -8,7 +8,7 @@ use mathlib.Core.Bool.{Bool, true, false, cond}
 use lib.Dec.{eqb, ltb, leb}
 use lib.ListN.{drop}
 use Rattle.numbers.specs.Sign.{signed}
-use Rattle.digits.specs.Digits.{valueOf, firstIs, span, leading}
+use Rattle.digits.specs.Digits.{isByte, valueOf, firstIs, span, leading}
 use Rattle.asking.specs.declared.values.Word.{Word}
 use Rattle.asking.specs.declared.values.Word.the-variants.{Number, Nothing}
 
@@ -23,10 +23,6 @@ unfoldable pub signedWord : (minus : Bool) (m next : ℕ) → Word
 signedWord minus m next = cond (isWithin minus m) (Number (signed minus m) next) Nothing
 
 -- ---- in a line: l is what is left of it from the place `at` on
--- the byte b, and no other
-abbrev pub isByte : (b c : ℕ) → Bool
-isByte b c = eqb c b
-
 -- the digits in front, behind their sign
 unfoldable pub digitsAt : (minus : Bool) (at : ℕ) → List ℕ → Word
 digitsAt minus at l = cond (eqb (span l) 0) Nothing (signedWord minus (valueOf (leading l)) (at + span l))

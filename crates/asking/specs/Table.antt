@@ -1,4 +1,4 @@
--- The table of commands: each one's word, and a letter for each word behind it.
+-- The table of commands (docs/ASK.md): each one's word, and a letter for each word behind it.
 -- Assumes nothing.
 use Prim.Native.Nat.{ℕ, zero, suc}
 use Prim.Native.String.{String}

@@ -5,7 +5,7 @@ mod table;
 mod values;
 mod words;
 
-pub use values::number;
 pub use values::Word;
-pub use words::understand;
+pub use values::number;
 pub use words::Asked;
+pub use words::understand;

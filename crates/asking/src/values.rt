@@ -2,8 +2,8 @@
 ghost use mathlib.Core.Path.{_≡_};
 ghost use mathlib.Core.Bool.{true};
 ghost use lib.ListN.{drop};
-ghost use Rattle.digits.specs.Digits.{allDigits, valueOf, isDigit, firstIs};
-ghost use Rattle.asking.specs.Numbers.{Held, pushed, isByte, signedWord, digitsAt, numberAt};
+ghost use Rattle.digits.specs.Digits.{isByte, allDigits, valueOf, isDigit, firstIs};
+ghost use Rattle.asking.specs.Numbers.{Held, pushed, signedWord, digitsAt, numberAt};
 
 // A number and the place past it; or none stands there.
 pub enum Word {

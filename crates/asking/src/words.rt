@@ -8,10 +8,10 @@ ghost use lib.IntN.{natAbs};
 ghost use Rattle.numbers.specs.Sign.{isNeg};
 ghost use Rattle.asking.specs.Numbers.{numberAt};
 ghost use Rattle.asking.specs.Table.{wordOf, kindOf};
-ghost use Rattle.asking.specs.Asked.{isAllowed, allowed, isLast, restAt, unknown, endedAt, wordsFrom, noValues, askedOf};
+ghost use Rattle.asking.specs.Asked.{isInRange, allowed, isLast, restAt, unknown, endedAt, wordsFrom, noValues, askedOf};
+use crate::table;
 use crate::values;
 use crate::values::Word;
-use crate::table;
 
 // What a line asks: the row of its command, 25 where it is not understood; the command's numbers, zeros behind them; and the place where
 // a text or a list begins, else the line's end.
@@ -64,7 +64,7 @@ fn is_room(z: i64) -> bool
 
 // Is this number allowed where a row has this letter?
 fn is_allowed(kind: u8, z: i64) -> bool
-    ensures answer { λ r. ⌜ r ≡ isAllowed kind z ⌝ }
+    ensures answer { λ r. ⌜ r ≡ isInRange kind z ⌝ }
 {
     if kind == b'p' {
         return !numbers::below_zero(z);

@@ -1,4 +1,4 @@
--- Laws of a chain: what one step tells, the steps one at a time, and what an end tells of the start and the list.
+-- Laws of a chain (BEHAVIOUR: Chains): what one step tells, the steps one at a time, and what an end tells of the start and the list.
 -- Assumes nothing.
 use mathlib.Core.Path.{_≡_, refl, _∙_, ap, subst}
 use mathlib.Core.Bool.{Bool, true, false, not, cond, _||_}

@@ -1,11 +1,11 @@
--- Decimal digits: which bytes they are, what a run of them is worth, and how a number is written with them.
+-- Decimal digits (BEHAVIOUR: Text shapes): which bytes they are, what a run of them is worth, and how a number is written with them.
 -- Assumes nothing.
 use Prim.Native.Nat.{ℕ, zero, suc, _+_, _-_, _*_, _/_, _%_, _<_, max}
 use mathlib.Core.Path.{_≡_}
 use mathlib.Core.List.{List, [], _∷_, _++_}
 use mathlib.Core.Bool.{Bool, true, false, cond, _&&_}
 use lib.ListN.{length, take}
-use lib.Dec.{leb, ltb}
+use lib.Dec.{eqb, leb, ltb}
 use Rattle.digits.specs.declared.Run.{Run}
 
 -- ---- digits
@@ -37,6 +37,10 @@ abbrev pub fieldValue : List ℕ → ℕ
 fieldValue d = valueOf (take 9 d)
 
 -- ---- a run of digits in a text
+-- the byte b, and no other
+abbrev pub isByte : (b c : ℕ) → Bool
+isByte b c = eqb c b
+
 -- a byte that passes the test stands in front
 abbrev pub firstIs : (test : ℕ → Bool) → List ℕ → Bool
 firstIs test [] = false

@@ -1,4 +1,4 @@
--- What holds of every number and every run of digits: each way back, and how wide a number is. Proofs: proofs/Statements.antt.
+-- What holds of every number and every run of digits (BEHAVIOUR: Text shapes): each way back, and how wide a number is. Proofs: proofs/Statements.antt.
 -- Assumes nothing.
 use Prim.Native.Nat.{ℕ, _^_, _≤_, _<_, max}
 use mathlib.Core.Path.{_≡_}

@@ -1,4 +1,4 @@
--- What is handed to C: the numbers of each answer, its refusal's number among them (0: not refused).
+-- What is handed to C (BEHAVIOUR: Refusals): the numbers of each answer, its refusal's number among them (0: not refused).
 -- Assumes nothing.
 use mathlib.Core.Path.{_≡_}
 use mathlib.Core.Bool.{false}

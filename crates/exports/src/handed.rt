@@ -113,10 +113,7 @@ fn wide(n: u8) -> u64
 pub(crate) fn timecode_from(t: TzqTimecode) -> Timecode
     ensures answer { λ r. ⌜ r ≡ timecodeFrom t ⌝ }
 {
-    Timecode {
-        count: t.count,
-        rate: t.rate,
-    }
+    timecodes::new(t.count, t.rate)
 }
 
 // A count or its refusal.

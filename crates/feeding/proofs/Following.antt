@@ -23,7 +23,7 @@ use Rattle.streams.specs.Sheet.{Sheet, sheet, putOn}
 use Rattle.streams.proofs.Gathering.{next-le, next-lt, next-within, gather-length}
 use Rattle.streams.proofs.Putting.{put-length}
 use Rattle.feeding.specs.declared.Fed.{Fed}
-use Rattle.feeding.specs.Feeding.{answered, Machine, machine, next, goesOn, After, after, fedFrom, fedAnswer, fedAt, lineEnded, stepped, finished}
+use Rattle.feeding.specs.Feeding.{answered, Machine, machine, next, goesOn, After, takenTo, fedFrom, fedAnswer, fedAt, lineEnded, stepped, finished}
 
 -- ---- a byte more of the chunk, and room
 module _ (i n total used : ℕ) where
@@ -92,9 +92,10 @@ module _ (buffer : List ℕ) (g : Gathered) (out : List ℕ) (used n : ℕ) (e :
       → (used + k ≡ answered buffer g (sheet out used) .used) × (last ≡ answered buffer g (sheet out used) .bytes)
   unfolding answered
   answer-is w k last p q r =
-      let t = answerText (take (n - 0) buffer) in
-      (ap (λ z. used + z) (r ∙ ap lengthOf p) ∙ laid-used out used t ∙ ap (λ z. putOn (sheet out used) z .used) text-is,
-      q ∙ laid-bytes out used t ∙ ap (λ z. putOn (sheet out used) z .bytes) text-is)
+      let t = answerText (take (n - 0) buffer) in (
+        ap (λ z. used + z) (r ∙ ap lengthOf p) ∙ laid-used out used t ∙ ap (λ z. putOn (sheet out used) z .used) text-is,
+        q ∙ laid-bytes out used t ∙ ap (λ z. putOn (sheet out used) z .bytes) text-is,
+      )
 
 module _ (buffer out : List ℕ) (g : Gathered) where
   pub finished-none : isEmpty g ≡ true → (0 ≡ finished buffer out g .used) × (out ≡ finished buffer out g .bytes)
@@ -117,24 +118,25 @@ module _ (chunk buffer out : List ℕ) (f : Fed) where
   module _ (st : Step) (buffer′ : List ℕ)
       (p : let e = gatherFrom (f .eaten) buffer (f .gathered) (drop (f .eaten) chunk) in (st ≡ e .step) × (buffer′ ≡ e .buffer)) where
     ended-is : (m : Machine) → lineEnded (st .ended) (record { buffer = buffer′; step = st }) (sheet out (f .used)) ≡ m
-        → stepped chunk (fedAt buffer out f) ≡ after m (st .next)
+        → stepped chunk (fedAt buffer out f) ≡ takenTo m (st .next)
     unfolding stepped
     ended-is m q =
         let e = gatherFrom (f .eaten) buffer (f .gathered) (drop (f .eaten) chunk) in
         let same : record { buffer = buffer′; step = st } ≡ e =
         ap (λ z. record { buffer = z; step = st }) (p .1) ∙ ap (λ z. record { buffer = e .buffer; step = z }) (p .0) in
-        sym (ap (λ (z : Gathering). after (lineEnded (z .step .ended) z (sheet out (f .used))) (z .step .next)) same) ∙ ap (λ z. after z (st .next)) q
+        sym (ap (λ (z : Gathering). takenTo (lineEnded (z .step .ended) z (sheet out (f .used))) (z .step .next)) same) ∙ ap (λ z. takenTo z (st .next)) q
 
     pub step-end : (u : ℕ) (fresh : Gathered) (last : List ℕ) → st .ended ≡ true → fresh ≡ noByte
         → (u ≡ answered buffer′ (st .gathered) (sheet out (f .used)) .used) × (last ≡ answered buffer′ (st .gathered) (sheet out (f .used)) .bytes)
         → Steps (record { gathered = fresh; used = u; eaten = st .next }) buffer′ last
     step-end u fresh last t n q =
         let s = answered buffer′ (st .gathered) (sheet out (f .used)) in
-        let e = ended-is (machine buffer′ noByte s) (rw t) in
-        (ap (λ z. record { gathered = z; used = u; eaten = st .next }) n
-        ∙ ap (λ z. record { gathered = noByte; used = z; eaten = st .next }) (q .0)
-        ∙ sym (ap fedAnswer e),
-        (sym (ap (λ z. z .machine .buffer) e), q .1 ∙ sym (ap (λ z. z .machine .sheet .bytes) e)))
+        let e = ended-is (machine buffer′ noByte s) (rw t) in (
+          ap (λ z. record { gathered = z; used = u; eaten = st .next }) n
+              ∙ ap (λ z. record { gathered = noByte; used = z; eaten = st .next }) (q .0)
+              ∙ sym (ap fedAnswer e),
+          (sym (ap (λ z. z .machine .buffer) e), q .1 ∙ sym (ap (λ z. z .machine .sheet .bytes) e)),
+        )
 
     pub step-goes : st .ended ≡ false → Steps (record { gathered = st .gathered; used = f .used; eaten = st .next }) buffer′ out
     step-goes t =
@@ -198,7 +200,7 @@ pub record Run (chunk : List ℕ) (m₀ : Machine) (f : After) : Type 0 where
   pub sheet-long : length (f .machine .sheet .bytes) ≡ length (m₀ .sheet .bytes)
   pub same : fedFrom 0 m₀ chunk ≡ fedFrom (f .eaten) (f .machine) (drop (f .eaten) chunk)
 
-pub run-start : (chunk : List ℕ) (m : Machine) → Run chunk m (after m 0)
+pub run-start : (chunk : List ℕ) (m : Machine) → Run chunk m (takenTo m 0)
 run-start chunk m = record { within = omega arith; buffer-long = refl; sheet-long = refl; same = refl }
 
 module _ (chunk : List ℕ) (f : After) (l : f .eaten < length chunk) where
@@ -234,11 +236,14 @@ module _ (chunk : List ℕ) (f : After) (l : f .eaten < length chunk) where
           let rest = drop (f .eaten) chunk in
           let e = gatherFrom (f .eaten) (m .buffer) (m .gathered) rest in
           let long = ended-length (e .step .ended) e (m .sheet) in
-          let place : f .eaten + (e .step .next - f .eaten) ≡ e .step .next = omega (arith, next-le rest (f .eaten) (m .buffer) (m .gathered)) in
-          (ap length (long .0) ∙ gather-length rest (f .eaten) (m .buffer) (m .gathered) ∙ s .buffer-long,
-          (long .1 ∙ s .sheet-long,
-          fed-line rest (f .eaten) m t
-          ∙ ap (fedFrom (e .step .next) (lineEnded (e .step .ended) e (m .sheet))) (drop-drop (e .step .next - f .eaten) (f .eaten) chunk ∙ ap (λ k. drop k chunk) place)))
+          let place : f .eaten + (e .step .next - f .eaten) ≡ e .step .next = omega (arith, next-le rest (f .eaten) (m .buffer) (m .gathered)) in (
+            ap length (long .0) ∙ gather-length rest (f .eaten) (m .buffer) (m .gathered) ∙ s .buffer-long,
+            (
+              long .1 ∙ s .sheet-long,
+              fed-line rest (f .eaten) m t
+                  ∙ ap (fedFrom (e .step .next) (lineEnded (e .step .ended) e (m .sheet))) (drop-drop (e .step .next - f .eaten) (f .eaten) chunk ∙ ap (λ k. drop k chunk) place),
+            ),
+          )
 
 -- from what `goes_on` answered
 module _ (chunk : List ℕ) (f : After) (r : Bool)

@@ -20,7 +20,7 @@ use Rattle.streams.specs.Sheet.{Sheet, sheet, textOn}
 use Rattle.streams.proofs.Parting.{parted-end, parted-byte, each-cons}
 use Rattle.streams.proofs.Putting.{Laid, put-is, put-used, put-length}
 use Rattle.streams.proofs.Standing.{Stands, stands-none, stands-byte, stands-empty}
-use Rattle.feeding.specs.Feeding.{answered, Machine, machine, next, goesOn, After, after, fedFrom, begun, fedOf, finished}
+use Rattle.feeding.specs.Feeding.{answered, Machine, machine, next, goesOn, After, takenTo, fedFrom, begun, fedOf, finished}
 use Rattle.feeding.proofs.Following.{next-end, next-byte, next-length}
 
 -- ---- the answer: 65 bytes of a line are enough
@@ -77,7 +77,7 @@ pub record Went (n i : ℕ) (e : After) (l held t : List ℕ) : Type 0 where
   pub within : k ≤ length l
   pub holds : Holds n (e .machine) (parted held (take k l) .rest) (t ++ each answerText (parted held (take k l) .done))
 
-went-none : (n i : ℕ) (m : Machine) (l held t : List ℕ) → Holds n m held t → Went n i (after m i) l held t
+went-none : (n i : ℕ) (m : Machine) (l held t : List ℕ) → Holds n m held t → Went n i (takenTo m i) l held t
 unfolding parted each
 went-none n i m l held t s = record { k = 0; eaten = omega arith; within = omega arith; holds = rw (append-nil t) s }
 
@@ -122,7 +122,7 @@ went (b ∷ l) n i m held t h s =
 
     by : (x : Bool) → goesOn (length (m .sheet .bytes)) (m .sheet .used) ≡ x
         → ((x y : List ℕ) → Holds n (next m b) x y → Went n (suc i) (fedFrom (suc i) (next m b) l) l x y)
-        → Went n i (cond x (fedFrom (suc i) (next m b) l) (after m i)) (b ∷ l) held t
+        → Went n i (cond x (fedFrom (suc i) (next m b) l) (takenTo m i)) (b ∷ l) held t
     by true e ih = byte (eqb b 10) refl (leb-true _ _ e) ih
     by false e ih = went-none n i m (b ∷ l) held t s
 
@@ -165,7 +165,7 @@ stopped (b ∷ l) i m = by (goesOn (length (m .sheet .bytes)) (m .sheet .used)) 
   where
     by : (x : Bool) → goesOn (length (m .sheet .bytes)) (m .sheet .used) ≡ x
         → (let e = fedFrom (suc i) (next m b) l in (e .eaten ≡ suc i + length l) ⊎ (length (next m b .sheet .bytes) < e .machine .sheet .used + 47))
-        → let e = cond {A = After} x (fedFrom (suc i) (next m b) l) (after m i) in
+        → let e = cond {A = After} x (fedFrom (suc i) (next m b) l) (takenTo m i) in
         (e .eaten ≡ i + suc (length l)) ⊎ (length (m .sheet .bytes) < e .machine .sheet .used + 47)
     by true e o = ⊎-elim (λ p. inl (omega (arith, p))) (λ p. inr (omega (arith, p, next-length m b))) o
     by false e o = inr (leb-false _ _ e)
@@ -177,7 +177,7 @@ fed-length [] i m = refl
 fed-length (b ∷ l) i m = by (goesOn (length (m .sheet .bytes)) (m .sheet .used)) (fed-length l (suc i) (next m b))
   where
     by : (x : Bool) → length (fedFrom (suc i) (next m b) l .machine .sheet .bytes) ≡ length (next m b .sheet .bytes)
-        → length (cond {A = After} x (fedFrom (suc i) (next m b) l) (after m i) .machine .sheet .bytes) ≡ length (m .sheet .bytes)
+        → length (cond {A = After} x (fedFrom (suc i) (next m b) l) (takenTo m i) .machine .sheet .bytes) ≡ length (m .sheet .bytes)
     by true e = e ∙ next-length m b
     by false e = refl
 

@@ -1,4 +1,4 @@
--- A chunk of input through a buffer for the line and a sheet for the answers: what the code keeps.
+-- A chunk of input through a buffer for the line and a sheet for the answers (BEHAVIOUR: The line program): what the code keeps.
 -- Assumes nothing.
 use Prim.Native.Nat.{ℕ, suc, _+_}
 use mathlib.Core.List.{List, [], _∷_}
@@ -40,13 +40,13 @@ pub record After : Type 0 where
   pub machine : Machine
   pub eaten : ℕ
 
-abbrev pub after : Machine → ℕ → After
-after m i = record { machine = m; eaten = i }
+abbrev pub takenTo : Machine → ℕ → After
+takenTo m i = record { machine = m; eaten = i }
 
 -- i bytes were taken before; it stops where the sheet has no room for the longest answer
 unfoldable pub fedFrom : (i : ℕ) → Machine → List ℕ → After
-fedFrom i m [] = after m i
-fedFrom i m (b ∷ l) = cond (goesOn (length (m .sheet .bytes)) (m .sheet .used)) (fedFrom (suc i) (next m b) l) (after m i)
+fedFrom i m [] = takenTo m i
+fedFrom i m (b ∷ l) = cond (goesOn (length (m .sheet .bytes)) (m .sheet .used)) (fedFrom (suc i) (next m b) l) (takenTo m i)
 
 -- a chunk, onto an empty sheet
 abbrev pub begun : (buffer out : List ℕ) → Gathered → Machine
@@ -60,7 +60,7 @@ abbrev pub fedAnswer : After → Fed
 fedAnswer e = record { gathered = e .machine .gathered; used = e .machine .sheet .used; eaten = e .eaten }
 
 abbrev pub fedAt : (buffer out : List ℕ) → Fed → After
-fedAt buffer out f = after (machine buffer (f .gathered) (sheet out (f .used))) (f .eaten)
+fedAt buffer out f = takenTo (machine buffer (f .gathered) (sheet out (f .used))) (f .eaten)
 
 -- the bytes up to the next newline at once, and the answer to the line that ends there
 abbrev pub lineEnded : Bool → Gathering → Sheet → Machine
@@ -71,7 +71,7 @@ unfoldable pub stepped : (chunk : List ℕ) → After → After
 stepped chunk f =
     let m = f .machine in
     let e = gatherFrom (f .eaten) (m .buffer) (m .gathered) (drop (f .eaten) chunk) in
-    after (lineEnded (e .step .ended) e (m .sheet)) (e .step .next)
+    takenTo (lineEnded (e .step .ended) e (m .sheet)) (e .step .next)
 
 -- the end of the input: a last line without its newline counts, where a byte of it has come
 unfoldable pub finished : (buffer out : List ℕ) → Gathered → Sheet

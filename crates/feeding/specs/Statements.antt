@@ -1,4 +1,4 @@
--- What is written for an input, whatever its chunks: the answers to its lines. Proofs: proofs/Statements.antt.
+-- What is written for an input, whatever its chunks (BEHAVIOUR: The line program): the answers to its lines. Proofs: proofs/Statements.antt.
 -- Assumes nothing.
 use Prim.Native.Nat.{ℕ, _+_, _*_, _≤_, _<_}
 use mathlib.Core.Path.{_≡_}

@@ -1,4 +1,4 @@
--- Laws of footage that callers cite: the bounds of what is counted and of what is written.
+-- Laws of footage that callers cite (BEHAVIOUR: Footage): the bounds of what is counted and of what is written.
 -- Assumes nothing.
 use Prim.Native.Nat.{ℕ, _+_, _*_, _≤_, _<_}
 use native.Mathlib.Nat.{mul-le-mul-left}

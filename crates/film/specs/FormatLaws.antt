@@ -1,4 +1,4 @@
--- Laws of the film formats that callers cite: the answer for each number, and the bounds of the perfs.
+-- Laws of the film formats that callers cite (BEHAVIOUR: Footage): the answer for each number, and the bounds of the perfs.
 -- Assumes nothing.
 use Prim.Native.Nat.{ℕ, zero, suc, _-_, _≤_, _<_}
 use native.Mathlib.Omega.{arith}

@@ -1,4 +1,4 @@
--- What holds of film beyond one call: the statements, in order. Proofs: proofs/Statements.antt.
+-- What holds of film beyond one call (BEHAVIOUR: Footage): the statements, in order. Proofs: proofs/Statements.antt.
 -- Assumes nothing.
 use Prim.Native.Nat.{ℕ}
 use mathlib.Core.Path.{_≡_}

@@ -1,4 +1,4 @@
--- Footage: what any text gives. What that comes to is said in Statements.antt.
+-- Footage (BEHAVIOUR: Text shapes): what any text gives. What that comes to is said in Statements.antt.
 -- Assumes nothing.
 use Prim.Native.Nat.{ℕ}
 use mathlib.Core.List.{List}

@@ -1,4 +1,4 @@
--- What a text reads as, by its shape: each text in one way, and each fit exactly. Proofs: proofs/Statements.antt.
+-- What a text reads as, by its shape (BEHAVIOUR: Text shapes): each text in one way, and each fit exactly. Proofs: proofs/Statements.antt.
 -- Assumes nothing.
 use Prim.Native.Nat.{ℕ, _^_, _<_}
 use mathlib.Core.Path.{_≡_}

@@ -1,4 +1,4 @@
--- Label: what any text gives. What that comes to is said in Statements.antt.
+-- Label (BEHAVIOUR: Text shapes): what any text gives. What that comes to is said in Statements.antt.
 -- Assumes nothing.
 use Prim.Native.Nat.{ℕ}
 use mathlib.Core.List.{List}

@@ -1,4 +1,4 @@
--- The count of a label and the label of a count at a rate, for every number and every rate number.
+-- The count of a label and the label of a count at a rate, for every number and every rate number (BEHAVIOUR: Labels and counts).
 -- Assumes nothing.
 use mathlib.Core.Path.{_≡_}
 use mathlib.Core.Bool.{Bool, true, false, cond, _&&_}

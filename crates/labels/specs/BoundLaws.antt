@@ -1,4 +1,4 @@
--- Bounds: how large numbers, counts and corrections become, so that no sum or product wraps.
+-- Bounds (BEHAVIOUR: Labels and counts): how large numbers, counts and corrections become, so that no sum or product wraps.
 -- Assumes nothing.
 use mathlib.Core.Path.{_≡_, sym, _∙_}
 use mathlib.Core.Bool.{true, false, and-eq-true-iff}

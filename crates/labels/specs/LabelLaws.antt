@@ -1,4 +1,4 @@
--- Which labels are dropped, by cases, and the count with no difference in it.
+-- Which labels are dropped, by cases, and the count with no difference in it (BEHAVIOUR: Labels and counts).
 -- Assumes nothing.
 use mathlib.Core.Path.{_≡_, refl, sym, _∙_, ap}
 use mathlib.Core.Bool.{Bool, true, false, and-false}

@@ -1,4 +1,4 @@
--- The labels in their order, and the fields of the label that a count has.
+-- The labels in their order, and the fields of the label that a count has (BEHAVIOUR: Labels and counts).
 -- Assumes nothing.
 use mathlib.Core.Bool.{Bool, not}
 use mathlib.Core.List.{List, [], _∷_}

@@ -1,4 +1,4 @@
--- What holds of labels and counts beyond one call: the statements, in order. Proofs: proofs/Statements.antt.
+-- What holds of labels and counts beyond one call (BEHAVIOUR: Labels and counts): the statements, in order. Proofs: proofs/Statements.antt.
 -- Assumes nothing.
 use mathlib.Core.Path.{_≡_}
 use mathlib.Core.List.{List}

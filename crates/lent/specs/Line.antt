@@ -1,4 +1,4 @@
--- Text in a lent line: what the line holds after a text is laid down from a stated place.
+-- Text in a lent line (BEHAVIOUR: Refusals): what the line holds after a text is laid down from a stated place.
 -- Assumes nothing.
 use Prim.Native.Nat.{ℕ, _+_}
 use mathlib.Core.List.{List, _++_}

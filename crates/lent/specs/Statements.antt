@@ -1,4 +1,4 @@
--- What holds of every text that is laid down: the line's length, the text's bytes, the other bytes. Proofs: proofs/Statements.antt.
+-- What holds of every text that is laid down (BEHAVIOUR: Refusals): the line's length, the text's bytes, the other bytes. Proofs: proofs/Statements.antt.
 -- Assumes nothing.
 use Prim.Native.Nat.{ℕ, _+_, _≤_, _<_}
 use mathlib.Core.Path.{_≡_}

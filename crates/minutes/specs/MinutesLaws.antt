@@ -1,4 +1,4 @@
--- The step rule in closed form, and that every entry is a count.
+-- The step rule in closed form, and that every entry is a count (BEHAVIOUR: The minute table).
 -- Assumes nothing.
 use mathlib.Core.Path.{_≡_, refl}
 use mathlib.Core.Bool.{Bool, true, false, cond}

@@ -1,4 +1,4 @@
--- What holds of the minute table: the statements, in order. Proofs: proofs/Statements.antt.
+-- What holds of the minute table (BEHAVIOUR: The minute table): the statements, in order. Proofs: proofs/Statements.antt.
 -- Assumes nothing.
 use mathlib.Core.Path.{_≡_}
 use mathlib.Core.Bool.{true}

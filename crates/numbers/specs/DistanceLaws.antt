@@ -1,4 +1,4 @@
--- Laws of magnitudes and distances: of sums, differences and products, and the triangle.
+-- Laws of magnitudes and distances (BEHAVIOUR: Time, Arithmetic): of sums, differences and products, and the triangle.
 -- Assumes nothing.
 use mathlib.Core.Path.{_≡_, refl, sym, _∙_, ap}
 use mathlib.Core.Bool.{Bool, true, false, cond}

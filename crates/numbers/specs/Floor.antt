@@ -1,4 +1,4 @@
--- Division that floors: what it is, and the function that computes it. Nearest: Nearest.antt; truncated: Truncate.antt.
+-- Division that floors (BEHAVIOUR: Arithmetic): what it is, and the function that computes it. Nearest: Nearest.antt; truncated: Truncate.antt.
 -- Assumes nothing.
 use Prim.Native.Nat.{ℕ, _/_}
 use lib.IntN.{ℤ, pos, negsuc, negℤ, natAbs, _*ℤ_}

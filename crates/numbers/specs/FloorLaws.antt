@@ -1,4 +1,4 @@
--- Laws of floored division, over every divisor but 0: what rounding down is, and how it goes by magnitudes.
+-- Laws of floored division, over every divisor but 0 (BEHAVIOUR: Time, Arithmetic): what rounding down is, and how it goes by magnitudes.
 -- Assumes nothing.
 use mathlib.Core.Path.{_≡_, refl, sym, ap, subst}
 use mathlib.Core.Bool.{true, false, Bool·beq}

@@ -1,4 +1,4 @@
--- A fraction in lowest terms, and the greatest common divisor: what they are.
+-- A fraction in lowest terms, and the greatest common divisor (BEHAVIOUR: Time, Arithmetic): what they are.
 -- Assumes nothing.
 use mathlib.Core.Path.{_≡_}
 use Prim.Native.Nat.{ℕ, _*_, _<_, _∣_}

@@ -1,4 +1,4 @@
--- Laws of lowest terms: both terms over their greatest common divisor are such, and no other fraction is.
+-- Laws of lowest terms (BEHAVIOUR: Time, Arithmetic): both terms over their greatest common divisor are such, and no other fraction is.
 -- Assumes nothing.
 use mathlib.Core.Path.{_≡_, refl, sym, _∙_, ap, subst}
 use Prim.Native.Nat.{ℕ, zero, suc, _+_, _*_, _/_, _%_, _≤_, _<_, _∣_}

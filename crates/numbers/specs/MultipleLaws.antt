@@ -1,4 +1,4 @@
--- Multiples of signed numbers: a multiple's multiple is one, and a multiple has one number.
+-- Multiples of signed numbers (BEHAVIOUR: Time, Arithmetic): a multiple's multiple is one, and a multiple has one number.
 -- Assumes nothing.
 use mathlib.Core.Path.{_≡_, sym, _∙_, ap}
 use Prim.Native.Nat.{ℕ, suc, _*_, _<_}

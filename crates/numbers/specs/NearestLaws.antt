@@ -1,4 +1,4 @@
--- Laws of the nearest on magnitudes, over every step n above zero.
+-- Laws of the nearest on magnitudes, over every step n above zero (BEHAVIOUR: Time, Arithmetic).
 -- Assumes nothing.
 use mathlib.Core.Path.{_≡_}
 use Prim.Native.Nat.{ℕ, _+_, _*_, _/_, _≤_, _<_}

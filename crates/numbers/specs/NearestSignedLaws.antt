@@ -1,4 +1,4 @@
--- Laws of the nearest on signed numbers, over every step n above zero.
+-- Laws of the nearest on signed numbers, over every step n above zero (BEHAVIOUR: Time, Arithmetic).
 -- Assumes nothing.
 use mathlib.Core.Path.{_≡_, ap}
 use Prim.Native.Nat.{ℕ, suc, _*_, _≤_, _<_}

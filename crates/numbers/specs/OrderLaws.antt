@@ -1,4 +1,4 @@
--- Laws of the order on signed numbers: by magnitudes, through a number between, and of multiples.
+-- Laws of the order on signed numbers (BEHAVIOUR: Time, Arithmetic): by magnitudes, through a number between, and of multiples.
 -- Assumes nothing.
 use mathlib.Core.Path.{_≡_, ap}
 use Prim.Native.Nat.{ℕ, zero, suc, _*_, _≤_}

@@ -1,4 +1,4 @@
--- Products of signed numbers distribute over sums and differences.
+-- Products of signed numbers distribute over sums and differences (BEHAVIOUR: Time, Arithmetic).
 -- Assumes nothing.
 use mathlib.Core.Path.{_≡_, sym, _∙_, ap}
 use Prim.Native.Nat.{ℕ, zero, suc}

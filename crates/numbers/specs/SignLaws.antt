@@ -1,4 +1,4 @@
--- Laws of a sign and a magnitude: both are read back, and a product goes by them.
+-- Laws of a sign and a magnitude (BEHAVIOUR: Time, Arithmetic): both are read back, and a product goes by them.
 -- Assumes nothing.
 use mathlib.Core.Path.{_≡_, refl, sym, _∙_, ap}
 use mathlib.Core.Bool.{Bool, true, false}

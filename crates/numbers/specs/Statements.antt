@@ -1,4 +1,4 @@
--- What holds of rounding and division beyond one call: each is what it is meant to be, and nothing else is. Proofs: proofs/Statements.antt.
+-- What holds of rounding and division beyond one call (BEHAVIOUR: Time, Arithmetic): each is what it is meant to be, and nothing else is. Proofs: proofs/Statements.antt.
 -- Assumes nothing.
 use mathlib.Core.Path.{_≡_}
 use Prim.Native.Nat.{ℕ, _*_, _≤_, _<_}

@@ -1,4 +1,4 @@
--- What a total operation answers where it cannot be carried out: 0. And the laws that say when it is exact.
+-- What a total operation answers where it cannot be carried out (BEHAVIOUR: Time, Arithmetic): 0. And the laws that say when it is exact.
 -- Assumes nothing.
 use mathlib.Core.Path.{_≡_}
 use mathlib.Core.Bool.{Bool, false, cond, _&&_}

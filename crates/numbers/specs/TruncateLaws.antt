@@ -1,4 +1,4 @@
--- Laws of truncated division: quotient and remainder are what they should be, over every divisor but 0, and nothing else is.
+-- Laws of truncated division (BEHAVIOUR: Time, Arithmetic): quotient and remainder are what they should be, over every divisor but 0, and nothing else is.
 -- Assumes nothing.
 use mathlib.Core.Path.{_≡_, refl, sym, _∙_, ap, ap₂, subst}
 use mathlib.Core.Bool.{Bool, true, false}

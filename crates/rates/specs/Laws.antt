@@ -1,4 +1,4 @@
--- Laws of the rate numbers that callers cite: the answer for each number, and the labels that a minute drops.
+-- Laws of the rate numbers that callers cite (BEHAVIOUR: Rates): the answer for each number, and the labels that a minute drops.
 -- Assumes nothing.
 use Prim.Native.Nat.{ℕ, zero, suc, _-_, _≤_, _<_}
 use native.Mathlib.Omega.{arith}

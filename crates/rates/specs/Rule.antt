@@ -1,4 +1,4 @@
--- What holds of every row of the table, tested once over the whole table and carried to every rate.
+-- What holds of every row of the table, tested once over the whole table and carried to every rate (BEHAVIOUR: Rates).
 -- Assumes nothing.
 use Prim.Native.Nat.{ℕ, zero, suc, _-_, _*_, _≤_, _<_}
 use native.Mathlib.Nat.{mul-le-mul}

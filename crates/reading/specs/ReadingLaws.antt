@@ -1,4 +1,4 @@
--- Laws of reading that callers cite: what a label and a footage give, condition by condition, and what a text gives by its shape.
+-- Laws of reading that callers cite (BEHAVIOUR: Text shapes): what a label and a footage give, condition by condition, and what a text gives by its shape.
 -- Assumes nothing.
 use Prim.Native.Nat.{ℕ}
 use mathlib.Core.Path.{_≡_, refl, sym, ap, _∙_}

@@ -33,7 +33,7 @@ fn as_label(rate: u64, counted: Counted) -> Read
     ensures answer { λ r. ⌜ r ≡ asLabel rate counted ⌝ }
 {
     match counted {
-        Counted::Count(count) => Read::Label(Timecode { count, rate }),
+        Counted::Count(count) => Read::Label(timecodes::new(count, rate)),
         Counted::Refused(e) => Read::Refused(e),
     }
 }
@@ -43,7 +43,7 @@ fn as_footage(rate: u64, format: FilmFormat, counted: Counted) -> Read
     ensures answer { λ r. ⌜ r ≡ asFootage rate format counted ⌝ }
 {
     match counted {
-        Counted::Count(count) => Read::Footage(Timecode { count, rate }, format),
+        Counted::Count(count) => Read::Footage(timecodes::new(count, rate), format),
         Counted::Refused(e) => Read::Refused(e),
     }
 }

@@ -37,13 +37,13 @@ timeRead rate minus time =
     unless Refused (badCount (runtimeFrame rate minus time) ∷ []) (At (timecode (runtimeFrame rate minus time) rate))
 
 -- 1: no shape; 2: the shape fits, but something is too long
-abbrev pub byFit : (taken : Answer) → Fit → Answer
-byFit taken Fits = taken
-byFit taken TooLong = Refused tooLong
-byFit taken NoShape = Refused noShape
+abbrev pub byItsFit : (taken : Answer) → Fit → Answer
+byItsFit taken Fits = taken
+byItsFit taken TooLong = Refused tooLong
+byItsFit taken NoShape = Refused noShape
 
 abbrev pub readScan : (rate : ℕ) → RuntimeScan → Answer
-readScan rate scan = byFit (timeRead rate (scan .minus) (timeIn (scan .fields) (scan .millionths))) (scan .fit)
+readScan rate scan = byItsFit (timeRead rate (scan .minus) (timeIn (scan .fields) (scan .millionths))) (scan .fit)
 
 -- 6: no such rate (1 to 12); then what the shape gives
 unfoldable pub readRuntime : (text : List ℕ) (rate : ℕ) → Answer

@@ -1,4 +1,4 @@
--- Laws of a runtime's reading that callers cite: each test, and that over 20,000,000 seconds are beyond the bounds at every rate.
+-- Laws of a runtime's reading that callers cite (BEHAVIOUR: Text shapes): each test, and that over 20,000,000 seconds are beyond the bounds at every rate.
 -- Assumes nothing.
 use Prim.Native.Nat.{ℕ, _*_, _≤_, _<_}
 use native.Mathlib.Nat.{mul-le-mul}

@@ -11,7 +11,7 @@ use scanner::Fit;
 use timecodes::Answer;
 
 // No count within its bounds has more seconds than this, at any rate.
-const MOST_SECONDS: u64 = 20_000_000;
+const MOST_RUNTIME: u64 = 20_000_000;
 
 // The frame nearest to a time of three fields, behind one that is 0, and millionths of a second. Refuses 5: it is out of bounds. Asks a
 // rate, and what a runtime's scan gives.
@@ -21,7 +21,7 @@ fn nearest_frame(rate: u64, minus: bool, fields: [u64; 4], millionths: u64) -> C
     ensures answer { λ r. ⌜ r ≡ held (runtimeFrame rate minus (timeIn fields millionths)) ⌝ }
 {
     let seconds = 3600 * fields[1] + 60 * fields[2] + fields[3];
-    if seconds > MOST_SECONDS {
+    if seconds > MOST_RUNTIME {
         return Counted::Refused(answers::OUT_OF_BOUNDS);
     }
     let row = rates::row(rate);

@@ -1,4 +1,4 @@
--- Runtime: what any text gives. What that comes to is said in Statements.antt.
+-- Runtime (BEHAVIOUR: Text shapes): what any text gives. What that comes to is said in Statements.antt.
 -- Assumes nothing.
 use Prim.Native.Nat.{ℕ}
 use mathlib.Core.List.{List}

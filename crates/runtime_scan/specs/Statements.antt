@@ -1,4 +1,4 @@
--- What a text reads as, by its shape: each text in one way, and each fit exactly. Proofs: proofs/Statements.antt.
+-- What a text reads as, by its shape (BEHAVIOUR: Text shapes): each text in one way, and each fit exactly. Proofs: proofs/Statements.antt.
 -- Assumes nothing.
 use Prim.Native.Nat.{ℕ, _^_, _<_}
 use mathlib.Core.Path.{_≡_}
@@ -42,5 +42,6 @@ pub record RuntimeBounds (fields : List ℕ) (millionths : ℕ) : Type 0 where
   pub below : Below fields
   pub fraction : millionths < 10 ^ 6
 
+-- so it is with every text
 abbrev pub RuntimeBounded : Type 0
 RuntimeBounded = (l : List ℕ) → RuntimeBounds (runtimeScan l .fields) (runtimeScan l .millionths)

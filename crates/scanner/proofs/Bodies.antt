@@ -11,7 +11,7 @@ use lib.Dec.{ltb}
 use lib.ListN.{length, drop}
 use lib.Seq.{drop-drop, drop-append-seam}
 use borrow.Author.Tests.{le-ltb, ltb-true, ltb-false, lt-ltb, eqb-true, not-true}
-use Rattle.digits.specs.Digits.{allDigits, valueFrom, fieldValue, firstIs, digitFirst, span, leading}
+use Rattle.digits.specs.Digits.{isByte, allDigits, valueFrom, fieldValue, firstIs, digitFirst, span, leading}
 use Rattle.digits.proofs.Values.{both}
 use Rattle.digits.proofs.Runs.{span-run, leading-run, leading-all, leading-rest, leading-length}
 use Rattle.scanner.specs.declared.cursor.Tail.{Tail}
@@ -20,7 +20,7 @@ use Rattle.scanner.specs.declared.fields.Dividers.the-variants.{Colon, C
 use Rattle.scanner.specs.declared.fields.Scanned.{Scanned}
 use Rattle.scanner.specs.declared.text.Fit.the-variants.{NoShape}
 use Rattle.scanner.specs.declared.text.Grammar.{Grammar}
-use Rattle.scanner.specs.Scan.{cursor, isByte, dividerOf, lookedFor, isEnd, noTail, tailAfter, tailOf}
+use Rattle.scanner.specs.Scan.{cursor, dividerOf, lookedFor, isEnd, noTail, tailAfter, tailOf}
 use Rattle.scanner.specs.Fields.{Front, fieldsIn, scannedOf, fieldsFound}
 use Rattle.scanner.specs.Text.{misfit, isWhole, unlessLong, endScan, tailScan, bodyScan}
 use Rattle.scanner.specs.Shapes.{pointed, BodyShape, textParts, someLong}

@@ -8,10 +8,10 @@ use mathlib.Core.Bool.{Bool, true, false, _||_}
 use lib.ListN.{length, length-append}
 use lib.Dec.{eqb}
 use borrow.Author.Tests.{eqb-true}
-use Rattle.digits.specs.Digits.{IsField, firstIs, digitFirst, isDigit}
+use Rattle.digits.specs.Digits.{isByte, IsField, firstIs, digitFirst, isDigit}
 use Rattle.scanner.specs.declared.fields.Dividers.{Dividers}
 use Rattle.scanner.specs.declared.fields.Dividers.the-variants.{Colon, ColonOrSemicolon, Plus}
-use Rattle.scanner.specs.Scan.{isByte, dividerOf, lookedFor}
+use Rattle.scanner.specs.Scan.{dividerOf, lookedFor}
 use Rattle.scanner.specs.Then.{fieldThen, byteThen}
 use Rattle.scanner.specs.Fields.{Front, noField, oneField, fieldAnd, fieldsIn}
 use Rattle.scanner.specs.Shapes.{FieldsShape, last, more}

@@ -6,10 +6,11 @@ use mathlib.Core.List.{List}
 use mathlib.Core.Bool.{Bool, true, false}
 use lib.Dec.{ltb}
 use lib.ListN.{drop}
+use Rattle.digits.specs.Digits.{isByte}
 use Rattle.scanner.specs.declared.cursor.Cursor.{Cursor}
 use Rattle.scanner.specs.declared.cursor.Passed.the-variants.{Next, Other}
 use Rattle.scanner.specs.declared.cursor.Field.{Field}
-use Rattle.scanner.specs.Scan.{isByte, lookedFor, pastIf, fieldOf, signBy, signOf, noTail, tailAfter, tailOf}
+use Rattle.scanner.specs.Scan.{lookedFor, pastIf, fieldOf, signBy, signOf, noTail, tailAfter, tailOf}
 use Rattle.scanner.specs.Then.{byteThen}
 use Rattle.scanner.proofs.Answers.{was-next, was-other, looked-some, looked-none}
 use Rattle.scanner.proofs.Then.{byte-not, byte-other, byte-next}

@@ -7,12 +7,12 @@ use mathlib.Core.List.{List, [], _∷_, _++_, append-assoc}
 use mathlib.Core.Bool.{Bool, true, false}
 use native.Mathlib.Omega.{arith}
 use borrow.Author.Tests.{eqb-true, ne-eqb}
-use Rattle.digits.specs.Digits.{isDigit, firstIs, digitFirst}
+use Rattle.digits.specs.Digits.{isByte, isDigit, firstIs, digitFirst}
 use Rattle.digits.proofs.Runs.{field-first}
 use Rattle.scanner.specs.declared.fields.Dividers.{Dividers}
 use Rattle.scanner.specs.declared.text.Fit.the-variants.{NoShape}
 use Rattle.scanner.specs.declared.text.Grammar.{Grammar}
-use Rattle.scanner.specs.Scan.{isByte, signBy, signOf}
+use Rattle.scanner.specs.Scan.{signBy, signOf}
 use Rattle.scanner.specs.Text.{misfit, unlessLong, bodyScan, textScan}
 use Rattle.scanner.specs.Shapes.{FieldsShape, last, more, pointed, BodyShape, TextParts, textParts, withMinus, TextShape, someLong}
 use Rattle.scanner.specs.Statements.{partsRead, TextReads}

@@ -1,4 +1,4 @@
--- The divided fields in front of a text, by recursion over how many may come, and what the scanner keeps of them.
+-- The divided fields in front of a text, by recursion over how many may come, and what the scanner keeps of them (BEHAVIOUR: Text shapes).
 -- Assumes nothing.
 use Prim.Native.Nat.{ℕ, zero, suc, _+_}
 use mathlib.Core.List.{List, [], _∷_, map}

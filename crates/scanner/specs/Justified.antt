@@ -1,4 +1,4 @@
--- Fields that are right-justified in four places, absent ones zero.
+-- Fields that are right-justified in four places, absent ones zero (BEHAVIOUR: Text shapes).
 -- Assumes nothing.
 use Prim.Native.Nat.{ℕ, zero, suc, _^_, _<_}
 use mathlib.Core.List.{List, [], _∷_, _++_}

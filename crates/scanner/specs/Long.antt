@@ -1,4 +1,4 @@
--- How many digits a field may have: a field of over 9 is too long.
+-- How many digits a field may have (BEHAVIOUR: Text shapes): a field of over 9 is too long.
 -- Assumes nothing.
 use Prim.Native.Nat.{ℕ, _≤_}
 use mathlib.Core.List.{List, [], _∷_}

@@ -1,10 +1,10 @@
--- What stands at a cursor: `l` is what is left of the text from the place `at` on.
+-- What stands at a cursor (BEHAVIOUR: Text shapes): `l` is what is left of the text from the place `at` on.
 -- Assumes nothing.
 use Prim.Native.Nat.{ℕ, zero, suc, _+_}
 use mathlib.Core.List.{List, [], _∷_}
 use mathlib.Core.Bool.{Bool, true, false, _||_}
 use lib.Dec.{eqb, ltb}
-use Rattle.digits.specs.Digits.{fieldValue, firstIs, span, leading}
+use Rattle.digits.specs.Digits.{isByte, fieldValue, firstIs, span, leading}
 use Rattle.scanner.specs.declared.cursor.Cursor.{Cursor}
 use Rattle.scanner.specs.declared.cursor.Passed.{Passed}
 use Rattle.scanner.specs.declared.cursor.Passed.the-variants.{Next, Other}
@@ -20,10 +20,6 @@ abbrev pub cursor : ℕ → Cursor
 cursor at = record { at = at }
 
 -- ---- bytes
--- the byte b, and no other
-abbrev pub isByte : (b c : ℕ) → Bool
-isByte b c = eqb c b
-
 -- a label's fields are divided by `:` or `;`
 abbrev pub isDivider : ℕ → Bool
 isDivider c = eqb c 58 || eqb c 59

@@ -1,4 +1,4 @@
--- The shapes of texts as grammars: no reader stands in them.
+-- The shapes of texts as grammars (BEHAVIOUR: Text shapes): no reader stands in them.
 -- Assumes nothing.
 use Prim.Native.Nat.{ℕ, suc, _≤_, _<_}
 use mathlib.Core.Path.{_≡_}

@@ -1,4 +1,4 @@
--- What a text reads as by a grammar, from its shape: each text in one way, and each fit exactly. Proofs: proofs/Statements.antt.
+-- What a text reads as by a grammar, from its shape (BEHAVIOUR: Text shapes): each text in one way, and each fit exactly. Proofs: proofs/Statements.antt.
 -- Assumes nothing.
 use Prim.Native.Nat.{ℕ, _^_, _<_}
 use mathlib.Core.Path.{_≡_}
@@ -42,5 +42,6 @@ pub record TextBounds (scan : TextScan) : Type 0 where
   pub below : Below (scan .fields)
   pub tail : scan .tail < 10 ^ 9
 
+-- so it is with every grammar and every text
 abbrev pub TextBounded : Type 0
 TextBounded = (g : Grammar) (l : List ℕ) → TextBounds (textScan g l)

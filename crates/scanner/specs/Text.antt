@@ -1,4 +1,4 @@
--- What any text gives by a grammar, read in steps. What that comes to is said in Statements.antt.
+-- What any text gives by a grammar, read in steps (BEHAVIOUR: Text shapes). What that comes to is said in Statements.antt.
 -- Assumes nothing.
 use Prim.Native.Nat.{ℕ}
 use mathlib.Core.List.{List}

@@ -1,4 +1,4 @@
--- Reading in steps: what stands in front of a text, and then what the rest gives; for any type of answers.
+-- Reading in steps (BEHAVIOUR: Text shapes): what stands in front of a text, and then what the rest gives; for any type of answers.
 -- Assumes nothing.
 use Prim.Native.Nat.{ℕ}
 use mathlib.Core.List.{List, [], _∷_}

@@ -1,7 +1,8 @@
 // A cursor by value, handed on past each byte taken: what stands in a text at its place.
 ghost use mathlib.Core.Path.{_≡_};
 ghost use lib.ListN.{drop};
-ghost use Rattle.scanner.specs.Scan.{fieldOf, pastIf, isByte, isEnd, signOf, noTail, tailOf};
+ghost use Rattle.digits.specs.Digits.{isByte};
+ghost use Rattle.scanner.specs.Scan.{fieldOf, pastIf, isEnd, signOf, noTail, tailOf};
 
 // A place in a text. The text is handed to each step beside it.
 pub struct Cursor {

@@ -49,7 +49,6 @@ next-le (b ∷ l) i buffer g = by (eqb b 10) (next-le l (suc i) (bufferTaken buf
     by true h = omega arith
     by false h = omega arith
 
-
 pub next-lt : (l : List ℕ) (i : ℕ) (buffer : List ℕ) (g : Gathered) → 0 < length l → i < gatherFrom i buffer g l .step .next
 unfolding gatherFrom
 next-lt [] i buffer g h = absurd (omega arith)

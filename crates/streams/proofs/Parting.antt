@@ -7,7 +7,7 @@ use mathlib.Core.Bool.{Bool, true, false, cond}
 use lib.Dec.{eqb}
 use borrow.Author.Tests.{eqb-true, eqb-false, ne-eqb}
 use Rattle.streams.specs.Lines.{Plain, none, more, Lines, nothing, last, line}
-use Rattle.streams.specs.Parting.{Parted, behind, parted, partedBy, joined, lastLine, linesOf, each}
+use Rattle.streams.specs.Parting.{Parted, behind, parted, partedBy, together, lastLine, linesOf, each}
 
 -- ---- the fold
 pub parted-end : (held text : List ℕ) → parted held (10 ∷ text) ≡ behind (held ∷ []) (parted [] text)
@@ -31,11 +31,11 @@ unfolding parted
 two-chunks held [] b = refl
 two-chunks held (x ∷ a) b = two-by held a b x (eqb x 10) (two-chunks [] a b) (two-chunks (held ++ (x ∷ [])) a b)
 
-pub any-chunks : (held : List ℕ) (chunks : List (List ℕ)) → partedBy held chunks ≡ parted held (joined chunks)
-unfolding partedBy joined parted
+pub any-chunks : (held : List ℕ) (chunks : List (List ℕ)) → partedBy held chunks ≡ parted held (together chunks)
+unfolding partedBy together parted
 any-chunks held [] = refl
 any-chunks held (c ∷ chunks) =
-    ap (behind (parted held c .done)) (any-chunks (parted held c .rest) chunks) ∙ sym (two-chunks held c (joined chunks))
+    ap (behind (parted held c .done)) (any-chunks (parted held c .rest) chunks) ∙ sym (two-chunks held c (together chunks))
 
 -- ---- answers
 pub each-append : (answer : List ℕ → List ℕ) (a b : List (List ℕ)) → each answer (a ++ b) ≡ each answer a ++ each answer b

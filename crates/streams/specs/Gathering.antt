@@ -1,4 +1,4 @@
--- A line as its bytes come: its first bytes, as many as a buffer holds, and whether there were more.
+-- A line as its bytes come (BEHAVIOUR: The line program): its first bytes, as many as a buffer holds, and whether there were more.
 -- Assumes nothing.
 use Prim.Native.Nat.{ℕ, suc, _+_}
 use mathlib.Core.List.{List, [], _∷_}

@@ -1,4 +1,4 @@
--- A sheet: a buffer with text at its front, of which so many bytes are used.
+-- A sheet (BEHAVIOUR: The line program): a buffer with text at its front, of which so many bytes are used.
 -- Assumes nothing.
 use Prim.Native.Nat.{ℕ, _+_}
 use mathlib.Core.List.{List}

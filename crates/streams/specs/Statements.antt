@@ -1,11 +1,11 @@
--- What holds of lines and chunks. Proofs: proofs/Statements.antt.
+-- What holds of lines and chunks (BEHAVIOUR: The line program). Proofs: proofs/Statements.antt.
 -- Assumes nothing.
 use Prim.Native.Nat.{ℕ}
 use mathlib.Core.Path.{_≡_}
 use mathlib.Core.List.{List, _++_, map}
 use lib.ListN.{length}
 use Rattle.streams.specs.Lines.{Lines}
-use Rattle.streams.specs.Parting.{behind, parted, partedBy, joined, linesOf}
+use Rattle.streams.specs.Parting.{behind, parted, partedBy, together, linesOf}
 use Rattle.streams.specs.Gathering.{noByte, keptOf, handed}
 
 -- a text in two chunks: the second goes on where the first left off
@@ -14,12 +14,13 @@ TwoChunks = (held a b : List ℕ) → parted held (a ++ b) ≡ behind (parted he
 
 -- in any chunks, of any size, also empty ones: only the text matters
 abbrev pub AnyChunks : Type 0
-AnyChunks = (held : List ℕ) (chunks : List (List ℕ)) → partedBy held chunks ≡ parted held (joined chunks)
+AnyChunks = (held : List ℕ) (chunks : List (List ℕ)) → partedBy held chunks ≡ parted held (together chunks)
 
 -- the fold finds the lines of the grammar, and no others
 abbrev pub FoldFinds : Type 0
 FoldFinds = (text : List ℕ) → Lines text (linesOf text)
 
+-- and a text has no other lines
 abbrev pub OneReading : Type 0
 OneReading = (text : List ℕ) (ls : List (List ℕ)) → Lines text ls → linesOf text ≡ ls
 

@@ -1,4 +1,4 @@
--- How many of the numbers below n pass a test.
+-- How many of the numbers below n pass a test (BEHAVIOUR: Labels and counts).
 -- Assumes nothing.
 use mathlib.Core.Path.{_≡_}
 use mathlib.Core.Bool.{Bool, true, false}

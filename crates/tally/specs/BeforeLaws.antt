@@ -1,4 +1,4 @@
--- Of the numbers that pass a test no two have equally many before them, and each count below the whole is had.
+-- Of the numbers that pass a test no two have equally many before them, and each count below the whole is had (BEHAVIOUR: Labels and counts).
 -- Assumes nothing.
 use mathlib.Core.Path.{_≡_, refl, sym, _∙_, ap}
 use mathlib.Core.Bool.{Bool, true, false}

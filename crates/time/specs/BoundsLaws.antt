@@ -1,4 +1,4 @@
--- What the bounds of a fraction tell, and what makes them.
+-- What the bounds of a fraction tell, and what makes them (BEHAVIOUR: Time).
 -- Assumes nothing.
 use Prim.Native.Nat.{ℕ, _≤_}
 use mathlib.Core.Path.{_≡_}

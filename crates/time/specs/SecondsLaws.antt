@@ -1,4 +1,4 @@
--- Laws of seconds: lowest terms with the ticks' sign are such, an answer of seconds tells of its timecode, and there is one answer.
+-- Laws of seconds (BEHAVIOUR: Time): lowest terms with the ticks' sign are such, an answer of seconds tells of its timecode, and there is one answer.
 -- Assumes nothing.
 use Prim.Native.Nat.{ℕ}
 use mathlib.Core.Path.{_≡_, refl, sym, _∙_, ap, ap₂, subst}

@@ -49,7 +49,7 @@ pub fn is_fraction(most: u64, p: i64, q: u64) -> bool
 pub fn with_frames(count: i64, rate: u64) -> Answer
     ensures answer { λ r. ⌜ r ≡ framesAt count rate ⌝ }
 {
-    let tc = Timecode { count, rate };
+    let tc = timecodes::new(count, rate);
     match timecodes::admit(tc) {
         Verdict::Passed => Answer::At(tc),
         Verdict::Refused(e) => Answer::Refused(e),

@@ -2,6 +2,8 @@
 -- Assumes nothing.
 use mathlib.Core.Path.{sym, ap, _∙_}
 use Rattle.outcomes.specs.Outcome.{Determined}
+use Rattle.timecodes.proofs.new as new
+use Rattle.timecodes.proofs.new.Reads as new-reads
 use Rattle.timecodes.proofs.admit as admit
 use Rattle.timecodes.proofs.admit.Reads as admit-reads
 use Rattle.timecodes.proofs.admit_both as admit-both
@@ -16,6 +18,9 @@ use Rattle.timecodes.proofs.number as number
 use Rattle.timecodes.proofs.number.Reads as number-reads
 use Rattle.timecodes.proofs.timecode_of as timecode-of
 use Rattle.timecodes.proofs.timecode_of.Reads as timecode-of-reads
+
+pub new-determined : Determined new.ended new-reads.Asked new-reads.Learnt
+new-determined κs a asked x y p q = ap (λ z. (z, x .1)) (p ∙ sym q)
 
 pub admit-determined : Determined admit.ended admit-reads.Asked admit-reads.Learnt
 admit-determined κs a asked x y p q = ap (λ z. (z, x .1)) (p ∙ sym q)

@@ -1,4 +1,4 @@
--- What the admission of a timecode tells, and what follows where it is admitted.
+-- What the admission of a timecode tells, and what follows where it is admitted (BEHAVIOUR: Refusals).
 -- Assumes nothing.
 use mathlib.Core.Path.{_≡_, refl, sym, _∙_}
 use mathlib.Core.Bool.{true, false}

@@ -1,4 +1,4 @@
--- Bounds of an instant: that of a valid timecode fits, and two add up below 2 ^ 63.
+-- Bounds of an instant (BEHAVIOUR: Time): that of a valid timecode fits, and two add up below 2 ^ 63.
 -- Assumes nothing.
 use Prim.Native.Nat.{_≤_}
 use mathlib.Core.Path.{_≡_}

@@ -5,7 +5,7 @@ use answers::Refusal;
 use answers::Verdict;
 ghost use mathlib.Core.Path.{_≡_};
 ghost use Rattle.answers.specs.Order.{judged};
-ghost use Rattle.timecodes.specs.Timecode.{placed, movedTo, numberOf, timecodeOf};
+ghost use Rattle.timecodes.specs.Timecode.{timecode, placed, movedTo, numberOf, timecodeOf};
 ghost use Rattle.timecodes.specs.Admitted.{admits, admitsBoth};
 ghost use Rattle.timecodes.specs.Instant.{instantIn};
 
@@ -19,6 +19,13 @@ pub struct Timecode {
 pub enum Answer {
     At(Timecode),
     Refused(Refusal),
+}
+
+// A timecode of a count and a rate, whatever they are.
+pub fn new(count: i64, rate: u64) -> Timecode
+    ensures answer { λ r. ⌜ r ≡ timecode count rate ⌝ }
+{
+    Timecode { count, rate }
 }
 
 // Whether an operation takes a timecode. Refuses 6: no such rate; 5: the count is out of bounds.

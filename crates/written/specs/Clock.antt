@@ -1,4 +1,4 @@
--- Hours, minutes and seconds, as labels and runtimes begin with them.
+-- Hours, minutes and seconds, as labels and runtimes begin with them (BEHAVIOUR: Labels and counts, Time).
 -- Assumes nothing.
 use Prim.Native.Nat.{ℕ}
 use mathlib.Core.List.{List, _++_}

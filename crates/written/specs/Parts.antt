@@ -1,4 +1,4 @@
--- What the written texts have in common: the sign in front, a number with its sign, a field behind its mark.
+-- What the written texts have in common (BEHAVIOUR: Labels and counts, Footage): the sign in front, a number with its sign, a field behind its mark.
 -- Assumes nothing.
 use Prim.Native.Nat.{ℕ}
 use mathlib.Core.List.{List, [], _∷_, _++_}

@@ -1,4 +1,4 @@
--- What holds of every writer: a refusal changes nothing, a length is that of the text that stands there. Proofs: proofs/Statements.antt.
+-- What holds of every writer (BEHAVIOUR: Refusals): a refusal changes nothing, a length is that of the text that stands there. Proofs: proofs/Statements.antt.
 -- Assumes nothing.
 use Prim.Native.Nat.{ℕ, _+_, _<_}
 use mathlib.Core.Path.{_≡_}

@@ -10,7 +10,7 @@ use Rattle.scanner.specs.declared.text.Fit.{Fit}
 use Rattle.runtime_scan.specs.declared.RuntimeScan.{RuntimeScan}
 use Rattle.runtime_scan.specs.Statements.{RuntimeBounds}
 use Rattle.runtime_scan.proofs.Statements.{runtime-bounded}
-use Rattle.runtime_reading.specs.Reading.{timeIn, timeRead, byFit, readScan, readRuntime}
+use Rattle.runtime_reading.specs.Reading.{timeIn, timeRead, byItsFit, readScan, readRuntime}
 use Rattle.runtime_reading.specs.ReadingLaws.{no-rate, read-scanned, timeRead-held}
 use Rattle.runtime_reading.proofs.read_runtime.Statement.{statement}
 use Rattle.runtime_reading.proofs.read_runtime.Tie as tie
@@ -33,13 +33,13 @@ scan-runtime-requires c κs = search needs
 scanned-as : (c : tie.After-scan-runtime) (v : Fit) → c .scan-runtime .result .fit ≡ v
     → let a = c .before .before .before .before .args in
     let s = c .scan-runtime .result in
-    byFit (timeRead (a .rate) (s .minus) (timeIn (s .fields) (s .millionths))) v ≡ readRuntime (a .text .now) (a .rate)
+    byItsFit (timeRead (a .rate) (s .minus) (timeIn (s .fields) (s .millionths))) v ≡ readRuntime (a .text .now) (a .rate)
 scanned-as c v e =
     let a = c .before .before .before .before .args in
     let s = c .scan-runtime .result in
     sym (read-scanned (a .text .now) (a .rate) (rated (c .before))
     ∙ ap (readScan (a .rate)) (sym (c .scan-runtime .ensures))
-    ∙ ap (byFit (timeRead (a .rate) (s .minus) (timeIn (s .fields) (s .millionths)))) e)
+    ∙ ap (byItsFit (timeRead (a .rate) (s .minus) (timeIn (s .fields) (s .millionths)))) e)
 
 enum-told : tie.Need-enum-told
 enum-told c = search needs

@@ -4,7 +4,7 @@ use mathlib.Core.Path.{_≡_, sym, ap, _∙_}
 use borrow.Author.Needs.{needs}
 use mir.Syntax.{w64}
 use mir.Val.{toZ, ofZ}
-use Rattle.asking.specs.Asked.{isAllowed, allowed}
+use Rattle.asking.specs.Asked.{isInRange, allowed}
 use Rattle.asking.proofs.Taken.{allowed-yes, allowed-no}
 use Rattle.asking.proofs.words.word_at.Statement.{statement}
 use Rattle.asking.proofs.words.word_at.Tie as tie
@@ -33,10 +33,10 @@ back : (c : tie.After-known-told) → toZ w64 (ofZ w64 (c .before .w .given .0 .
 back c = search needs
 
 returns-2 : tie.Need-returns-2
-returns-2 c = sym (ap (allowed (c .before .before .before .before .before .before .before .args .kind)) (sym (c .before .before .before .before .before .number .ensures) ∙ c .before .before .before .w .given .1) ∙ allowed-yes _ _ _ (sym (ap (isAllowed (c .before .before .before .before .before .before .before .args .kind)) (back (c .before .before))) ∙ sym (c .before .is-allowed .ensures) ∙ c .if1 .taken))
+returns-2 c = sym (ap (allowed (c .before .before .before .before .before .before .before .args .kind)) (sym (c .before .before .before .before .before .number .ensures) ∙ c .before .before .before .w .given .1) ∙ allowed-yes _ _ _ (sym (ap (isInRange (c .before .before .before .before .before .before .before .args .kind)) (back (c .before .before))) ∙ sym (c .before .is-allowed .ensures) ∙ c .if1 .taken))
 
 returns-3 : tie.Need-returns-3
-returns-3 c = sym (ap (allowed (c .before .before .before .before .before .before .before .args .kind)) (sym (c .before .before .before .before .before .number .ensures) ∙ c .before .before .before .w .given .1) ∙ allowed-no _ _ _ (sym (ap (isAllowed (c .before .before .before .before .before .before .before .args .kind)) (back (c .before .before))) ∙ sym (c .before .is-allowed .ensures) ∙ c .if1 .left))
+returns-3 c = sym (ap (allowed (c .before .before .before .before .before .before .before .args .kind)) (sym (c .before .before .before .before .before .number .ensures) ∙ c .before .before .before .w .given .1) ∙ allowed-no _ _ _ (sym (ap (isInRange (c .before .before .before .before .before .before .before .args .kind)) (back (c .before .before))) ∙ sym (c .before .is-allowed .ensures) ∙ c .if1 .left))
 
 pub word-at-spec : {M : Type 1} → statement M
 word-at-spec =

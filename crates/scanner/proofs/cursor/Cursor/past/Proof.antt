@@ -3,7 +3,7 @@
 use mathlib.Core.Bool.{true, false}
 use borrow.Author.Needs.{needs}
 use borrow.Author.Tests.{eq-eqb, ne-eqb}
-use Rattle.scanner.specs.Scan.{isByte}
+use Rattle.digits.specs.Digits.{isByte}
 use Rattle.scanner.proofs.Answers.{past-here, past-end}
 use Rattle.scanner.proofs.cursor.Cursor.past.Statement.{statement}
 use Rattle.scanner.proofs.cursor.Cursor.past.Tie as tie
