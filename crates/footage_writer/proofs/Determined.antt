@@ -1,6 +1,6 @@
 -- Each public function's contract allows one outcome: two that meet its equations are equal.
 -- Assumes nothing.
-use mathlib.Core.Path.{_≡_, sym, ap, _∙_}
+use mathlib.Core.Path.{sym, ap, _∙_}
 use Rattle.outcomes.specs.Outcome.{Determined}
 use Rattle.footage_writer.proofs.write_footage as write-footage
 use Rattle.footage_writer.proofs.write_footage.Reads as write-footage-reads

@@ -1,7 +1,7 @@
 -- How long the parts of a footage are, which formats have a marker, and what is drafted for a format.
 -- Assumes nothing.
 use Prim.Native.Nat.{ℕ, _+_, _^_, _≤_, _<_}
-use mathlib.Core.Path.{_≡_, refl, sym, ap, _∙_}
+use mathlib.Core.Path.{_≡_, refl, sym, ap}
 use mathlib.Core.Bool.{Bool, true, false}
 use mathlib.Core.List.{[], _∷_, _++_}
 use native.Mathlib.Omega.{arith}
@@ -21,7 +21,7 @@ use Rattle.digits.specs.Digits.{decimal}
 use Rattle.digits.proofs.Width.{decimal-length}
 use Rattle.written.specs.Parts.{signedText, fieldText}
 use Rattle.written.specs.Written.{Text, NoText}
-use Rattle.written.proofs.Parts.{wide-most, padded-most, field-most}
+use Rattle.written.proofs.Parts.{wide-most}
 use Rattle.footage_writer.specs.FootageText.{perfText, feetText, footageText, footageDraft}
 
 -- ---- the marker

@@ -14,7 +14,7 @@ use Rattle.film.specs.declared.FilmFormat.the-variants.{FF35mm4perf, FF35mm3per
 use Rattle.film.specs.Footage.{footageCount, footageOf}
 use Rattle.film.specs.FootageLaws.{frames-le, perf-lt}
 use Rattle.film.proofs.Statements.{footage-back}
-use Rattle.digits.specs.Digits.{valueOf, digitsOf, decimal}
+use Rattle.digits.specs.Digits.{digitsOf, decimal}
 use Rattle.digits.proofs.Width.{decimal-back, decimal-length, width-at-most}
 use Rattle.digits.proofs.Statements.{decimal-padded}
 use Rattle.written.proofs.Parts.{sign-most, padded-length, decimal-short}

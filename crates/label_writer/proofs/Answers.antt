@@ -1,7 +1,7 @@
 -- The fields of a label at a rate, its text by them, and how long the text is.
 -- Assumes nothing.
 use Prim.Native.Nat.{ℕ, _+_, _^_, _≤_, _<_}
-use mathlib.Core.Path.{_≡_, refl}
+use mathlib.Core.Path.{_≡_}
 use mathlib.Core.Bool.{Bool, true}
 use mathlib.Core.List.{List, _∷_, _++_, append-assoc}
 use native.Mathlib.Omega.{arith}
@@ -19,7 +19,7 @@ use Rattle.labels.specs.Label.{hoursIn, minutesIn, secondsIn, framesIn, LabelOf
 use Rattle.labels.specs.AtRate.{sectionsAt, sectionsAt-in}
 use Rattle.labels.specs.Statements.{Small}
 use Rattle.labels.proofs.Statements.{has-label, small-fields}
-use Rattle.digits.specs.Digits.{width, decimal}
+use Rattle.digits.specs.Digits.{decimal}
 use Rattle.written.specs.Parts.{signText, fieldText}
 use Rattle.written.specs.Clock.{clockText}
 use Rattle.written.specs.Written.{Text, NoText}

@@ -1,9 +1,8 @@
 -- A line made of its parts is read by them, one that is none is refused 1, and no answer has more than 47 bytes: count, label and ticks have bounds.
 -- Assumes nothing.
 use Prim.Native.Nat.{ℕ, _+_, _^_, _≤_, _<_}
-use mathlib.Core.Path.{_≡_, sym, ap}
+use mathlib.Core.Path.{ap}
 use mathlib.Core.Bool.{Bool, false}
-use mathlib.Core.List.{List}
 use native.Mathlib.Omega.{arith}
 use lib.IntN.{natAbs}
 use lib.ListN.{length}

@@ -1,8 +1,8 @@
 -- How long each part of an answer is, and that the columns laid down one behind the other are the answer.
 -- Assumes nothing.
-use Prim.Native.Nat.{ℕ, _+_, _^_, _≤_, _<_, max}
-use mathlib.Core.Path.{_≡_, sym, ap, _∙_}
-use mathlib.Core.List.{List, [], _∷_, _++_, append-assoc}
+use Prim.Native.Nat.{ℕ, _+_}
+use mathlib.Core.Path.{_≡_}
+use mathlib.Core.List.{[], _∷_, _++_, append-assoc}
 use mathlib.Core.Bool.{Bool, false}
 use native.Mathlib.Omega.{arith}
 use lib.ListN.{length, length-append}

@@ -1,6 +1,6 @@
 -- How long the parts of a runtime are, and that the digits kept are the fraction's.
 -- Assumes nothing.
-use Prim.Native.Nat.{ℕ, _+_, _/_, _%_, _^_, _≤_, _<_, max}
+use Prim.Native.Nat.{ℕ, _+_, _/_, _%_, _^_, _≤_, max}
 use mathlib.Core.Path.{_≡_, ap}
 use mathlib.Core.List.{_∷_}
 use mathlib.Core.Bool.{Bool}

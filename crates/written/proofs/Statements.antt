@@ -10,7 +10,6 @@ use borrow.Author.Tests.{leb-false}
 use Rattle.lent.specs.Line.{splice, fits, lineAfter}
 use Rattle.lent.proofs.Laws.{fits-false}
 use Rattle.answers.specs.declared.Refusal.{Refusal}
-use Rattle.answers.specs.Order.{unless}
 use Rattle.answers.specs.OrderLaws.{unless-map, unless-append, unless-number}
 use Rattle.answers.specs.Refusals.{noRoom}
 use Rattle.written.specs.declared.Written.the-variants.{Length, Refused}

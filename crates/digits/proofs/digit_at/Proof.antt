@@ -8,12 +8,6 @@ use Rattle.digits.specs.Digits.{digitFirst}
 use Rattle.digits.proofs.digit_at.Statement.{statement}
 use Rattle.digits.proofs.digit_at.Tie as tie
 
-shared-slice-read-is-digit : tie.Need-shared-slice-read-is-digit
-shared-slice-read-is-digit c = search needs
-
-is-digit-requires : tie.Need-is-digit-requires
-is-digit-requires c κs = search needs
-
 returns : tie.Need-returns
 returns c = c .is-digit .ensures ∙ sym (ap digitFirst (drop-cons _ _ 0 (c .before .before .if1 .taken)))
 
@@ -21,4 +15,4 @@ returns-2 : tie.Need-returns-2
 returns-2 c = sym (ap digitFirst (drop-of-length-le _ (c .if1 .left)))
 
 pub digit-at-spec : {M : Type 1} → statement M
-digit-at-spec = tie.close (tie.spec shared-slice-read-is-digit is-digit-requires returns returns-2)
+digit-at-spec = tie.close (tie.spec (λ c. search needs) (λ c κs. search needs) returns returns-2)

@@ -22,21 +22,6 @@ returns c = let a = c .before .args in sym (laid-out _ (digitsOf (a .k) (a .n)) 
 loop-holds : tie.Need-loop-holds Inv-loop μ-loop
 loop-holds c = record { long = refl; room = search needs; inside = search needs; left = refl }
 
-sub-i : tie.Need-sub-i Inv-loop μ-loop
-sub-i c = search needs
-
-cast-part : tie.Need-cast-part Inv-loop μ-loop
-cast-part c = search needs
-
-add-part : tie.Need-add-part Inv-loop μ-loop
-add-part c = search needs
-
-slice-write-part : tie.Need-slice-write-part Inv-loop μ-loop
-slice-write-part c = omega arith
-
-loop-less : tie.Need-loop-less Inv-loop μ-loop
-loop-less c = search needs
-
 loop-again : tie.Need-loop-again Inv-loop μ-loop
 loop-again c = spelling-turn _ _ _ _ _ _ (c .before .loop .inv) (c .loop-test .taken)
 
@@ -54,11 +39,11 @@ put-digits-spec =
     μ-loop
     returns
     loop-holds
-    sub-i
-    cast-part
-    add-part
-    slice-write-part
-    loop-less
+    (λ c. search needs)
+    (λ c. search needs)
+    (λ c. search needs)
+    (λ c. omega arith)
+    (λ c. search needs)
     loop-again
     same-length
     returns-2)

@@ -20,9 +20,6 @@ abbrev μ-loop : tie.MeasureT-loop
 loop-holds : tie.Need-loop-holds Inv-loop μ-loop
 loop-holds c = taking-start _ _
 
-digit-at-requires : tie.Need-digit-at-requires Inv-loop μ-loop
-digit-at-requires c κs = search needs
-
 -- in a turn a digit stands at i, so i is within the text
 stands : (c : tie.Then1 Inv-loop μ-loop)
     → digitFirst (drop (c .before .before .loop .i) (c .before .before .before .before .args .s .now)) ≡ true
@@ -62,7 +59,7 @@ run-at-spec =
     Inv-loop
     μ-loop
     loop-holds
-    digit-at-requires
+    (λ c κs. search needs)
     shared-slice-read-push
     push-requires
     add-count

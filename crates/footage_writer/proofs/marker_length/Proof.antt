@@ -10,12 +10,6 @@ use Rattle.footage_writer.proofs.Laws.{marker-some, marker-none}
 use Rattle.footage_writer.proofs.marker_length.Statement.{statement}
 use Rattle.footage_writer.proofs.marker_length.Tie as tie
 
-allows-perf-field-requires : tie.Need-allows-perf-field-requires
-allows-perf-field-requires c κs = search needs
-
-width-of-requires : tie.Need-width-of-requires
-width-of-requires c κs = search needs
-
 add-result : tie.Need-add-result
 add-result c =
     let perf = c .before .before .before .args .perf in
@@ -34,4 +28,4 @@ returns-2 c =
 
 pub marker-length-spec : {M : Type 1} → statement M
 marker-length-spec =
-    tie.close (tie.spec allows-perf-field-requires width-of-requires add-result returns returns-2)
+    tie.close (tie.spec (λ c κs. search needs) (λ c κs. search needs) add-result returns returns-2)

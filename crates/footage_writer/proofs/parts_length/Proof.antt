@@ -7,19 +7,10 @@ use Rattle.footage_writer.proofs.Laws.{marker-most, feet-length}
 use Rattle.footage_writer.proofs.parts_length.Statement.{statement}
 use Rattle.footage_writer.proofs.parts_length.Tie as tie
 
-signed-length-requires : tie.Need-signed-length-requires
-signed-length-requires c κs = search needs
-
-field-length-requires : tie.Need-field-length-requires
-field-length-requires c κs = search needs
-
 add-result : tie.Need-add-result
 add-result c =
     let a = c .before .before .args in
     record { fits = omega (arith, padded-most (a .minus) 1 (a .footage .feet) (omega arith) (search needs), field-most (a .footage .frames) (search needs)) }
-
-marker-length-requires : tie.Need-marker-length-requires
-marker-length-requires c κs = search needs
 
 add-result-2 : tie.Need-add-result-2
 add-result-2 c =
@@ -41,9 +32,9 @@ pub parts-length-spec : {M : Type 1} → statement M
 parts-length-spec =
     tie.close
     (tie.spec
-    signed-length-requires
-    field-length-requires
+    (λ c κs. search needs)
+    (λ c κs. search needs)
     add-result
-    marker-length-requires
+    (λ c κs. search needs)
     add-result-2
     returns)

@@ -10,18 +10,6 @@ use Rattle.footage_writer.proofs.Laws.{marker-some, marker-none}
 use Rattle.footage_writer.proofs.put_marker.Statement.{statement}
 use Rattle.footage_writer.proofs.put_marker.Tie as tie
 
-allows-perf-field-requires : tie.Need-allows-perf-field-requires
-allows-perf-field-requires c κs = search needs
-
-width-of-requires : tie.Need-width-of-requires
-width-of-requires c κs = search needs
-
-put-marked-requires : tie.Need-put-marked-requires
-put-marked-requires c κs = search needs
-
-same-length : tie.Need-same-length
-same-length c = search needs
-
 returns : tie.Need-returns
 returns c =
     let a = c .before .before .before .before .before .before .before .before .args in
@@ -39,9 +27,9 @@ pub put-marker-spec : {M : Type 1} → statement M
 put-marker-spec =
     tie.close
     (tie.spec
-    allows-perf-field-requires
-    width-of-requires
-    put-marked-requires
-    same-length
+    (λ c κs. search needs)
+    (λ c κs. search needs)
+    (λ c κs. search needs)
+    (λ c. search needs)
     returns
     returns-2)

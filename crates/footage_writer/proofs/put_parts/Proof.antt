@@ -15,17 +15,8 @@ use Rattle.footage_writer.proofs.put_parts.Tie as tie
 fit : (c : tie.Start) → let a = c .args in length (signedText (a .minus) (a .footage .feet)) + length (fieldText 43 (a .footage .frames)) ≤ length (a .part .now)
 fit c = let a = c .args in omega (arith, c .pre, feet-length (a .minus) (a .format) (a .footage))
 
-signed-length-requires : tie.Need-signed-length-requires
-signed-length-requires c κs = search needs
-
-field-length-requires : tie.Need-field-length-requires
-field-length-requires c κs = search needs
-
 add-second : tie.Need-add-second
 add-second c = record { fits = omega (arith, fit (c .before .before .before)) }
-
-put-signed-requires : tie.Need-put-signed-requires
-put-signed-requires c κs = search needs
 
 sub-put-field : tie.Need-sub-put-field
 sub-put-field c = omega (arith, fit (c .before .before .before .before .before .before .before))
@@ -33,26 +24,11 @@ sub-put-field c = omega (arith, fit (c .before .before .before .before .before .
 part-put-field-start : tie.Need-part-put-field-start
 part-put-field-start c = omega (arith, fit (c .before .before .before .before .before .before .before))
 
-part-put-field-end : tie.Need-part-put-field-end
-part-put-field-end c = search needs
-
-put-field-requires : tie.Need-put-field-requires
-put-field-requires c κs = search needs
-
 sub-put-marker : tie.Need-sub-put-marker
 sub-put-marker c = omega (arith, fit (c .before .before .before .before .before .before .before .before .before .before .before))
 
 part-put-marker-start : tie.Need-part-put-marker-start
 part-put-marker-start c = omega (arith, fit (c .before .before .before .before .before .before .before .before .before .before .before))
-
-part-put-marker-end : tie.Need-part-put-marker-end
-part-put-marker-end c = search needs
-
-put-marker-requires : tie.Need-put-marker-requires
-put-marker-requires c κs = search needs
-
-same-length : tie.Need-same-length
-same-length c = search needs
 
 returns : tie.Need-returns
 unfolding feetText
@@ -73,17 +49,17 @@ pub put-parts-spec : {M : Type 1} → statement M
 put-parts-spec =
     tie.close
     (tie.spec
-    signed-length-requires
-    field-length-requires
+    (λ c κs. search needs)
+    (λ c κs. search needs)
     add-second
-    put-signed-requires
+    (λ c κs. search needs)
     sub-put-field
     part-put-field-start
-    part-put-field-end
-    put-field-requires
+    (λ c. search needs)
+    (λ c κs. search needs)
     sub-put-marker
     part-put-marker-start
-    part-put-marker-end
-    put-marker-requires
-    same-length
+    (λ c. search needs)
+    (λ c κs. search needs)
+    (λ c. search needs)
     returns)

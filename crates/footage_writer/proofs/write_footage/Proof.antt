@@ -8,21 +8,6 @@ use Rattle.written.proofs.Laws.{meets-same, meets-none}
 use Rattle.footage_writer.proofs.write_footage.Statement.{statement}
 use Rattle.footage_writer.proofs.write_footage.Tie as tie
 
-format-at-requires : tie.Need-format-at-requires
-format-at-requires c κs = search needs
-
-enum-known-chosen : tie.Need-enum-known-chosen
-enum-known-chosen c = search needs
-
-write-in-requires : tie.Need-write-in-requires
-write-in-requires c κs = search needs
-
-enum-known-e : tie.Need-enum-known-e
-enum-known-e c = search needs
-
-same-length : tie.Need-same-length
-same-length c = search needs
-
 returns : tie.Need-returns
 returns c =
     let a = c .before .before .before .before .before .before .before .before .before .args in
@@ -40,10 +25,10 @@ pub write-footage-spec : {M : Type 1} → statement M
 write-footage-spec =
     tie.close
     (tie.spec
-    format-at-requires
-    enum-known-chosen
-    write-in-requires
-    enum-known-e
-    same-length
+    (λ c κs. search needs)
+    (λ c. search needs)
+    (λ c κs. search needs)
+    (λ c. search needs)
+    (λ c. search needs)
     returns
     returns-2)

@@ -21,30 +21,6 @@ use Rattle.footage_writer.proofs.write_in.Tie as tie
 passed : (c : tie.After-enum-told) → judged (admits (c .before .before .before .before .args .tc)) ≡ Passed
 passed c = sym (c .before .before .admit .ensures) ∙ c .enum-told .given .1
 
-admit-requires : tie.Need-admit-requires
-admit-requires c κs = search needs
-
-enum-told : tie.Need-enum-told
-enum-told c = search needs
-
-below-zero-requires : tie.Need-below-zero-requires
-below-zero-requires c κs = search needs
-
-magnitude-requires : tie.Need-magnitude-requires
-magnitude-requires c κs = search needs
-
-feet-and-frames-requires : tie.Need-feet-and-frames-requires
-feet-and-frames-requires c κs = search needs
-
-write-parts-requires : tie.Need-write-parts-requires
-write-parts-requires c κs = search needs
-
-enum-known-e : tie.Need-enum-known-e
-enum-known-e c = search needs
-
-same-length : tie.Need-same-length
-same-length c = search needs
-
 returns : tie.Need-returns
 unfolding footageText
 returns c =
@@ -69,13 +45,13 @@ pub write-in-spec : {M : Type 1} → statement M
 write-in-spec =
     tie.close
     (tie.spec
-    admit-requires
-    enum-told
-    below-zero-requires
-    magnitude-requires
-    feet-and-frames-requires
-    write-parts-requires
-    enum-known-e
-    same-length
+    (λ c κs. search needs)
+    (λ c. search needs)
+    (λ c κs. search needs)
+    (λ c κs. search needs)
+    (λ c κs. search needs)
+    (λ c κs. search needs)
+    (λ c. search needs)
+    (λ c. search needs)
     returns
     returns-2)

@@ -19,26 +19,14 @@ fit c =
     fits-yes (a .line .now) (a .place) (feetText (a .minus) (a .format) (a .footage)) _ _
     (c .before .before .parts-length .ensures) (c .before .room .ensures) (c .if1 .taken)
 
-parts-length-requires : tie.Need-parts-length-requires
-parts-length-requires c κs = search needs
-
-room-requires : tie.Need-room-requires
-room-requires c κs = search needs
-
 sub-put-parts : tie.Need-sub-put-parts
 sub-put-parts c = omega (arith, fit c)
 
 part-put-parts-start : tie.Need-part-put-parts-start
 part-put-parts-start c = omega (arith, fit c)
 
-part-put-parts-end : tie.Need-part-put-parts-end
-part-put-parts-end c = search needs
-
 put-parts-requires : tie.Need-put-parts-requires
 put-parts-requires c κs = let a = c .before .before .before .before .before .args in omega (arith, part-length (a .line .now) (a .place), fit (c .before))
-
-same-length : tie.Need-same-length
-same-length c = search needs
 
 returns : tie.Need-returns
 returns c =
@@ -55,12 +43,12 @@ pub write-parts-spec : {M : Type 1} → statement M
 write-parts-spec =
     tie.close
     (tie.spec
-    parts-length-requires
-    room-requires
+    (λ c κs. search needs)
+    (λ c κs. search needs)
     sub-put-parts
     part-put-parts-start
-    part-put-parts-end
+    (λ c. search needs)
     put-parts-requires
-    same-length
+    (λ c. search needs)
     returns
     returns-2)

@@ -5,9 +5,6 @@ use borrow.Author.Needs.{needs}
 use Rattle.label_writer.proofs.frames_mark.Statement.{statement}
 use Rattle.label_writer.proofs.frames_mark.Tie as tie
 
-is-drop-requires : tie.Need-is-drop-requires
-is-drop-requires c κs = search needs
-
 returns : tie.Need-returns
 returns c = rw (sym (c .before .is-drop .ensures) ∙ c .if1 .taken)
 
@@ -15,4 +12,4 @@ returns-2 : tie.Need-returns-2
 returns-2 c = rw (sym (c .before .is-drop .ensures) ∙ c .if1 .left)
 
 pub frames-mark-spec : {M : Type 1} → statement M
-frames-mark-spec = tie.close (tie.spec is-drop-requires returns returns-2)
+frames-mark-spec = tie.close (tie.spec (λ c κs. search needs) returns returns-2)

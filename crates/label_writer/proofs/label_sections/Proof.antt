@@ -10,27 +10,6 @@ use Rattle.label_writer.proofs.Answers.{sections-made}
 use Rattle.label_writer.proofs.label_sections.Statement.{statement}
 use Rattle.label_writer.proofs.label_sections.Tie as tie
 
-magnitude-requires : tie.Need-magnitude-requires
-magnitude-requires c κs = search needs
-
-sections-requires : tie.Need-sections-requires
-sections-requires c κs = search needs
-
-below-zero-requires : tie.Need-below-zero-requires
-below-zero-requires c κs = search needs
-
-array-read-t4 : tie.Need-array-read-t4
-array-read-t4 c = search needs
-
-array-read-t10 : tie.Need-array-read-t10
-array-read-t10 c = search needs
-
-array-read-t13 : tie.Need-array-read-t13
-array-read-t13 c = search needs
-
-array-read-t16 : tie.Need-array-read-t16
-array-read-t16 c = search needs
-
 returns : tie.Need-returns
 returns c =
     let start = c .before .before .before .before .before in
@@ -42,11 +21,11 @@ pub label-sections-spec : {M : Type 1} → statement M
 label-sections-spec =
     tie.close
     (tie.spec
-    magnitude-requires
-    sections-requires
-    below-zero-requires
-    array-read-t4
-    array-read-t10
-    array-read-t13
-    array-read-t16
+    (λ c κs. search needs)
+    (λ c κs. search needs)
+    (λ c κs. search needs)
+    (λ c. search needs)
+    (λ c. search needs)
+    (λ c. search needs)
+    (λ c. search needs)
     returns)

@@ -20,32 +20,11 @@ fit c =
     let a = c .before .before .before .args in
     omega (arith, c .before .sections-length .ensures, sections-same (framesMark (a .rate)) (a .s))
 
-sections-length-requires : tie.Need-sections-length-requires
-sections-length-requires c κs = search needs
-
-clock-length-requires : tie.Need-clock-length-requires
-clock-length-requires c κs = search needs
-
-put-clock-requires : tie.Need-put-clock-requires
-put-clock-requires c κs = search needs
-
 sub-put-field : tie.Need-sub-put-field
 sub-put-field c = omega (arith, fit (c .before .before .before .before .before), sections-length (framesMark (c .before .before .before .before .before .before .before .before .args .rate)) (c .before .before .before .before .before .before .before .before .args .s))
 
 part-put-field-start : tie.Need-part-put-field-start
 part-put-field-start c = omega (arith, fit (c .before .before .before .before .before), sections-length (framesMark (c .before .before .before .before .before .before .before .before .args .rate)) (c .before .before .before .before .before .before .before .before .args .s))
-
-part-put-field-end : tie.Need-part-put-field-end
-part-put-field-end c = search needs
-
-frames-mark-requires : tie.Need-frames-mark-requires
-frames-mark-requires c κs = search needs
-
-put-field-requires : tie.Need-put-field-requires
-put-field-requires c κs = search needs
-
-same-length : tie.Need-same-length
-same-length c = search needs
 
 returns : tie.Need-returns
 unfolding sectionsText
@@ -68,14 +47,14 @@ pub put-sections-spec : {M : Type 1} → statement M
 put-sections-spec =
     tie.close
     (tie.spec
-    sections-length-requires
-    clock-length-requires
-    put-clock-requires
+    (λ c κs. search needs)
+    (λ c κs. search needs)
+    (λ c κs. search needs)
     sub-put-field
     part-put-field-start
-    part-put-field-end
-    frames-mark-requires
-    put-field-requires
-    same-length
+    (λ c. search needs)
+    (λ c κs. search needs)
+    (λ c κs. search needs)
+    (λ c. search needs)
     returns
     returns-2)

@@ -1,6 +1,6 @@
 -- `label_writer::sections` meets its contract: the first refusal is given, and where there is none the sections of the label are.
 -- Assumes nothing.
-use mathlib.Core.Path.{_≡_, sym, ap, _∙_}
+use mathlib.Core.Path.{sym, ap, _∙_}
 use borrow.Author.Needs.{needs}
 use Rattle.answers.specs.Order.{Clear}
 use Rattle.answers.specs.OrderLaws.{judged-refused, judged-clear, unless-clear}
@@ -14,17 +14,8 @@ use Rattle.label_writer.proofs.sections.Tie as tie
 clear : (c : tie.After-enum-told) → Clear (admits (c .before .before .before .args .tc))
 clear c = judged-clear (admits (c .before .before .before .args .tc)) (sym (c .before .before .admit .ensures) ∙ c .enum-told .given .1)
 
-admit-requires : tie.Need-admit-requires
-admit-requires c κs = search needs
-
-enum-told : tie.Need-enum-told
-enum-told c = search needs
-
 label-sections-requires : tie.Need-label-sections-requires
 label-sections-requires c κs = admits-valid _ (clear c)
-
-enum-known-e : tie.Need-enum-known-e
-enum-known-e c = search needs
 
 returns : tie.Need-returns
 unfolding sectioned
@@ -42,4 +33,4 @@ returns-2 c =
 pub sections-spec : {M : Type 1} → statement M
 sections-spec =
     tie.close
-    (tie.spec admit-requires enum-told label-sections-requires enum-known-e returns returns-2)
+    (tie.spec (λ c κs. search needs) (λ c. search needs) label-sections-requires (λ c. search needs) returns returns-2)

@@ -6,12 +6,6 @@ use Rattle.label_writer.proofs.Answers.{sections-length, sections-most}
 use Rattle.label_writer.proofs.sections_length.Statement.{statement}
 use Rattle.label_writer.proofs.sections_length.Tie as tie
 
-clock-length-requires : tie.Need-clock-length-requires
-clock-length-requires c κs = search needs
-
-field-length-requires : tie.Need-field-length-requires
-field-length-requires c κs = search needs
-
 add-result : tie.Need-add-result
 add-result c =
     let s = c .before .before .args .s in
@@ -22,4 +16,4 @@ returns c = omega (arith, sections-length 58 (c .before .before .args .s))
 
 pub sections-length-spec : {M : Type 1} → statement M
 sections-length-spec =
-    tie.close (tie.spec clock-length-requires field-length-requires add-result returns)
+    tie.close (tie.spec (λ c κs. search needs) (λ c κs. search needs) add-result returns)

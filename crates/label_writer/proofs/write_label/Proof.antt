@@ -15,23 +15,8 @@ use Rattle.label_writer.proofs.write_label.Tie as tie
 passed : (c : tie.After-enum-told) → judged (labelWhen (c .before .before .before .before .args .tc)) ≡ Passed
 passed c = sym (c .before .before .admit .ensures) ∙ c .enum-told .given .1
 
-admit-requires : tie.Need-admit-requires
-admit-requires c κs = search needs
-
-enum-told : tie.Need-enum-told
-enum-told c = search needs
-
 label-sections-requires : tie.Need-label-sections-requires
 label-sections-requires c κs = let tc = c .before .before .before .before .args .tc in admits-valid tc (judged-clear (labelWhen tc) (passed c))
-
-write-sections-requires : tie.Need-write-sections-requires
-write-sections-requires c κs = search needs
-
-enum-known-e : tie.Need-enum-known-e
-enum-known-e c = search needs
-
-same-length : tie.Need-same-length
-same-length c = search needs
 
 returns : tie.Need-returns
 unfolding labelDraft labelText
@@ -52,11 +37,11 @@ pub write-label-spec : {M : Type 1} → statement M
 write-label-spec =
     tie.close
     (tie.spec
-    admit-requires
-    enum-told
+    (λ c κs. search needs)
+    (λ c. search needs)
     label-sections-requires
-    write-sections-requires
-    enum-known-e
-    same-length
+    (λ c κs. search needs)
+    (λ c. search needs)
+    (λ c. search needs)
     returns
     returns-2)

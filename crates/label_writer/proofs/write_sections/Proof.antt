@@ -26,26 +26,11 @@ fit c =
     let a = c .before .before .before .before .args in
     fits-yes (a .line .now) (a .place) (sectionsText (framesMark (a .rate)) (a .s)) _ _ (long (c .before .before)) (c .before .room .ensures) (c .if1 .taken)
 
-sections-length-requires : tie.Need-sections-length-requires
-sections-length-requires c κs = search needs
-
-room-requires : tie.Need-room-requires
-room-requires c κs = search needs
-
 sub-put-sections : tie.Need-sub-put-sections
 sub-put-sections c = omega (arith, fit c)
 
 part-put-sections-start : tie.Need-part-put-sections-start
 part-put-sections-start c = omega (arith, fit c)
-
-part-put-sections-end : tie.Need-part-put-sections-end
-part-put-sections-end c = search needs
-
-put-sections-requires : tie.Need-put-sections-requires
-put-sections-requires c κs = search needs
-
-same-length : tie.Need-same-length
-same-length c = search needs
 
 returns : tie.Need-returns
 returns c =
@@ -62,12 +47,12 @@ pub write-sections-spec : {M : Type 1} → statement M
 write-sections-spec =
     tie.close
     (tie.spec
-    sections-length-requires
-    room-requires
+    (λ c κs. search needs)
+    (λ c κs. search needs)
     sub-put-sections
     part-put-sections-start
-    part-put-sections-end
-    put-sections-requires
-    same-length
+    (λ c. search needs)
+    (λ c κs. search needs)
+    (λ c. search needs)
     returns
     returns-2)

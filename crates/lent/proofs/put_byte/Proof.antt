@@ -8,12 +8,6 @@ use Rattle.lent.proofs.Laws.{front-one, laid-in, laid-out}
 use Rattle.lent.proofs.put_byte.Statement.{statement}
 use Rattle.lent.proofs.put_byte.Tie as tie
 
-slice-write-part : tie.Need-slice-write-part
-slice-write-part c = search needs
-
-same-length : tie.Need-same-length
-same-length c = search needs
-
 returns : tie.Need-returns
 returns c =
     let a = c .before .args in
@@ -23,4 +17,4 @@ returns-2 : tie.Need-returns-2
 returns-2 c = let a = c .before .args in sym (laid-out (a .part .now) (a .b ∷ []) (omega arith))
 
 pub put-byte-spec : {M : Type 1} → statement M
-put-byte-spec = tie.close (tie.spec slice-write-part same-length returns returns-2)
+put-byte-spec = tie.close (tie.spec (λ c. search needs) (λ c. search needs) returns returns-2)

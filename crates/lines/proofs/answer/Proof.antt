@@ -19,35 +19,14 @@ held c = sym (c .before .before .read-line .ensures) ∙ c .tc .given .1
 refused : (c : tie.After-e) → lineOf (c .before .before .before .before .before .args .input .now) ≡ Refused (c .e .given .0 .0)
 refused c = sym (c .before .before .read-line .ensures) ∙ c .e .given .1
 
-read-line-requires : tie.Need-read-line-requires
-read-line-requires c κs = search needs
-
-enum-known-tc : tie.Need-enum-known-tc
-enum-known-tc c = search needs
-
 write-timecode-requires : tie.Need-write-timecode-requires
 write-timecode-requires c κs = subst Sound (held (c .before .before)) (line-sound (c .before .before .before .before .before .before .before .args .input .now))
-
-enum-known-e : tie.Need-enum-known-e
-enum-known-e c = search needs
-
-wide-requires : tie.Need-wide-requires
-wide-requires c κs = search needs
-
-write-refused-requires : tie.Need-write-refused-requires
-write-refused-requires c κs = search needs
-
-same-length : tie.Need-same-length
-same-length c = search needs
 
 returns : tie.Need-returns
 unfolding answerText
 returns c =
     let a = c .before .before .before .before .before .before .before .before .before .before .args in
     meets-same (a .out .now) (a .place) (Text (answerText (a .input .now))) _ _ _ (ap (λ x. Text (heldText x)) (sym (held (c .before .before .before .before .before)))) (c .before .before .write-timecode .ensures)
-
-same-length-2 : tie.Need-same-length-2
-same-length-2 c = search needs
 
 returns-2 : tie.Need-returns-2
 unfolding answerText
@@ -61,13 +40,13 @@ pub answer-spec : {M : Type 1} → statement M
 answer-spec =
     tie.close
     (tie.spec
-    read-line-requires
-    enum-known-tc
+    (λ c κs. search needs)
+    (λ c. search needs)
     write-timecode-requires
-    enum-known-e
-    wide-requires
-    write-refused-requires
-    same-length
+    (λ c. search needs)
+    (λ c κs. search needs)
+    (λ c κs. search needs)
+    (λ c. search needs)
     returns
-    same-length-2
+    (λ c. search needs)
     returns-2)

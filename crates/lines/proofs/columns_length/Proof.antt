@@ -26,17 +26,8 @@ short c =
       padded-most (a .minus) 1 (a .ticks) (omega arith) (search needs),
     )
 
-signed-length-requires : tie.Need-signed-length-requires
-signed-length-requires c κs = search needs
-
-sections-length-requires : tie.Need-sections-length-requires
-sections-length-requires c κs = search needs
-
 add-result : tie.Need-add-result
 add-result c = record { fits = omega (arith, short (c .before .before .before)) }
-
-signed-length-requires-2 : tie.Need-signed-length-requires-2
-signed-length-requires-2 c κs = search needs
 
 add-result-2 : tie.Need-add-result-2
 add-result-2 c = record { fits = omega (arith, short (c .before .before .before .before)) }
@@ -51,10 +42,10 @@ pub columns-length-spec : {M : Type 1} → statement M
 columns-length-spec =
     tie.close
     (tie.spec
-    signed-length-requires
-    sections-length-requires
+    (λ c κs. search needs)
+    (λ c κs. search needs)
     add-result
-    signed-length-requires-2
+    (λ c κs. search needs)
     add-result-2
     add-result-3
     returns)

@@ -9,21 +9,6 @@ use Rattle.numbers.specs.Sign.{isNeg}
 use Rattle.lines.proofs.columns_of.Statement.{statement}
 use Rattle.lines.proofs.columns_of.Tie as tie
 
-instant-of-requires : tie.Need-instant-of-requires
-instant-of-requires c κs = search needs
-
-below-zero-requires : tie.Need-below-zero-requires
-below-zero-requires c κs = search needs
-
-magnitude-requires : tie.Need-magnitude-requires
-magnitude-requires c κs = search needs
-
-below-zero-requires-2 : tie.Need-below-zero-requires-2
-below-zero-requires-2 c κs = search needs
-
-magnitude-requires-2 : tie.Need-magnitude-requires-2
-magnitude-requires-2 c κs = search needs
-
 returns : tie.Need-returns
 returns c =
     let a = c .before .before .before .before .before .before .before .args in
@@ -40,9 +25,9 @@ pub columns-of-spec : {M : Type 1} → statement M
 columns-of-spec =
     tie.close
     (tie.spec
-    instant-of-requires
-    below-zero-requires
-    magnitude-requires
-    below-zero-requires-2
-    magnitude-requires-2
+    (λ c κs. search needs)
+    (λ c κs. search needs)
+    (λ c κs. search needs)
+    (λ c κs. search needs)
+    (λ c κs. search needs)
     returns)

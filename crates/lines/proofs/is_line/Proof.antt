@@ -25,12 +25,6 @@ least c = omega arith
 most : (c : tie.Else2) → length (c .before .before .before .args .input .now) ≤ 64
 most c = omega arith
 
-shared-slice-read-is-digit : tie.Need-shared-slice-read-is-digit
-shared-slice-read-is-digit c = search needs
-
-is-digit-requires : tie.Need-is-digit-requires
-is-digit-requires c κs = search needs
-
 returns-3 : tie.Need-returns-3
 returns-3 c =
     let long = c .before .before .before in
@@ -39,20 +33,11 @@ returns-3 c =
 first : (c : tie.Else3) → isDigit (getD (c .before .before .before .before .before .before .args .input .now) 0 0) ≡ true
 first c = sym (c .before .is-digit .ensures) ∙ not-false _ (c .if3 .left)
 
-shared-slice-read-is-digit-2 : tie.Need-shared-slice-read-is-digit-2
-shared-slice-read-is-digit-2 c = search needs
-
-is-digit-requires-2 : tie.Need-is-digit-requires-2
-is-digit-requires-2 c κs = search needs
-
 returns-4 : tie.Need-returns-4
 returns-4 c =
     let long = c .before .before .before .before .before .before in
     sym (second-none (long .before .before .before .args .input .now) (least long) (most long) (first (c .before .before .before))
     (sym (c .before .is-digit2 .ensures) ∙ not-true _ (c .if4 .taken)))
-
-shared-slice-read-result : tie.Need-shared-slice-read-result
-shared-slice-read-result c = search needs
 
 returns-5 : tie.Need-returns-5
 returns-5 c =
@@ -66,11 +51,11 @@ is-line-spec =
     (tie.spec
     returns
     returns-2
-    shared-slice-read-is-digit
-    is-digit-requires
+    (λ c. search needs)
+    (λ c κs. search needs)
     returns-3
-    shared-slice-read-is-digit-2
-    is-digit-requires-2
+    (λ c. search needs)
+    (λ c κs. search needs)
     returns-4
-    shared-slice-read-result
+    (λ c. search needs)
     returns-5)

@@ -6,15 +6,6 @@ use Rattle.lines.specs.Input.{lineHolds}
 use Rattle.lines.proofs.line_holds.Statement.{statement}
 use Rattle.lines.proofs.line_holds.Tie as tie
 
-enum-known-read : tie.Need-enum-known-read
-enum-known-read c = search needs
-
-enum-known-read-2 : tie.Need-enum-known-read-2
-enum-known-read-2 c = search needs
-
-enum-known-read-3 : tie.Need-enum-known-read-3
-enum-known-read-3 c = search needs
-
 returns : tie.Need-returns
 returns c = sym (ap lineHolds (c .before .read .given .1))
 
@@ -27,4 +18,4 @@ returns-3 c = sym (ap lineHolds (c .before .read3 .given .1))
 pub line-holds-spec : {M : Type 1} → statement M
 line-holds-spec =
     tie.close
-    (tie.spec enum-known-read enum-known-read-2 enum-known-read-3 returns returns-2 returns-3)
+    (tie.spec (λ c. search needs) (λ c. search needs) (λ c. search needs) returns returns-2 returns-3)

@@ -4,7 +4,7 @@ use Prim.Native.Nat.{_+_, _≤_}
 use native.Mathlib.Omega.{arith}
 use lib.ListN.{length}
 use borrow.Author.Needs.{needs}
-use Rattle.lent.proofs.Laws.{part-length, laid-three}
+use Rattle.lent.proofs.Laws.{laid-three}
 use Rattle.label_writer.specs.LabelText.{sectionsLength}
 use Rattle.written.specs.Parts.{signedText}
 use Rattle.lines.specs.Output.{endedText, labelColumn}
@@ -18,14 +18,8 @@ fit : (c : tie.Start)
     length (signedText (a .below) (a .count)) + sectionsLength (a .sections) + length (signedText (a .minus) (a .ticks)) + 3 ≤ length (c .args .part .now)
 fit c = omega (arith, c .pre, columns-length (c .args .c))
 
-signed-length-requires : tie.Need-signed-length-requires
-signed-length-requires c κs = search needs
-
 add-first : tie.Need-add-first
 add-first c = record { fits = omega (arith, fit (c .before .before .before)) }
-
-sections-length-requires : tie.Need-sections-length-requires
-sections-length-requires c κs = search needs
 
 add-second : tie.Need-add-second
 add-second c = record { fits = omega (arith, fit (c .before .before .before .before)) }
@@ -42,9 +36,6 @@ sub-put-label c = omega (arith, fit (c .before .before .before .before .before .
 part-put-label-start : tie.Need-part-put-label-start
 part-put-label-start c = omega (arith, fit (c .before .before .before .before .before .before .before .before))
 
-part-put-label-end : tie.Need-part-put-label-end
-part-put-label-end c = search needs
-
 put-label-requires : tie.Need-put-label-requires
 put-label-requires c κs = let a = c .before .before .before .before .before .before .before .before .before .args .c in omega (arith, fit (c .before .before .before .before .before .before .before .before .before), label-length a)
 
@@ -54,14 +45,8 @@ sub-put-ended c = omega (arith, fit (c .before .before .before .before .before .
 part-put-ended-start : tie.Need-part-put-ended-start
 part-put-ended-start c = omega (arith, fit (c .before .before .before .before .before .before .before .before .before .before .before .before))
 
-part-put-ended-end : tie.Need-part-put-ended-end
-part-put-ended-end c = search needs
-
 put-ended-requires-2 : tie.Need-put-ended-requires-2
 put-ended-requires-2 c κs = let a = c .before .before .before .before .before .before .before .before .before .before .before .before .before .args .c in omega (arith, fit (c .before .before .before .before .before .before .before .before .before .before .before .before .before), ended-length (a .minus) (a .ticks) 10)
-
-same-length : tie.Need-same-length
-same-length c = search needs
 
 returns : tie.Need-returns
 returns c =
@@ -79,19 +64,19 @@ pub put-columns-spec : {M : Type 1} → statement M
 put-columns-spec =
     tie.close
     (tie.spec
-    signed-length-requires
+    (λ c κs. search needs)
     add-first
-    sections-length-requires
+    (λ c κs. search needs)
     add-second
     add-second-2
     put-ended-requires
     sub-put-label
     part-put-label-start
-    part-put-label-end
+    (λ c. search needs)
     put-label-requires
     sub-put-ended
     part-put-ended-start
-    part-put-ended-end
+    (λ c. search needs)
     put-ended-requires-2
-    same-length
+    (λ c. search needs)
     returns)

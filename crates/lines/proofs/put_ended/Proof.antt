@@ -15,26 +15,11 @@ use Rattle.lines.proofs.put_ended.Tie as tie
 fit : (c : tie.Start) → length (signedText (c .args .minus) (c .args .m)) ≤ length (c .args .part .now)
 fit c = omega (arith, c .pre, ended-length (c .args .minus) (c .args .m) (c .args .end))
 
-signed-length-requires : tie.Need-signed-length-requires
-signed-length-requires c κs = search needs
-
-put-signed-requires : tie.Need-put-signed-requires
-put-signed-requires c κs = search needs
-
 sub-put-byte : tie.Need-sub-put-byte
 sub-put-byte c = omega (arith, fit (c .before .before .before .before .before .before))
 
 part-put-byte-start : tie.Need-part-put-byte-start
 part-put-byte-start c = omega (arith, fit (c .before .before .before .before .before .before))
-
-part-put-byte-end : tie.Need-part-put-byte-end
-part-put-byte-end c = search needs
-
-put-byte-requires : tie.Need-put-byte-requires
-put-byte-requires c κs = search needs
-
-same-length : tie.Need-same-length
-same-length c = search needs
 
 returns : tie.Need-returns
 returns c =
@@ -47,11 +32,11 @@ pub put-ended-spec : {M : Type 1} → statement M
 put-ended-spec =
     tie.close
     (tie.spec
-    signed-length-requires
-    put-signed-requires
+    (λ c κs. search needs)
+    (λ c κs. search needs)
     sub-put-byte
     part-put-byte-start
-    part-put-byte-end
-    put-byte-requires
-    same-length
+    (λ c. search needs)
+    (λ c κs. search needs)
+    (λ c. search needs)
     returns)

@@ -18,26 +18,11 @@ fit c =
     let a = c .args in
     omega (arith, c .pre, length-append (sectionsText (framesMark (a .rate)) (a .s)) (32 ∷ []), sections-same (framesMark (a .rate)) (a .s))
 
-sections-length-requires : tie.Need-sections-length-requires
-sections-length-requires c κs = search needs
-
-put-sections-requires : tie.Need-put-sections-requires
-put-sections-requires c κs = search needs
-
 sub-put-byte : tie.Need-sub-put-byte
 sub-put-byte c = omega (arith, fit (c .before .before .before .before .before .before))
 
 part-put-byte-start : tie.Need-part-put-byte-start
 part-put-byte-start c = omega (arith, fit (c .before .before .before .before .before .before))
-
-part-put-byte-end : tie.Need-part-put-byte-end
-part-put-byte-end c = search needs
-
-put-byte-requires : tie.Need-put-byte-requires
-put-byte-requires c κs = search needs
-
-same-length : tie.Need-same-length
-same-length c = search needs
 
 returns : tie.Need-returns
 returns c =
@@ -53,11 +38,11 @@ pub put-label-spec : {M : Type 1} → statement M
 put-label-spec =
     tie.close
     (tie.spec
-    sections-length-requires
-    put-sections-requires
+    (λ c κs. search needs)
+    (λ c κs. search needs)
     sub-put-byte
     part-put-byte-start
-    part-put-byte-end
-    put-byte-requires
-    same-length
+    (λ c. search needs)
+    (λ c κs. search needs)
+    (λ c. search needs)
     returns)

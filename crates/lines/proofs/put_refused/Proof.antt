@@ -7,7 +7,6 @@ use mathlib.Core.Bool.{false}
 use lib.ListN.{length}
 use borrow.Author.Needs.{needs}
 use Rattle.lent.proofs.Laws.{laid-lent}
-use Rattle.written.specs.Parts.{signedText}
 use Rattle.lines.specs.Output.{bytesOf, refusedText, endedText}
 use Rattle.lines.proofs.Texts.{ended-length, refused-length}
 use Rattle.lines.proofs.put_refused.Statement.{statement}
@@ -17,26 +16,14 @@ use Rattle.lines.proofs.put_refused.Tie as tie
 fit : (c : tie.Start) → 8 + length (endedText false (c .args .number) 10) ≤ length (c .args .part .now)
 fit c = omega (arith, c .pre, refused-length (c .args .number), ended-length false (c .args .number) 10)
 
-slice-aggregate-put-text : tie.Need-slice-aggregate-put-text
-slice-aggregate-put-text c = search needs
-
-put-text-requires : tie.Need-put-text-requires
-put-text-requires c κs = search needs
-
 sub-put-ended : tie.Need-sub-put-ended
 sub-put-ended c = omega (arith, fit (c .before .before .before .before .before .before))
 
 part-put-ended-start : tie.Need-part-put-ended-start
 part-put-ended-start c = omega (arith, fit (c .before .before .before .before .before .before))
 
-part-put-ended-end : tie.Need-part-put-ended-end
-part-put-ended-end c = search needs
-
 put-ended-requires : tie.Need-put-ended-requires
 put-ended-requires c κs = omega (arith, fit (c .before .before .before .before .before .before .before))
-
-same-length : tie.Need-same-length
-same-length c = search needs
 
 returns : tie.Need-returns
 unfolding refusedText
@@ -49,11 +36,11 @@ pub put-refused-spec : {M : Type 1} → statement M
 put-refused-spec =
     tie.close
     (tie.spec
-    slice-aggregate-put-text
-    put-text-requires
+    (λ c. search needs)
+    (λ c κs. search needs)
     sub-put-ended
     part-put-ended-start
-    part-put-ended-end
+    (λ c. search needs)
     put-ended-requires
-    same-length
+    (λ c. search needs)
     returns)

@@ -6,9 +6,6 @@ use borrow.Author.Needs.{needs}
 use Rattle.lines.proofs.rate_in.Statement.{statement}
 use Rattle.lines.proofs.rate_in.Tie as tie
 
-run-at-requires : tie.Need-run-at-requires
-run-at-requires c κs = search needs
-
 returns : tie.Need-returns
 returns c =
     let start = c .before .before in
@@ -18,5 +15,5 @@ pub rate-in-spec : {M : Type 1} → statement M
 rate-in-spec =
     tie.close
     (tie.spec
-    run-at-requires
+    (λ c κs. search needs)
     returns)

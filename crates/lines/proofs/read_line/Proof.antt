@@ -22,9 +22,6 @@ line c = passes (c .before .is-line .ensures) (c .if1 .left)
 least : (c : tie.Else1) → 3 ≤ length (c .before .before .before .args .input .now)
 least c = line-least (c .before .before .before .args .input .now) (line c)
 
-is-line-requires : tie.Need-is-line-requires
-is-line-requires c κs = search needs
-
 returns : tie.Need-returns
 returns c = sym (not-line (c .before .before .before .args .input .now) (fails (c .before .is-line .ensures) (c .if1 .taken)))
 
@@ -36,15 +33,6 @@ sub-read-text c = omega (arith, least (c .before))
 
 part-read-text-start : tie.Need-part-read-text-start
 part-read-text-start c = omega (arith, least (c .before))
-
-part-read-text-end : tie.Need-part-read-text-end
-part-read-text-end c = search needs
-
-read-text-requires : tie.Need-read-text-requires
-read-text-requires c κs = search needs
-
-line-holds-requires : tie.Need-line-holds-requires
-line-holds-requires c κs = search needs
 
 returns-2 : tie.Need-returns-2
 returns-2 c =
@@ -59,12 +47,12 @@ pub read-line-spec : {M : Type 1} → statement M
 read-line-spec =
     tie.close
     (tie.spec
-    is-line-requires
+    (λ c κs. search needs)
     returns
     rate-in-requires
     sub-read-text
     part-read-text-start
-    part-read-text-end
-    read-text-requires
-    line-holds-requires
+    (λ c. search needs)
+    (λ c κs. search needs)
+    (λ c κs. search needs)
     returns-2)

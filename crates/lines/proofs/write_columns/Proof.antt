@@ -16,26 +16,14 @@ fit c =
     let a = c .before .before .before .before .args in
     fits-yes (a .out .now) (a .place) (columnsText (a .c)) _ _ (c .before .before .columns-length .ensures) (c .before .room .ensures) (c .if1 .taken)
 
-columns-length-requires : tie.Need-columns-length-requires
-columns-length-requires c κs = search needs
-
-room-requires : tie.Need-room-requires
-room-requires c κs = search needs
-
 sub-put-columns : tie.Need-sub-put-columns
 sub-put-columns c = omega (arith, fit c)
 
 part-put-columns-start : tie.Need-part-put-columns-start
 part-put-columns-start c = omega (arith, fit c)
 
-part-put-columns-end : tie.Need-part-put-columns-end
-part-put-columns-end c = search needs
-
 put-columns-requires : tie.Need-put-columns-requires
 put-columns-requires c κs = let a = c .before .before .before .before .before .args in omega (arith, part-length (a .out .now) (a .place), fit (c .before))
-
-same-length : tie.Need-same-length
-same-length c = search needs
 
 returns : tie.Need-returns
 returns c =
@@ -52,12 +40,12 @@ pub write-columns-spec : {M : Type 1} → statement M
 write-columns-spec =
     tie.close
     (tie.spec
-    columns-length-requires
-    room-requires
+    (λ c κs. search needs)
+    (λ c κs. search needs)
     sub-put-columns
     part-put-columns-start
-    part-put-columns-end
+    (λ c. search needs)
     put-columns-requires
-    same-length
+    (λ c. search needs)
     returns
     returns-2)

@@ -24,14 +24,8 @@ fit c =
     let a = c .before .before .before .before .args in
     fits-yes (a .out .now) (a .place) (refusedText (a .number)) _ _ (long (c .before .before)) (c .before .room .ensures) (c .if1 .taken)
 
-signed-length-requires : tie.Need-signed-length-requires
-signed-length-requires c κs = search needs
-
 add-need : tie.Need-add-need
 add-need c = let number = c .before .before .args .number in record { fits = omega (arith, padded-most false 1 number (omega arith) (search needs)) }
-
-room-requires : tie.Need-room-requires
-room-requires c κs = search needs
 
 sub-put-refused : tie.Need-sub-put-refused
 sub-put-refused c = omega (arith, fit c)
@@ -39,14 +33,8 @@ sub-put-refused c = omega (arith, fit c)
 part-put-refused-start : tie.Need-part-put-refused-start
 part-put-refused-start c = omega (arith, fit c)
 
-part-put-refused-end : tie.Need-part-put-refused-end
-part-put-refused-end c = search needs
-
 put-refused-requires : tie.Need-put-refused-requires
 put-refused-requires c κs = let a = c .before .before .before .before .before .args in omega (arith, part-length (a .out .now) (a .place), fit (c .before))
-
-same-length : tie.Need-same-length
-same-length c = search needs
 
 returns : tie.Need-returns
 returns c =
@@ -62,13 +50,13 @@ pub write-refused-spec : {M : Type 1} → statement M
 write-refused-spec =
     tie.close
     (tie.spec
-    signed-length-requires
+    (λ c κs. search needs)
     add-need
-    room-requires
+    (λ c κs. search needs)
     sub-put-refused
     part-put-refused-start
-    part-put-refused-end
+    (λ c. search needs)
     put-refused-requires
-    same-length
+    (λ c. search needs)
     returns
     returns-2)

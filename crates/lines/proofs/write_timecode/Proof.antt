@@ -4,32 +4,12 @@ use Prim.Native.Nat.{ℕ}
 use native.Mathlib.Omega.{arith}
 use mathlib.Core.Path.{_≡_, sym, ap, _∙_}
 use borrow.Author.Needs.{needs}
-use Rattle.label_writer.specs.declared.Sectioned.the-variants.{Sections, Refused}
-use Rattle.label_writer.specs.Sections.{sectioned}
 use Rattle.written.specs.Written.{Text}
 use Rattle.written.proofs.Laws.{meets-same}
 use Rattle.lines.specs.Output.{columnsText}
 use Rattle.lines.proofs.Texts.{sections-there, columns-are}
 use Rattle.lines.proofs.write_timecode.Statement.{statement}
 use Rattle.lines.proofs.write_timecode.Tie as tie
-
-sections-requires : tie.Need-sections-requires
-sections-requires c κs = search needs
-
-enum-known-s : tie.Need-enum-known-s
-enum-known-s c = search needs
-
-columns-of-requires : tie.Need-columns-of-requires
-columns-of-requires c κs = search needs
-
-write-columns-requires : tie.Need-write-columns-requires
-write-columns-requires c κs = search needs
-
-enum-known-e : tie.Need-enum-known-e
-enum-known-e c = search needs
-
-same-length : tie.Need-same-length
-same-length c = search needs
 
 returns : tie.Need-returns
 returns c =
@@ -51,11 +31,11 @@ pub write-timecode-spec : {M : Type 1} → statement M
 write-timecode-spec =
     tie.close
     (tie.spec
-    sections-requires
-    enum-known-s
-    columns-of-requires
-    write-columns-requires
-    enum-known-e
-    same-length
+    (λ c κs. search needs)
+    (λ c. search needs)
+    (λ c κs. search needs)
+    (λ c κs. search needs)
+    (λ c. search needs)
+    (λ c. search needs)
     returns
     returns-2)

@@ -1,12 +1,11 @@
 -- `runtime_writer::judge` meets its contract: the timecode is judged first, then the precision.
 -- Assumes nothing.
-use native.Mathlib.Omega.{arith}
 use mathlib.Core.Path.{_≡_, sym, _∙_}
 use mathlib.Core.List.{[], _∷_}
 use borrow.Author.Needs.{needs}
 use borrow.Author.Tests.{le-leb, lt-leb}
-use Rattle.answers.specs.declared.Verdict.the-variants.{Passed, Refused}
-use Rattle.answers.specs.Order.{judged, Clear}
+use Rattle.answers.specs.declared.Verdict.the-variants.{Refused}
+use Rattle.answers.specs.Order.{judged}
 use Rattle.answers.specs.OrderLaws.{judged-refused, judged-clear, unless-clear}
 use Rattle.timecodes.specs.Admitted.{admits}
 use Rattle.runtime_writer.specs.RuntimeText.{badPrecision, runtimeWhen}
@@ -21,15 +20,6 @@ passed c =
     let a = c .before .before .before .args in
     let clear = judged-clear (admits (a .tc)) (sym (c .before .before .admit .ensures) ∙ c .enum-told .given .1) in
     unless-clear Refused (admits (a .tc)) (judged (badPrecision (a .precision) ∷ [])) clear
-
-admit-requires : tie.Need-admit-requires
-admit-requires c κs = search needs
-
-enum-known-e : tie.Need-enum-known-e
-enum-known-e c = search needs
-
-enum-told : tie.Need-enum-told
-enum-told c = search needs
 
 returns : tie.Need-returns
 returns c =
@@ -47,4 +37,4 @@ returns-3 c =
     sym (passed (c .before) ∙ rw (le-leb (a .precision) 6 (c .if1 .left)))
 
 pub judge-spec : {M : Type 1} → statement M
-judge-spec = tie.close (tie.spec admit-requires enum-known-e enum-told returns returns-2 returns-3)
+judge-spec = tie.close (tie.spec (λ c κs. search needs) (λ c. search needs) (λ c. search needs) returns returns-2 returns-3)

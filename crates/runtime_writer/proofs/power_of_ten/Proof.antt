@@ -6,15 +6,9 @@ use Rattle.runtime_writer.proofs.Powers.{tens, tens-at}
 use Rattle.runtime_writer.proofs.power_of_ten.Statement.{statement}
 use Rattle.runtime_writer.proofs.power_of_ten.Tie as tie
 
-mul-result : tie.Need-mul-result
-mul-result c = search needs
-
-array-read-result : tie.Need-array-read-result
-array-read-result c = search needs
-
 returns : tie.Need-returns
 unfolding tens
 returns c = omega (arith, tens-at 7 (c .args .precision) 1 (search needs))
 
 pub power-of-ten-spec : {M : Type 1} → statement M
-power-of-ten-spec = tie.close (tie.spec mul-result array-read-result returns)
+power-of-ten-spec = tie.close (tie.spec (λ c. search needs) (λ c. search needs) returns)

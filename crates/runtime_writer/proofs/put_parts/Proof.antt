@@ -16,23 +16,11 @@ use Rattle.runtime_writer.proofs.put_parts.Tie as tie
 fit : (c : tie.Start) → c .args .at ≤ length (c .args .part .now)
 fit c = omega (arith, c .pre, tail-length (c .args .minus) (c .args .seconds) (c .args .tail))
 
-put-clock-requires : tie.Need-put-clock-requires
-put-clock-requires c κs = search needs
-
 sub-put-marked : tie.Need-sub-put-marked
 sub-put-marked c = omega (arith, fit (c .before .before .before .before .before))
 
 part-put-marked-start : tie.Need-part-put-marked-start
 part-put-marked-start c = omega (arith, fit (c .before .before .before .before .before))
-
-part-put-marked-end : tie.Need-part-put-marked-end
-part-put-marked-end c = search needs
-
-put-marked-requires : tie.Need-put-marked-requires
-put-marked-requires c κs = search needs
-
-same-length : tie.Need-same-length
-same-length c = search needs
 
 returns : tie.Need-returns
 returns c =
@@ -48,10 +36,10 @@ pub put-parts-spec : {M : Type 1} → statement M
 put-parts-spec =
     tie.close
     (tie.spec
-    put-clock-requires
+    (λ c κs. search needs)
     sub-put-marked
     part-put-marked-start
-    part-put-marked-end
-    put-marked-requires
-    same-length
+    (λ c. search needs)
+    (λ c κs. search needs)
+    (λ c. search needs)
     returns)

@@ -21,12 +21,6 @@ loop-holds c = record { some = omega arith; same = refl }
 returns-2 : tie.Need-returns-2 Inv-loop μ-loop
 returns-2 c = sym (c .before .before .loop .inv .same ∙ fraction-keep _ _ (c .before .loop-test .taken) (c .if2 .taken))
 
-sub-w : tie.Need-sub-w Inv-loop μ-loop
-sub-w c = omega arith
-
-loop-less : tie.Need-loop-less Inv-loop μ-loop
-loop-less c = omega arith
-
 loop-again : tie.Need-loop-again Inv-loop μ-loop
 loop-again c =
     let inv = c .before .before .loop .inv in
@@ -38,4 +32,4 @@ returns-3 c = let inv = c .before .loop .inv in sym (inv .same ∙ fraction-one 
 pub shortest-spec : {M : Type 1} → statement M
 shortest-spec =
     tie.close
-    (tie.spec Inv-loop μ-loop returns loop-holds returns-2 sub-w loop-less loop-again returns-3)
+    (tie.spec Inv-loop μ-loop returns loop-holds returns-2 (λ c. omega arith) (λ c. omega arith) loop-again returns-3)

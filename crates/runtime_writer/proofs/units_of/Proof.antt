@@ -2,10 +2,9 @@
 -- Assumes nothing.
 use Prim.Native.Nat.{_*_, _≤_}
 use native.Mathlib.Omega.{arith}
-use mathlib.Core.Path.{_≡_, ap, ap₂, _∙_}
+use mathlib.Core.Path.{ap, ap₂, _∙_}
 use borrow.Author.Needs.{needs}
 use Rattle.numbers.specs.Nearest.{nearestN}
-use Rattle.rates.specs.Rates.{rateRow}
 use Rattle.rates.specs.Rule.{sound}
 use Rattle.runtime_writer.specs.RuntimeText.{runtimeUnits}
 use Rattle.runtime_writer.proofs.Powers.{frames-most, units-most}
@@ -18,12 +17,6 @@ den c =
     let rate = c .before .args .rate in
     omega (arith, ap (λ r. r .denominator) (c .row .ensures), sound rate (c .before .pre .0) .denominator-most)
 
-row-requires : tie.Need-row-requires
-row-requires c κs = search needs
-
-power-of-ten-requires : tie.Need-power-of-ten-requires
-power-of-ten-requires c κs = search needs
-
 mul-nearest : tie.Need-mul-nearest
 mul-nearest c =
     let start = c .before .before .before in
@@ -34,9 +27,6 @@ mul-nearest-2 c =
     let start = c .before .before .before in
     rw (c .before .power-of-ten .ensures)
     (record { fits = omega (arith, units-most (start .args .f) _ (start .args .precision) (start .pre .1 .1) (den (c .before .before)) (start .pre .1 .0)) })
-
-nearest-requires : tie.Need-nearest-requires
-nearest-requires c κs = search needs
 
 returns : tie.Need-returns
 unfolding runtimeUnits
@@ -50,9 +40,9 @@ pub units-of-spec : {M : Type 1} → statement M
 units-of-spec =
     tie.close
     (tie.spec
-    row-requires
-    power-of-ten-requires
+    (λ c κs. search needs)
+    (λ c κs. search needs)
     mul-nearest
     mul-nearest-2
-    nearest-requires
+    (λ c κs. search needs)
     returns)

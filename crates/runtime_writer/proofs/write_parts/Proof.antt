@@ -39,17 +39,11 @@ fit c =
     let a = c .before .before .before .before .before .args in
     fits-yes (a .line .now) (a .place) (tailText (a .minus) (a .seconds) (a .tail)) _ _ (long (c .before .before)) (c .before .room .ensures) (c .if1 .taken)
 
-clock-length-requires : tie.Need-clock-length-requires
-clock-length-requires c κs = search needs
-
 add-need : tie.Need-add-need
 add-need c = record { fits = omega (arith, short c) }
 
 add-need-2 : tie.Need-add-need-2
 add-need-2 c = record { fits = omega (arith, short (c .before)) }
-
-room-requires : tie.Need-room-requires
-room-requires c κs = search needs
 
 sub-put-parts : tie.Need-sub-put-parts
 sub-put-parts c = omega (arith, fit c)
@@ -57,16 +51,10 @@ sub-put-parts c = omega (arith, fit c)
 part-put-parts-start : tie.Need-part-put-parts-start
 part-put-parts-start c = omega (arith, fit c)
 
-part-put-parts-end : tie.Need-part-put-parts-end
-part-put-parts-end c = search needs
-
 put-parts-requires : tie.Need-put-parts-requires
 put-parts-requires c κs =
     let a = c .before .before .before .before .before .before .args in
     (c .before .before .before .before .clock-length .ensures, omega (arith, part-length (a .line .now) (a .place), fit (c .before)))
-
-same-length : tie.Need-same-length
-same-length c = search needs
 
 returns : tie.Need-returns
 returns c =
@@ -83,14 +71,14 @@ pub write-parts-spec : {M : Type 1} → statement M
 write-parts-spec =
     tie.close
     (tie.spec
-    clock-length-requires
+    (λ c κs. search needs)
     add-need
     add-need-2
-    room-requires
+    (λ c κs. search needs)
     sub-put-parts
     part-put-parts-start
-    part-put-parts-end
+    (λ c. search needs)
     put-parts-requires
-    same-length
+    (λ c. search needs)
     returns
     returns-2)

@@ -15,23 +15,11 @@ use Rattle.runtime_writer.proofs.write_runtime.Tie as tie
 passed : (c : tie.After-enum-told) → let a = c .before .before .before .before .args in judged (runtimeWhen (a .tc) (a .precision)) ≡ Passed
 passed c = sym (c .before .before .judge .ensures) ∙ c .enum-told .given .1
 
-judge-requires : tie.Need-judge-requires
-judge-requires c κs = search needs
-
-enum-told : tie.Need-enum-told
-enum-told c = search needs
-
 write-time-requires : tie.Need-write-time-requires
 write-time-requires c κs =
     let a = c .before .before .before .before .before .args in
     let clear = judged-clear (runtimeWhen (a .tc) (a .precision)) (passed (c .before)) in
     (admits-valid (a .tc) (clear .0, (clear .1 .0, tt)), leb-true (a .precision) 6 (not-in _ (clear .1 .1 .0)))
-
-enum-known-e : tie.Need-enum-known-e
-enum-known-e c = search needs
-
-same-length : tie.Need-same-length
-same-length c = search needs
 
 returns : tie.Need-returns
 unfolding runtimeDraft
@@ -51,10 +39,10 @@ pub write-runtime-spec : {M : Type 1} → statement M
 write-runtime-spec =
     tie.close
     (tie.spec
-    judge-requires
-    enum-told
+    (λ c κs. search needs)
+    (λ c. search needs)
     write-time-requires
-    enum-known-e
-    same-length
+    (λ c. search needs)
+    (λ c. search needs)
     returns
     returns-2)

@@ -3,7 +3,7 @@
 use Prim.Native.Nat.{_<_}
 use native.Mathlib.Omega.{arith}
 use mathlib.Core.Path.{_≡_, ap, _∙_}
-use lib.IntN.{ℤ, natAbs}
+use lib.IntN.{natAbs}
 use mir.Syntax.{w64}
 use mir.Val.{toZ, ofZ}
 use borrow.Author.Needs.{needs}
@@ -27,25 +27,13 @@ size c = c .magnitude .ensures ∙ ap natAbs (back (c .before .before .before .b
 unit-pos : (c : tie.After-power-of-ten) → 0 < c .power-of-ten .result
 unit-pos c = omega (arith, c .power-of-ten .ensures, ten-pos (c .before .before .before .before .before .before .before .args .precision))
 
-below-zero-requires : tie.Need-below-zero-requires
-below-zero-requires c κs = search needs
-
-magnitude-requires : tie.Need-magnitude-requires
-magnitude-requires c κs = search needs
-
 units-of-requires : tie.Need-units-of-requires
 units-of-requires c κs =
     let start = c .before .before .before .before .before in
     (start .pre .0 .rate, (start .pre .1, omega (arith, size c, valid-count-le (start .args .tc) (start .pre .0))))
 
-power-of-ten-requires : tie.Need-power-of-ten-requires
-power-of-ten-requires c κs = search needs
-
 rem-shortest : tie.Need-rem-shortest
 rem-shortest c = unit-pos c
-
-shortest-requires : tie.Need-shortest-requires
-shortest-requires c κs = search needs
 
 div-write-parts : tie.Need-div-write-parts
 div-write-parts c = unit-pos (c .before)
@@ -54,9 +42,6 @@ write-parts-requires : tie.Need-write-parts-requires
 write-parts-requires c κs =
     let start = c .before .before .before .before .before .before .before .before .before in
     omega (arith, start .pre .1, tail-short (start .args .precision) _ _ (c .before .shortest .ensures))
-
-same-length : tie.Need-same-length
-same-length c = search needs
 
 returns : tie.Need-returns
 returns c =
@@ -72,13 +57,13 @@ pub write-time-spec : {M : Type 1} → statement M
 write-time-spec =
     tie.close
     (tie.spec
-    below-zero-requires
-    magnitude-requires
+    (λ c κs. search needs)
+    (λ c κs. search needs)
     units-of-requires
-    power-of-ten-requires
+    (λ c κs. search needs)
     rem-shortest
-    shortest-requires
+    (λ c κs. search needs)
     div-write-parts
     write-parts-requires
-    same-length
+    (λ c. search needs)
     returns)

@@ -16,17 +16,8 @@ short c =
     let most = clock-most (a .minus) (a .hours) (a .minutes) (a .seconds) (search needs) (search needs) (search needs) in
     omega (arith, clock-length (a .minus) (a .hours) (a .minutes) (a .seconds))
 
-padded-length-requires : tie.Need-padded-length-requires
-padded-length-requires c κs = search needs
-
-field-length-requires : tie.Need-field-length-requires
-field-length-requires c κs = search needs
-
 add-result : tie.Need-add-result
 add-result c = record { fits = omega (arith, short (c .before .before)) }
-
-field-length-requires-2 : tie.Need-field-length-requires-2
-field-length-requires-2 c κs = search needs
 
 add-result-2 : tie.Need-add-result-2
 add-result-2 c = record { fits = omega (arith, short (c .before .before .before)) }
@@ -38,9 +29,9 @@ pub clock-length-spec : {M : Type 1} → statement M
 clock-length-spec =
     tie.close
     (tie.spec
-    padded-length-requires
-    field-length-requires
+    (λ c κs. search needs)
+    (λ c κs. search needs)
     add-result
-    field-length-requires-2
+    (λ c κs. search needs)
     add-result-2
     returns)

@@ -7,9 +7,6 @@ use Rattle.written.proofs.Parts.{field-most}
 use Rattle.written.proofs.field_length.Statement.{statement}
 use Rattle.written.proofs.field_length.Tie as tie
 
-width-of-requires : tie.Need-width-of-requires
-width-of-requires c κs = search needs
-
 add-result : tie.Need-add-result
 add-result c = let n = c .before .args .n in record { fits = omega (arith, decimal-length 2 n, field-most n (search needs)) }
 
@@ -17,4 +14,4 @@ returns : tie.Need-returns
 returns c = omega (arith, decimal-length 2 (c .before .args .n))
 
 pub field-length-spec : {M : Type 1} → statement M
-field-length-spec = tie.close (tie.spec width-of-requires add-result returns)
+field-length-spec = tie.close (tie.spec (λ c κs. search needs) add-result returns)

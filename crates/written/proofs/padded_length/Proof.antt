@@ -6,12 +6,6 @@ use Rattle.written.proofs.Parts.{sign-most, wide-most, padded-length}
 use Rattle.written.proofs.padded_length.Statement.{statement}
 use Rattle.written.proofs.padded_length.Tie as tie
 
-sign-length-requires : tie.Need-sign-length-requires
-sign-length-requires c κs = search needs
-
-width-of-requires : tie.Need-width-of-requires
-width-of-requires c κs = search needs
-
 add-result : tie.Need-add-result
 add-result c =
     let start = c .before .before in
@@ -28,4 +22,4 @@ returns : tie.Need-returns
 returns c = let a = c .before .before .args in omega (arith, padded-length (a .minus) (a .least) (a .m))
 
 pub padded-length-spec : {M : Type 1} → statement M
-padded-length-spec = tie.close (tie.spec sign-length-requires width-of-requires add-result returns)
+padded-length-spec = tie.close (tie.spec (λ c κs. search needs) (λ c κs. search needs) add-result returns)

@@ -20,15 +20,6 @@ fit c =
     let a = c .before .before .before .args in
     omega (arith, clock-length (a .minus) (a .hours) (a .minutes) (a .seconds), c .before .clock-length .ensures)
 
-clock-length-requires : tie.Need-clock-length-requires
-clock-length-requires c κs = search needs
-
-padded-length-requires : tie.Need-padded-length-requires
-padded-length-requires c κs = search needs
-
-field-length-requires : tie.Need-field-length-requires
-field-length-requires c κs = search needs
-
 add-second : tie.Need-add-second
 add-second c = record { fits = omega (arith, fit (c .before .before)) }
 
@@ -41,26 +32,11 @@ sub-put-field c = omega (arith, fit (c .before .before .before .before .before .
 part-put-field-start : tie.Need-part-put-field-start
 part-put-field-start c = omega (arith, fit (c .before .before .before .before .before .before))
 
-part-put-field-end : tie.Need-part-put-field-end
-part-put-field-end c = search needs
-
-put-field-requires : tie.Need-put-field-requires
-put-field-requires c κs = search needs
-
 sub-put-field-2 : tie.Need-sub-put-field-2
 sub-put-field-2 c = omega (arith, fit (c .before .before .before .before .before .before .before .before .before .before))
 
 part-put-field-start-2 : tie.Need-part-put-field-start-2
 part-put-field-start-2 c = omega (arith, fit (c .before .before .before .before .before .before .before .before .before .before))
-
-part-put-field-end-2 : tie.Need-part-put-field-end-2
-part-put-field-end-2 c = search needs
-
-put-field-requires-2 : tie.Need-put-field-requires-2
-put-field-requires-2 c κs = search needs
-
-same-length : tie.Need-same-length
-same-length c = search needs
 
 returns : tie.Need-returns
 unfolding clockText
@@ -85,19 +61,19 @@ pub put-clock-spec : {M : Type 1} → statement M
 put-clock-spec =
     tie.close
     (tie.spec
-    clock-length-requires
-    padded-length-requires
-    field-length-requires
+    (λ c κs. search needs)
+    (λ c κs. search needs)
+    (λ c κs. search needs)
     add-second
     put-padded-requires
     sub-put-field
     part-put-field-start
-    part-put-field-end
-    put-field-requires
+    (λ c. search needs)
+    (λ c κs. search needs)
     sub-put-field-2
     part-put-field-start-2
-    part-put-field-end-2
-    put-field-requires-2
-    same-length
+    (λ c. search needs)
+    (λ c κs. search needs)
+    (λ c. search needs)
     returns
     returns-2)

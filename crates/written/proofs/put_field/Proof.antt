@@ -8,19 +8,10 @@ use Rattle.written.proofs.Parts.{decimal-wide}
 use Rattle.written.proofs.put_field.Statement.{statement}
 use Rattle.written.proofs.put_field.Tie as tie
 
-width-of-requires : tie.Need-width-of-requires
-width-of-requires c κs = search needs
-
-put-marked-requires : tie.Need-put-marked-requires
-put-marked-requires c κs = search needs
-
-same-length : tie.Need-same-length
-same-length c = search needs
-
 returns : tie.Need-returns
 returns c =
     let a = c .before .before .before .before .before .before .args in
     c .before .before .put-marked .ensures ∙ ap (λ x. laid (a .part .now) (a .mark ∷ x)) (decimal-wide 2 (a .n) _ (c .before .before .before .width-of .ensures))
 
 pub put-field-spec : {M : Type 1} → statement M
-put-field-spec = tie.close (tie.spec width-of-requires put-marked-requires same-length returns)
+put-field-spec = tie.close (tie.spec (λ c κs. search needs) (λ c κs. search needs) (λ c. search needs) returns)

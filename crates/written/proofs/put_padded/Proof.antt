@@ -17,29 +17,11 @@ use Rattle.written.proofs.put_padded.Tie as tie
 fit : (c : tie.Start) → length (signText (c .args .minus)) ≤ length (c .args .part .now)
 fit c = omega (arith, c .pre, padded-length (c .args .minus) (c .args .least) (c .args .m))
 
-sign-length-requires : tie.Need-sign-length-requires
-sign-length-requires c κs = search needs
-
-width-of-requires : tie.Need-width-of-requires
-width-of-requires c κs = search needs
-
-put-sign-requires : tie.Need-put-sign-requires
-put-sign-requires c κs = search needs
-
 sub-put-digits : tie.Need-sub-put-digits
 sub-put-digits c = omega (arith, fit (c .before .before .before .before .before .before .before))
 
 part-put-digits-start : tie.Need-part-put-digits-start
 part-put-digits-start c = omega (arith, fit (c .before .before .before .before .before .before .before))
-
-part-put-digits-end : tie.Need-part-put-digits-end
-part-put-digits-end c = search needs
-
-put-digits-requires : tie.Need-put-digits-requires
-put-digits-requires c κs = search needs
-
-same-length : tie.Need-same-length
-same-length c = search needs
 
 returns : tie.Need-returns
 returns c =
@@ -57,12 +39,12 @@ pub put-padded-spec : {M : Type 1} → statement M
 put-padded-spec =
     tie.close
     (tie.spec
-    sign-length-requires
-    width-of-requires
-    put-sign-requires
+    (λ c κs. search needs)
+    (λ c κs. search needs)
+    (λ c κs. search needs)
     sub-put-digits
     part-put-digits-start
-    part-put-digits-end
-    put-digits-requires
-    same-length
+    (λ c. search needs)
+    (λ c κs. search needs)
+    (λ c. search needs)
     returns)

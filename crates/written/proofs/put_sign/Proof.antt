@@ -6,12 +6,6 @@ use Rattle.lent.proofs.Laws.{laid-nil}
 use Rattle.written.proofs.put_sign.Statement.{statement}
 use Rattle.written.proofs.put_sign.Tie as tie
 
-put-byte-requires : tie.Need-put-byte-requires
-put-byte-requires c κs = search needs
-
-same-length : tie.Need-same-length
-same-length c = search needs
-
 returns : tie.Need-returns
 returns c = c .before .before .put-byte .ensures ∙ rw (c .before .before .before .before .if1 .taken)
 
@@ -19,4 +13,4 @@ returns-2 : tie.Need-returns-2
 returns-2 c = sym (laid-nil (c .before .before .args .part .now)) ∙ rw (c .if1 .left)
 
 pub put-sign-spec : {M : Type 1} → statement M
-put-sign-spec = tie.close (tie.spec put-byte-requires same-length returns returns-2)
+put-sign-spec = tie.close (tie.spec (λ c κs. search needs) (λ c. search needs) returns returns-2)

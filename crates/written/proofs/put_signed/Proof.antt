@@ -8,21 +8,9 @@ use Rattle.written.specs.Parts.{signedText}
 use Rattle.written.proofs.put_signed.Statement.{statement}
 use Rattle.written.proofs.put_signed.Tie as tie
 
-signed-length-requires : tie.Need-signed-length-requires
-signed-length-requires c κs = search needs
-
-put-padded-requires : tie.Need-put-padded-requires
-put-padded-requires c κs = search needs
-
-same-length : tie.Need-same-length
-same-length c = search needs
-
-returns : tie.Need-returns
-returns c = search needs
-
 returns-2 : tie.Need-returns-2
 returns-2 c = let a = c .before .before .before .args in sym (laid-out (a .part .now) (signedText (a .minus) (a .m)) (omega arith))
 
 pub put-signed-spec : {M : Type 1} → statement M
 put-signed-spec =
-    tie.close (tie.spec signed-length-requires put-padded-requires same-length returns returns-2)
+    tie.close (tie.spec (λ c κs. search needs) (λ c κs. search needs) (λ c. search needs) (λ c. search needs) returns-2)
