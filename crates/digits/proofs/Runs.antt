@@ -108,8 +108,3 @@ run-value l = refl
 pub run-count : (l : List ℕ) → runOf l .count ≡ span l
 unfolding runOf
 run-count l = refl
-
--- a run's value has nine digits at most
-pub run-below : (l : List ℕ) → runOf l .value < 10 ^ 9
-unfolding runOf
-run-below l = field-below (leading l) (leading-all l)

@@ -3,7 +3,7 @@
 use Prim.Native.Nat.{ℕ, zero, suc, _-_, _*_, _/_, _^_, _≤_, _<_, max}
 use mathlib.Core.Path.{_≡_, refl, ap}
 use mathlib.Core.Bool.{Bool, true, false}
-use native.Mathlib.Omega.{arith, by-contra}
+use native.Mathlib.Omega.{arith}
 use native.Mathlib.Nat.{pow-suc, pow-le-pow-right, le-max-right}
 use lib.ListN.{length}
 use lib.Dec.{ltb}
@@ -73,10 +73,6 @@ width-at-most =
     tenths (λ n. (w : ℕ) → 0 < w → n < 10 ^ w → width n ≤ w)
     (λ n h w p k. omega (arith, width-small n h))
     (λ n h ih w p k. at-most-by n w h ih p k)
-
-pub width-least : (n : ℕ) → 1 < width n → 10 ^ (width n - 1) ≤ n
-width-least n h =
-    by-contra (10 ^ (width n - 1)) n (λ k. omega (arith, width-at-most n (width n - 1) (omega arith) k))
 
 -- ---- k digits at least
 pub decimal-length : (k n : ℕ) → length (decimal k n) ≡ max k (width n)
