@@ -113,7 +113,10 @@ fn wide(n: u8) -> u64
 pub(crate) fn timecode_from(t: TzqTimecode) -> Timecode
     ensures answer { λ r. ⌜ r ≡ timecodeFrom t ⌝ }
 {
-    timecodes::new(t.count, t.rate)
+    Timecode {
+        count: t.count,
+        rate: t.rate,
+    }
 }
 
 // A count or its refusal.

@@ -5,6 +5,7 @@ use borrow.Author.Needs.{needs}
 use lib.IntN.{ℤ}
 use mir.Syntax.{w64}
 use mir.Val.{toZ, ofZ}
+use Rattle.timecodes.specs.declared.Timecode.{Timecode}
 use Rattle.timecodes.specs.Timecode.{timecode}
 use Rattle.reading.specs.declared.Read.the-variants.{Footage}
 use Rattle.reading.specs.Answer.{asFootage}
@@ -19,10 +20,11 @@ enum-known-counted-2 c = search needs
 
 returns : tie.Need-returns
 returns c =
-    let z = c .before .counted .given .0 .0 in
+    let z = c .before .before .counted .given .0 .0 in
     let back : toZ w64 (ofZ w64 z) ≡ z = search needs in
-    let a = c .before .before .before .args in
-    ap (λ (x : ℤ). Footage (timecode x (a .rate)) (a .format)) back ∙ sym (ap (asFootage (a .rate) (a .format)) (c .before .counted .given .1))
+    let a = c .before .before .before .before .args in
+    ap (λ (tc : Timecode). Footage tc (a .format)) (c .new .ensures ∙ ap (λ (x : ℤ). timecode x (a .rate)) back)
+    ∙ sym (ap (asFootage (a .rate) (a .format)) (c .before .before .counted .given .1))
 
 returns-2 : tie.Need-returns-2
 returns-2 c =
@@ -30,4 +32,4 @@ returns-2 c =
     sym (ap (asFootage (a .rate) (a .format)) (c .before .counted2 .given .1))
 
 pub as-footage-spec : {M : Type 1} → statement M
-as-footage-spec = tie.close (tie.spec enum-known-counted enum-known-counted-2 returns returns-2)
+as-footage-spec = tie.close (tie.spec enum-known-counted (λ c κs. search needs) enum-known-counted-2 returns returns-2)

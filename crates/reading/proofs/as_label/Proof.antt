@@ -19,13 +19,13 @@ enum-known-counted-2 c = search needs
 
 returns : tie.Need-returns
 returns c =
-    let z = c .before .counted .given .0 .0 in
+    let z = c .before .before .counted .given .0 .0 in
     let back : toZ w64 (ofZ w64 z) ≡ z = search needs in
-    let rate = c .before .before .before .args .rate in
-    ap (λ (x : ℤ). Label (timecode x rate)) back ∙ sym (ap (asLabel rate) (c .before .counted .given .1))
+    let rate = c .before .before .before .before .args .rate in
+    ap Label (c .new .ensures ∙ ap (λ (x : ℤ). timecode x rate) back) ∙ sym (ap (asLabel rate) (c .before .before .counted .given .1))
 
 returns-2 : tie.Need-returns-2
 returns-2 c = sym (ap (asLabel (c .before .before .before .args .rate)) (c .before .counted2 .given .1))
 
 pub as-label-spec : {M : Type 1} → statement M
-as-label-spec = tie.close (tie.spec enum-known-counted enum-known-counted-2 returns returns-2)
+as-label-spec = tie.close (tie.spec enum-known-counted (λ c κs. search needs) enum-known-counted-2 returns returns-2)

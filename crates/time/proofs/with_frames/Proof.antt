@@ -7,12 +7,16 @@ use mir.Facts.{toZ-ofZ}
 use Rattle.answers.specs.declared.Verdict.{Verdict}
 use Rattle.answers.specs.Order.{judged}
 use Rattle.answers.specs.OrderLaws.{judged-refused, judged-clear, unless-clear}
+use Rattle.timecodes.specs.declared.Timecode.{Timecode}
 use Rattle.timecodes.specs.declared.Answer.the-variants.{At, Refused}
 use Rattle.timecodes.specs.Timecode.{timecode}
 use Rattle.timecodes.specs.Admitted.{admits}
 use Rattle.time.specs.Frames.{framesAt}
 use Rattle.time.proofs.with_frames.Statement.{statement}
 use Rattle.time.proofs.with_frames.Tie as tie
+
+new-requires : tie.Need-new-requires
+new-requires c κs = search needs
 
 admit-requires : tie.Need-admit-requires
 admit-requires c κs = search needs
@@ -23,25 +27,27 @@ enum-told c = search needs
 enum-known-e : tie.Need-enum-known-e
 enum-known-e c = search needs
 
--- the timecode that was asked for is that of the count itself
-asked : (c : tie.After-admit) → judged (admits (timecode (c .before .args .count) (c .before .args .rate))) ≡ c .admit .result
-asked c =
-    sym (c .admit .ensures ∙ ap (λ (z : ℤ). judged (admits (timecode z (c .before .args .rate)))) (toZ-ofZ (c .before .fits .count)))
+-- the timecode that was made is that of the count itself
+made : (c : tie.After-new) → c .new .result ≡ timecode (c .before .args .count) (c .before .args .rate)
+made c = c .new .ensures ∙ ap (λ (z : ℤ). timecode z (c .before .args .rate)) (toZ-ofZ (c .before .fits .count))
+
+asked : (c : tie.After-admit) → judged (admits (timecode (c .before .before .args .count) (c .before .before .args .rate))) ≡ c .admit .result
+asked c = sym (c .admit .ensures ∙ ap (λ (tc : Timecode). judged (admits tc)) (made (c .before)))
 
 returns : tie.Need-returns
 unfolding framesAt
 returns c =
-    let a = c .before .before .before .args in
+    let a = c .before .before .before .before .args in
     let tc = timecode (a .count) (a .rate) in
-    ap (λ (z : ℤ). At (timecode z (a .rate))) (toZ-ofZ (c .before .before .before .fits .count))
+    ap At (made (c .before .before .before))
     ∙ sym (unless-clear Refused (admits tc) (At tc) (judged-clear (admits tc) (asked (c .before .before) ∙ c .enum-told .given .1)))
 
 returns-2 : tie.Need-returns-2
 unfolding framesAt
 returns-2 c =
-    let a = c .before .before .before .before .args in
+    let a = c .before .before .before .before .before .args in
     let tc = timecode (a .count) (a .rate) in
     sym (judged-refused (admits tc) _ (asked (c .before .before .before) ∙ c .before .e .given .1) Refused (At tc))
 
 pub with-frames-spec : {M : Type 1} → statement M
-with-frames-spec = tie.close (tie.spec admit-requires enum-told enum-known-e returns returns-2)
+with-frames-spec = tie.close (tie.spec new-requires admit-requires enum-told enum-known-e returns returns-2)
