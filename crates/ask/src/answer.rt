@@ -1,59 +1,59 @@
-// The answer to a line: its command, the numbers behind it, and what they ask.
-use crate::commands;
-use crate::commands::Asked;
-use crate::commands::Command;
+// The answer to a line: by the row of its command (asking's table).
+ghost use mathlib.Core.Path.{_≡_};
+ghost use mathlib.Core.Bool.{true};
+ghost use Prim.Native.Nat.{_≤_};
 use crate::convert;
-use crate::help;
+use crate::numbered;
 use crate::read;
+use crate::sheet;
 use crate::show;
-use crate::words;
+use crate::show::Shown;
 use crate::work;
 use crate::write;
-use scanner::Cursor;
+use asking::Asked;
+use streams::Gathered;
 
-// The answer to a command that ends with its numbers.
-fn to_numbers(command: Command, v: [i64; 5], out: &mut [u8], used: usize) -> usize {
-    match command {
-        Command::Write(writer) => write::answer(writer, v, out, used),
-        Command::Make(maker) => show::show(out, used, work::made(maker, v)),
-        Command::Single(op) => show::show(out, used, work::single(op, v)),
-        Command::Pair(op) => show::show(out, used, work::paired(op, v)),
-        Command::Scale(op) => show::show(out, used, work::scaled(op, v)),
-        _ => help::answer(out, used),
+// What is shown of a command that writes no line of its own.
+fn shown(a: Asked, line: &[u8]) -> Shown {
+    let row = a.row;
+    let v = a.values;
+    let n = numbered::numbers_of(v);
+    match row {
+        0 => show::said(b'h'),
+        1..=3 => read::read(row, n, line, a.rest),
+        7..=23 => work::shown(row, n),
+        24 => convert::convert(numbered::timecode(n), line, a.rest),
+        _ => show::said(b'?'),
     }
 }
 
-// The answer to a command whose numbers are all there.
-fn to_command(
-    command: Command,
-    v: [i64; 5],
-    line: &[u8],
-    next: Cursor,
-    out: &mut [u8],
-    used: usize,
-) -> usize {
-    match command {
-        Command::Read(reader) => read::answer(reader, v, line, next, out, used),
-        Command::Convert => convert::answer(v, line, next, out, used),
-        _ => {
-            if next.at_end(line) {
-                to_numbers(command, v, out, used)
-            } else {
-                show::not_understood(out, used)
-            }
-        }
+// The answer to a line that was kept whole.
+fn to_line(line: &[u8], out: &mut [u8], used: usize) -> usize {
+    let a = asking::understand(line);
+    let row = a.row;
+    let v = a.values;
+    if write::writes(row) {
+        return write::written(row, numbered::numbers_of(v), out, used);
     }
+    show::show(out, used, shown(a, line))
 }
 
-// A line that is no command, or lacks a number, is not understood, before any refusal.
-pub(crate) fn answer(line: &[u8], out: &mut [u8], used: usize) -> usize {
-    let Asked::Is(command, wanted, past) = commands::command_of(line) else {
-        return show::not_understood(out, used);
-    };
-    let given = words::numbers(line, past, wanted);
-    if !given.all {
-        return show::not_understood(out, used);
+// The answer to what was gathered of a line, behind what is kept: one that the buffer could not hold is not understood.
+pub(crate) fn answer(g: Gathered, buffer: &[u8], out: &mut [u8], used: usize) -> usize {
+    let len = g.len;
+    let at = sheet::with_room(out, used);
+    if is_whole(g, buffer.len()) {
+        return to_line(&buffer[0..len], out, at);
     }
-    let v = given.values;
-    to_command(command, v, line, given.next, out, used)
+    show::show(out, at, show::said(b'?'))
+}
+
+// Was the line kept whole? (That more is kept than the buffer holds cannot be.)
+fn is_whole(g: Gathered, total: usize) -> bool
+    ensures within { λ r. ⌜ (r ≡ true → g .len ≤ total) ⌝ }
+{
+    if g.over {
+        return false;
+    }
+    g.len <= total
 }

@@ -1,11 +1,12 @@
 // The command `convert`: a timecode through the listed rates, none or more, up to 64.
 ghost use Prim.Native.Nat.{_≤_};
 ghost use lib.ListN.{length};
+use crate::numbered;
 use crate::show;
-use crate::words;
-use crate::words::Word;
-use crate::work;
-use scanner::Cursor;
+use crate::show::Shown;
+use asking::Word;
+use timecodes::Answer;
+use timecodes::Timecode;
 
 // How many rates are listed; or what stands there is no list of rates.
 struct Listed {
@@ -14,40 +15,41 @@ struct Listed {
 }
 
 // The numbers from a place to the end of the line, no more than the list has room for.
-fn take_rates(line: &[u8], from: Cursor, list: &mut [u64]) -> Listed
+fn take_rates(line: &[u8], from: usize, list: &mut [u64]) -> Listed
     ensures bound { λ r. ⌜ r .count ≤ length (now (list .exit)) ⌝ }
 {
-    let mut next = from;
+    let mut at = from;
     let mut n = 0;
     while n < list.len() {
-        if next.at_end(line) {
+        let w = asking::number(line, at);
+        let Word::Number(v, next) = w else {
             break;
-        }
-        let w = words::number(line, next);
-        let Word::Number(v, past) = w else {
-            return Listed {
-                all: false,
-                count: 0,
-            };
         };
-        list[n] = words::unsigned(v);
-        next = past;
+        list[n] = numbered::unsigned(v);
+        at = next;
         n += 1;
     }
     Listed {
-        all: next.at_end(line),
+        all: line.len() <= at,
         count: n,
     }
 }
 
-// The answer to RATE COUNT and the rates from `from` on.
-pub(crate) fn answer(v: [i64; 5], line: &[u8], from: Cursor, out: &mut [u8], used: usize) -> usize {
+// `COUNT RATE`.
+fn converted(tc: Timecode, list: &[u64]) -> Shown {
+    match chains::convert(tc, list) {
+        Answer::At(last) => show::two(0, last.count, b' ', last.rate),
+        Answer::Refused(e) => show::refused(e),
+    }
+}
+
+// RATE COUNT, and the rates from a place of the line on.
+pub(crate) fn convert(tc: Timecode, line: &[u8], from: usize) -> Shown {
     let mut list = [0u64; 64];
     let l = take_rates(line, from, &mut list);
     if !l.all {
-        return show::not_understood(out, used);
+        return show::said(b'?');
     }
-    let n = l.count;
-    let there = chains::convert(work::timecode(v[0], v[1]), &list[0..n]);
-    show::show(out, used, show::of_converted(there))
+    let k = l.count;
+    converted(tc, &list[0..k])
 }

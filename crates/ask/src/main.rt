@@ -1,97 +1,92 @@
 // A calculator over every public operation: reads commands, one a line, and writes an answer for each (docs/ASK.md).
-// Input of any size goes through fixed buffers; a line over 4096 bytes is not understood.
+// What a line is, and what it asks, is decided by streams and asking; here are the commands, the buffers, the reads and the writes.
+ghost use mathlib.Core.Path.{_≡_};
+ghost use lib.ListN.{drop};
+ghost use Rattle.streams.specs.Gathering.{gatherFrom};
+ghost use Rattle.ask.specs.Turns.{goneOn};
 use streams::Gathered;
 
 mod answer;
-mod commands;
 mod convert;
 mod help;
+mod numbered;
 mod read;
+mod sheet;
 mod show;
-mod words;
 mod work;
 mod write;
 
-// What is kept from byte to byte: the line so far, and how many bytes of answers are not yet written.
+// What is gathered of the next line, how many bytes of answers are not yet written, the place in the chunk; and whether more may come.
 struct State {
-    line: Gathered,
+    gathered: Gathered,
     used: usize,
+    next: usize,
+    more: bool,
 }
 
-// The answer to a whole line. (That more is kept than the buffer holds cannot be.)
-fn answered(g: Gathered, line: &[u8], out: &mut [u8], used: usize) -> usize {
-    let len = g.len;
-    if g.over {
-        return show::not_understood(out, used);
+// Between two chunks.
+fn between(g: Gathered, used: usize, more: bool) -> State {
+    State {
+        gathered: g,
+        used,
+        next: 0,
+        more,
     }
-    if line.len() < len {
-        return show::not_understood(out, used);
-    }
-    answer::answer(&line[0..len], out, used)
 }
 
-// One byte of input.
-fn step(b: u8, line: &mut [u8], out: &mut [u8], s: State) -> State {
-    let g = s.line;
-    if b == b'\n' {
-        let used = answered(g, line, out, s.used);
+// The bytes of a chunk up to the next newline, and the answer to the line that ends there.
+fn step(chunk: &[u8], buffer: &mut [u8], out: &mut [u8], s: State) -> State
+    ensures next { λ r. ⌜ r .next ≡ gatherFrom (s .next) (now (buffer .entry)) (s .gathered) (drop (s .next) (now (chunk .entry))) .step .next ⌝ }
+    ensures gathered { λ r. ⌜ r .gathered ≡ goneOn (gatherFrom (s .next) (now (buffer .entry)) (s .gathered) (drop (s .next) (now (chunk .entry))) .step) ⌝ }
+    ensures buffer { λ r. ⌜ now (buffer .exit) ≡ gatherFrom (s .next) (now (buffer .entry)) (s .gathered) (drop (s .next) (now (chunk .entry))) .buffer ⌝ }
+{
+    let t = streams::gather(chunk, s.next, buffer, s.gathered);
+    let g = t.gathered;
+    if t.ended {
+        let used = answer::answer(g, buffer, out, s.used);
         return State {
-            line: Gathered::new(),
+            gathered: Gathered::new(),
             used,
+            next: t.next,
+            more: true,
         };
     }
     State {
-        line: g.take(line, b),
+        gathered: g,
         used: s.used,
+        next: t.next,
+        more: true,
     }
 }
 
-// A chunk of input, byte by byte.
-fn feed(chunk: &[u8], line: &mut [u8], out: &mut [u8], s: State) -> State {
+// A chunk of input, line by line.
+fn feed(chunk: &[u8], buffer: &mut [u8], out: &mut [u8], s: State) -> State {
     let mut t = s;
-    let mut i = 0;
-    while i < chunk.len() {
-        t = step(chunk[i], line, out, t);
-        i += 1;
+    while t.next < chunk.len() {
+        t = step(chunk, buffer, out, t);
     }
     t
 }
 
-// A read, and whether there may be more.
-struct Turn {
-    more: bool,
-    state: State,
-}
-
 // One read, and what came of it.
-fn one_read(line: &mut [u8], out: &mut [u8], s: State) -> Turn {
+fn one_read(buffer: &mut [u8], out: &mut [u8], s: State) -> State {
     let mut chunk = io::large_buffer();
     let got = libc::read(0, &mut chunk);
+    let g = s.gathered;
     if got <= 0 {
-        return Turn {
-            more: false,
-            state: s,
-        };
+        return between(g, s.used, false);
     }
     let n = io::count(got, &chunk);
-    let t = feed(&chunk[..n], line, out, s);
-    Turn {
-        more: true,
-        state: t,
-    }
+    feed(&chunk[..n], buffer, out, between(g, s.used, true))
 }
 
 // A proved loop ends: the turns are counted down from a number that no run uses up.
-fn read_all(line: &mut [u8], out: &mut [u8]) -> State {
-    let mut s = State {
-        line: Gathered::new(),
-        used: 0,
-    };
+fn read_all(buffer: &mut [u8], out: &mut [u8]) -> State {
+    let mut s = between(Gathered::new(), 0, true);
     let mut turns = u64::MAX;
     while 0 < turns {
-        let t = one_read(line, out, s);
-        s = t.state;
-        if !t.more {
+        s = one_read(buffer, out, s);
+        if !s.more {
             return s;
         }
         turns -= 1;
@@ -100,20 +95,22 @@ fn read_all(line: &mut [u8], out: &mut [u8]) -> State {
 }
 
 // A last line without its newline counts.
-fn run(line: &mut [u8], out: &mut [u8]) {
-    let s = read_all(line, out);
-    let g = s.line;
-    let used = s.used;
+fn last_answer(buffer: &[u8], out: &mut [u8], s: State) -> usize {
+    let g = s.gathered;
     if g.is_empty() {
-        streams::write_kept(out, used);
-        return;
+        return s.used;
     }
-    let last = answered(g, line, out, used);
-    streams::write_kept(out, last);
+    answer::answer(g, buffer, out, s.used)
+}
+
+fn run(buffer: &mut [u8], out: &mut [u8]) {
+    let s = read_all(buffer, out);
+    let used = last_answer(buffer, out, s);
+    sheet::write(out, used);
 }
 
 fn main() {
-    let mut line = io::buffer();
+    let mut buffer = io::buffer();
     let mut out = io::large_buffer();
-    run(&mut line, &mut out);
+    run(&mut buffer, &mut out);
 }

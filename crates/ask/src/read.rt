@@ -1,53 +1,47 @@
-// Commands that read a text: the rest of the line behind one space, any bytes. At the end of the line the text is empty.
-use crate::commands::Reader;
+// Commands that read a text: the rest of the line, any bytes.
+use crate::numbered::Numbers;
 use crate::show;
 use crate::show::Shown;
-use crate::words::unsigned;
 use reading::Read;
 use reading::Stated;
-use scanner::Cursor;
-use scanner::Passed;
 
 // `label COUNT` or `footage COUNT FORMAT`.
 fn of_read(a: Read) -> Shown {
     match a {
-        Read::Label(count) => Shown::Label(count),
-        Read::Footage(count, format) => Shown::Footage(count, format.number()),
-        Read::Refused(e) => Shown::Refused(e.number),
+        Read::Label(tc) => show::one(b'l', tc.count),
+        Read::Footage(tc, format) => show::two(b'f', tc.count, b' ', format.number()),
+        Read::Refused(e) => show::refused(e),
     }
 }
 
-// What the text is read as; v has the numbers before it.
-fn read(reader: Reader, v: [i64; 5], text: &[u8]) -> Shown {
-    match reader {
-        Reader::Text => of_read(reading::read_text(text, Stated::Nothing, unsigned(v[0]))),
-        Reader::Stated => of_read(reading::read_text(
-            text,
-            Stated::Format(unsigned(v[0])),
-            unsigned(v[1]),
-        )),
-        Reader::Runtime => show::of_count(runtime_reading::read_runtime(text, unsigned(v[0]))),
+// RATE TEXT.
+fn read_any(text: &[u8], rate: u64) -> Shown {
+    of_read(reading::read_text(text, Stated::Nothing, rate))
+}
+
+// FORMAT RATE TEXT.
+fn read_as(text: &[u8], format: u64, rate: u64) -> Shown {
+    of_read(reading::read_text(text, Stated::Format(format), rate))
+}
+
+// RATE TEXT.
+fn read_runtime(text: &[u8], rate: u64) -> Shown {
+    show::of_answer(runtime_reading::read_runtime(text, rate))
+}
+
+// By the command's row.
+fn by_row(row: usize, n: Numbers, text: &[u8]) -> Shown {
+    match row {
+        1 => read_any(text, n.first),
+        2 => read_as(text, n.first, n.second_up),
+        _ => read_runtime(text, n.first),
     }
 }
 
-// The answer to a reader's command; `from` is past its numbers.
-pub(crate) fn answer(
-    reader: Reader,
-    v: [i64; 5],
-    line: &[u8],
-    from: Cursor,
-    out: &mut [u8],
-    used: usize,
-) -> usize {
-    if from.at_end(line) {
-        return show::show(out, used, read(reader, v, b""));
-    }
-    let Passed::Next(start) = from.past(line, b' ') else {
-        return show::not_understood(out, used);
-    };
-    let at = start.at;
+// The text begins at a place of the line. (That this is past its end cannot be.)
+pub(crate) fn read(row: usize, n: Numbers, line: &[u8], at: usize) -> Shown {
     if line.len() < at {
-        return show::not_understood(out, used);
+        return show::said(b'?');
     }
-    show::show(out, used, read(reader, v, &line[at..]))
+    by_row(row, n, &line[at..])
 }

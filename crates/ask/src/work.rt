@@ -1,64 +1,103 @@
-// Commands whose numbers become a number or two. `v` has as many numbers as the command, and zeros behind them.
-use crate::commands::Maker;
-use crate::commands::Pair;
-use crate::commands::Scale;
-use crate::commands::Single;
+// Commands that make a timecode or a number of numbers, by the row of each.
+use crate::numbered;
+use crate::numbered::Numbers;
 use crate::show;
 use crate::show::Shown;
-use crate::words::unsigned;
-use rates::Timecode;
+use answers::Counted;
+use arithmetic::Compared;
+use time::Ticked;
+use time::Timed;
+use timecodes::Answer;
+use timecodes::Timecode;
 
-// A timecode is given as a rate and a count.
-pub(crate) fn timecode(rate: i64, count: i64) -> Timecode {
-    Timecode {
-        count,
-        rate: unsigned(rate),
+// M: a frame number.
+fn minute(m: u64) -> Shown {
+    match minutes::minute_start(m) {
+        Counted::Count(z) => show::one(0, z),
+        Counted::Refused(e) => show::refused(e),
     }
 }
 
-// A count from RATE COUNT, RATE TICKS, RATE P Q or M.
-pub(crate) fn made(maker: Maker, v: [i64; 5]) -> Shown {
-    let first = unsigned(v[0]);
-    match maker {
-        Maker::Frames => show::of_count(time::with_frames(v[1], first)),
-        Maker::FromTicks => show::of_count(time::with_premiere_ticks(v[1], first)),
-        Maker::FromSeconds => show::of_count(time::with_seconds(v[1], unsigned(v[2]), first)),
-        Maker::Minute => show::of_count(minutes::minute_start(first)),
+// RATE COUNT: ticks.
+fn ticks(tc: Timecode) -> Shown {
+    match time::premiere_ticks(tc) {
+        Ticked::Ticks(z) => show::one(0, z),
+        Ticked::Refused(e) => show::refused(e),
     }
 }
 
-// What becomes of RATE COUNT, and in `rebase` of another RATE.
-pub(crate) fn single(op: Single, v: [i64; 5]) -> Shown {
-    let tc = timecode(v[0], v[1]);
-    match op {
-        Single::Ticks => show::of_ticks(time::premiere_ticks(tc)),
-        Single::Seconds => show::of_seconds(time::seconds(tc)),
-        Single::Neg => show::of_count(arithmetic::neg(tc)),
-        Single::Abs => show::of_count(arithmetic::abs(tc)),
-        Single::Rebase => show::of_count(arithmetic::rebase(tc, unsigned(v[2]))),
+// RATE COUNT: seconds, as `P/Q`.
+fn seconds(tc: Timecode) -> Shown {
+    match time::seconds(tc) {
+        Timed::Seconds { p, q } => show::two(0, p, b'/', q),
+        Timed::Refused(e) => show::refused(e),
     }
 }
 
-// What becomes of RATE COUNT RATE COUNT.
-pub(crate) fn paired(op: Pair, v: [i64; 5]) -> Shown {
-    let left = timecode(v[0], v[1]);
-    let right = timecode(v[2], v[3]);
-    match op {
-        Pair::Add => show::of_count(arithmetic::add(left, right)),
-        Pair::Sub => show::of_count(arithmetic::sub(left, right)),
-        Pair::Cmp => show::of_order(arithmetic::cmp(left, right)),
+// RATE COUNT RATE COUNT: -1, 0 or 1.
+fn compared(a: Timecode, b: Timecode) -> Shown {
+    match arithmetic::cmp(a, b) {
+        Compared::Order(z) => show::one(0, z),
+        Compared::Refused(e) => show::refused(e),
     }
 }
 
-// What becomes of RATE COUNT P Q or RATE COUNT N.
-pub(crate) fn scaled(op: Scale, v: [i64; 5]) -> Shown {
-    let tc = timecode(v[0], v[1]);
-    let q = unsigned(v[3]);
-    match op {
-        Scale::Mul => show::of_count(arithmetic::mul(tc, v[2], q)),
-        Scale::Div => show::of_count(arithmetic::div(tc, v[2])),
-        Scale::Rem => show::of_count(arithmetic::rem(tc, v[2])),
-        Scale::Divq => show::of_count(arithmetic::divq(tc, v[2], q)),
-        Scale::Remq => show::of_count(arithmetic::remq(tc, v[2], q)),
+// A timecode made of other numbers: RATE COUNT, RATE TICKS or RATE P Q.
+fn made(row: usize, rate: u64, p: i64, q: u64) -> Answer {
+    match row {
+        7 => time::with_frames(p, rate),
+        8 => time::with_premiere_ticks(p, rate),
+        _ => time::with_seconds(p, q, rate),
+    }
+}
+
+// RATE COUNT, and for `rebase` another RATE.
+fn changed(row: usize, tc: Timecode, rate: u64) -> Answer {
+    match row {
+        13 => arithmetic::neg(tc),
+        14 => arithmetic::abs(tc),
+        _ => arithmetic::rebase(tc, rate),
+    }
+}
+
+// RATE COUNT RATE COUNT.
+fn joined(row: usize, a: Timecode, b: Timecode) -> Answer {
+    match row {
+        16 => arithmetic::add(a, b),
+        _ => arithmetic::sub(a, b),
+    }
+}
+
+// RATE COUNT P Q or RATE COUNT N.
+fn scaled(row: usize, tc: Timecode, p: i64, q: u64) -> Answer {
+    match row {
+        19 => arithmetic::mul(tc, p, q),
+        20 => arithmetic::div(tc, p),
+        21 => arithmetic::rem(tc, p),
+        22 => arithmetic::divq(tc, p, q),
+        _ => arithmetic::remq(tc, p, q),
+    }
+}
+
+// A command whose answer is a timecode.
+fn timecode_of(row: usize, n: Numbers) -> Answer {
+    let tc = numbered::timecode(n);
+    match row {
+        7..=9 => made(row, n.first, n.second, n.third_up),
+        13..=15 => changed(row, tc, n.third_up),
+        16..=17 => joined(row, tc, numbered::other(n)),
+        _ => scaled(row, tc, n.third, n.fourth_up),
+    }
+}
+
+// By the command's row.
+pub(crate) fn shown(row: usize, n: Numbers) -> Shown {
+    let tc = numbered::timecode(n);
+    match row {
+        10 => minute(n.first),
+        11 => ticks(tc),
+        12 => seconds(tc),
+        18 => compared(tc, numbered::other(n)),
+        _ => show::of_answer(timecode_of(row, n)),
     }
 }

@@ -1,87 +1,101 @@
 // Commands that write a text into a line of ROOM bytes, each `#` before, from PLACE on, and show the whole line.
-use crate::commands::Writer;
+ghost use Prim.Native.Nat.{_≤_};
+use crate::numbered;
+use crate::numbered::Numbers;
 use crate::show;
-use crate::words::unsigned;
-use crate::work::timecode;
-use streams::put_signed;
-use streams::put_text;
+use crate::show::Shown;
+use timecodes::Timecode;
 use written::Written;
 
-// The text of the numbers before PLACE, laid into the line.
-fn laid(writer: Writer, v: [i64; 5], line: &mut [u8], place: usize) -> Written {
-    match writer {
-        Writer::Label => label_writer::write_label(timecode(v[0], v[1]), line, place),
-        Writer::Footage => footage_writer::write_footage(
-            timecode(v[1], v[2]),
-            unsigned(v[0]),
-            line,
-            place,
-        ),
-        Writer::Runtime => runtime_writer::write_runtime(
-            timecode(v[0], v[1]),
-            unsigned(v[2]),
-            line,
-            place,
-        ),
+// What is to be written: the timecode, the format or the precision, the place and the room.
+struct Task {
+    tc: Timecode,
+    k: u64,
+    place: usize,
+    room: u64,
+}
+
+// Is this the row of such a command?
+pub(crate) fn writes(row: usize) -> bool {
+    if row < 4 {
+        return false;
+    }
+    row <= 6
+}
+
+// RATE COUNT PLACE ROOM, FORMAT RATE COUNT PLACE ROOM, RATE COUNT PRECISION PLACE ROOM.
+fn wanted(row: usize, n: Numbers) -> Task {
+    match row {
+        4 => Task {
+            tc: numbered::timecode(n),
+            k: 0,
+            place: n.third_up as usize,
+            room: n.fourth_up,
+        },
+        5 => Task {
+            tc: numbered::behind_format(n),
+            k: n.first,
+            place: n.fourth_up as usize,
+            room: n.fifth_up,
+        },
+        _ => Task {
+            tc: numbered::timecode(n),
+            k: n.third_up,
+            place: n.fourth_up as usize,
+            room: n.fifth_up,
+        },
+    }
+}
+
+// The text, laid into the line, by the command's row.
+fn laid(row: usize, w: Task, line: &mut [u8]) -> Written {
+    let tc = w.tc;
+    match row {
+        4 => label_writer::write_label(tc, line, w.place),
+        5 => footage_writer::write_footage(tc, w.k, line, w.place),
+        _ => runtime_writer::write_runtime(tc, w.k, line, w.place),
     }
 }
 
 // The length, or the refusal.
 fn put_written(out: &mut [u8], used: usize, w: Written) -> usize {
+    show::put_shown(out, used, of_written(w))
+}
+
+fn of_written(w: Written) -> Shown {
     match w {
-        Written::Length(n) => put_signed(out, used, false, n as u64),
-        Written::Refused(e) => show::put_refused(out, used, e.number),
+        Written::Length(n) => show::one(0, numbers::with_sign(false, n as u64)),
+        Written::Refused(e) => show::refused(e),
     }
 }
 
-// The length or the refusal, and the whole line, of which a part may have been written.
-fn in_line(
-    writer: Writer,
-    v: [i64; 5],
-    place: usize,
-    line: &mut [u8],
-    out: &mut [u8],
-    used: usize,
-) -> usize {
-    let w = laid(writer, v, line, place);
-    let a = put_written(out, used, w);
-    let b = put_text(out, a, b" ");
-    let c = put_text(out, b, line);
-    put_text(out, c, b"\n")
+// Behind the length or the refusal, the whole line.
+fn put_line(out: &mut [u8], used: usize, line: &[u8]) -> usize {
+    let a = streams::put_byte(out, used, b' ');
+    let b = streams::put_text(out, a, line);
+    streams::put_byte(out, b, b'\n')
 }
 
-// Only a place from 0 on, and a room from 0 to 128, are understood.
-fn in_room(
-    writer: Writer,
-    v: [i64; 5],
-    place: i64,
-    room: u64,
-    out: &mut [u8],
-    used: usize,
-) -> usize {
-    if numbers::below_zero(place) {
-        return show::not_understood(out, used);
-    }
-    if room > 128 {
-        return show::not_understood(out, used);
-    }
+// The length or the refusal, and the whole line.
+fn in_line(row: usize, w: Task, line: &mut [u8], out: &mut [u8], used: usize) -> usize {
+    let a = put_written(out, used, laid(row, w, line));
+    put_line(out, a, line)
+}
+
+// The answer as a line. A room is 0 to 128. (That it is more cannot be.)
+pub(crate) fn written(row: usize, n: Numbers, out: &mut [u8], used: usize) -> usize {
     let mut line = [b'#'; 128];
-    let n = room as usize;
-    in_line(
-        writer,
-        v,
-        unsigned(place) as usize,
-        &mut line[0..n],
-        out,
-        used,
-    )
+    let w = wanted(row, n);
+    let k = least(w.room);
+    in_line(row, w, &mut line[0..k], out, used)
 }
 
-// PLACE and ROOM are the last two numbers.
-pub(crate) fn answer(writer: Writer, v: [i64; 5], out: &mut [u8], used: usize) -> usize {
-    match writer {
-        Writer::Label => in_room(Writer::Label, v, v[2], unsigned(v[3]), out, used),
-        Writer::Footage => in_room(Writer::Footage, v, v[3], unsigned(v[4]), out, used),
-        Writer::Runtime => in_room(Writer::Runtime, v, v[3], unsigned(v[4]), out, used),
+// A room that the line has.
+fn least(room: u64) -> usize
+    ensures most { λ r. ⌜ r ≤ 128 ⌝ }
+{
+    if room > 128 {
+        return 128;
     }
+    room as usize
 }

@@ -1,33 +1,31 @@
--- `ask::feed` meets its contract: what is left of the chunk falls with each byte.
+-- `ask::feed` meets its contract: each step takes a byte of the chunk at least.
 -- Assumes nothing.
 use Prim.Native.Nat.{_-_}
 use mathlib.Core.Path.{_≡_}
-use lib.ListN.{length}
 use native.Mathlib.Omega.{arith}
+use lib.ListN.{length}
 use borrow.Author.Needs.{needs}
+use Rattle.ask.proofs.Steps.{next-more}
 use Rattle.ask.proofs.feed.Statement.{statement}
 use Rattle.ask.proofs.feed.Tie as tie
+use Rattle.ask.proofs.feed.Reads as reads
+use Rattle.ask.proofs.feed.Lts as lts
+use Rattle.ask.proofs.step.Reads as step-reads
 
 abbrev Inv-loop : tie.InvT-loop
-Inv-loop chunk line₀ out₀ t₀ i₀ line out t i = (length line ≡ length line₀) × (length out ≡ length out₀)
+Inv-loop chunk buffer₀ out₀ t₀ buffer out t = (length buffer ≡ length buffer₀) × (length out ≡ length out₀)
 
 abbrev μ-loop : tie.MeasureT-loop
-μ-loop chunk line₀ out₀ t₀ i₀ line out t i = length chunk - i
+μ-loop chunk buffer₀ out₀ t₀ buffer out t = length chunk - t .next
 
 loop-holds : tie.Need-loop-holds Inv-loop μ-loop
 loop-holds c = search needs
 
-shared-slice-read-step : tie.Need-shared-slice-read-step Inv-loop μ-loop
-shared-slice-read-step c = search needs
-
 step-requires : tie.Need-step-requires Inv-loop μ-loop
 step-requires c κs = search needs
 
-add-i : tie.Need-add-i Inv-loop μ-loop
-add-i c = search needs
-
 loop-less : tie.Need-loop-less Inv-loop μ-loop
-loop-less c = omega arith
+loop-less c = let s = c .before .before .before .before .before .before .before .before .before .loop in omega (arith, next-more (c .before .before .before .before .before .before .before .before .before .before .before .before .before .args .chunk .now) (s .t .next) _ (s .buffer) (s .t .gathered) (c .before .before .before .before .before .before .before .if1 .taken) (c .before .before .before .before .step .ensures .0))
 
 loop-again : tie.Need-loop-again Inv-loop μ-loop
 loop-again c = search needs
@@ -48,9 +46,7 @@ feed-spec =
     Inv-loop
     μ-loop
     loop-holds
-    shared-slice-read-step
     step-requires
-    add-i
     loop-less
     loop-again
     same-length

@@ -1,20 +1,28 @@
 -- `ask::read_all` meets its contract: the turns that are left fall with each read.
 -- Assumes nothing.
 use mathlib.Core.Path.{_≡_}
-use lib.ListN.{length}
 use native.Mathlib.Omega.{arith}
+use lib.ListN.{length}
 use borrow.Author.Needs.{needs}
 use Rattle.ask.proofs.read_all.Statement.{statement}
 use Rattle.ask.proofs.read_all.Tie as tie
+use Rattle.ask.proofs.read_all.Reads as reads
+use Rattle.ask.proofs.read_all.Lts as lts
+use Rattle.ask.proofs.between.Reads as between-reads
+use Rattle.ask.proofs.one_read.Reads as one-read-reads
+use Rattle.streams.proofs.gathered.Gathered.new.Reads as new-reads
 
 abbrev Inv-loop : tie.InvT-loop
-Inv-loop line₀ out₀ s₀ turns₀ line out s turns = (length line ≡ length line₀) × (length out ≡ length out₀)
+Inv-loop buffer₀ out₀ s₀ turns₀ buffer out s turns = (length buffer ≡ length buffer₀) × (length out ≡ length out₀)
 
 abbrev μ-loop : tie.MeasureT-loop
-μ-loop line₀ out₀ s₀ turns₀ line out s turns = turns
+μ-loop buffer₀ out₀ s₀ turns₀ buffer out s turns = turns
 
 new-requires : tie.Need-new-requires Inv-loop μ-loop
 new-requires c κs = search needs
+
+between-requires : tie.Need-between-requires Inv-loop μ-loop
+between-requires c κs = search needs
 
 loop-holds : tie.Need-loop-holds Inv-loop μ-loop
 loop-holds c = search needs
@@ -56,6 +64,7 @@ read-all-spec =
     Inv-loop
     μ-loop
     new-requires
+    between-requires
     loop-holds
     one-read-requires
     same-length

@@ -1,0 +1,24 @@
+-- What a step of the chunk leaves: the next line, with no byte yet where one has ended.
+-- Assumes nothing.
+use Prim.Native.Nat.{ℕ, _<_}
+use mathlib.Core.Path.{_≡_, sym, ap, _∙_}
+use mathlib.Core.List.{List}
+use mathlib.Core.Bool.{true, false}
+use native.Mathlib.Omega.{arith}
+use lib.ListN.{length, drop, length-drop}
+use Rattle.streams.specs.declared.gathered.Gathered.{Gathered}
+use Rattle.streams.specs.declared.gathered.Step.{Step}
+use Rattle.streams.specs.Gathering.{noByte, gatherFrom}
+use Rattle.streams.proofs.Gathering.{next-lt}
+use Rattle.ask.specs.Turns.{goneOn}
+
+pub gone-ended : (g : Gathered) (s t : Step) → g ≡ noByte → s ≡ t → s .ended ≡ true → g ≡ goneOn t
+gone-ended g s t n p e = rw (n, ← p, e)
+
+pub gone-goes : (s t : Step) → s ≡ t → s .ended ≡ false → s .gathered ≡ goneOn t
+gone-goes s t p e = rw (← p, e)
+
+-- a byte more of the chunk is taken
+pub next-more : (chunk : List ℕ) (i n : ℕ) (buffer : List ℕ) (g : Gathered) → i < length chunk
+    → n ≡ gatherFrom i buffer g (drop i chunk) .step .next → i < n
+next-more chunk i n buffer g h e = omega (arith, next-lt (drop i chunk) i buffer g (omega (arith, length-drop i chunk)))
