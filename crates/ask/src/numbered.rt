@@ -40,24 +40,15 @@ pub(crate) fn numbers_of(v: [i64; 5]) -> Numbers {
 
 // RATE COUNT, the first two numbers.
 pub(crate) fn timecode(n: Numbers) -> Timecode {
-    Timecode {
-        count: n.second,
-        rate: n.first,
-    }
+    timecodes::new(n.second, n.first)
 }
 
 // RATE COUNT, the third and the fourth number.
 pub(crate) fn other(n: Numbers) -> Timecode {
-    Timecode {
-        count: n.fourth,
-        rate: n.third_up,
-    }
+    timecodes::new(n.fourth, n.third_up)
 }
 
 // RATE COUNT behind a FORMAT.
 pub(crate) fn behind_format(n: Numbers) -> Timecode {
-    Timecode {
-        count: n.third,
-        rate: n.second_up,
-    }
+    timecodes::new(n.third, n.second_up)
 }
