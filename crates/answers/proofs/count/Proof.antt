@@ -8,12 +8,6 @@ use Rattle.answers.specs.Refusals.{countOf}
 use Rattle.answers.proofs.count.Statement.{statement}
 use Rattle.answers.proofs.count.Tie as tie
 
-enum-known-a : tie.Need-enum-known-a
-enum-known-a c = search needs
-
-enum-told : tie.Need-enum-told
-enum-told c = search needs
-
 returns : tie.Need-returns
 returns c =
     let z = c .before .a .given .0 .0 in
@@ -24,4 +18,4 @@ returns-2 : tie.Need-returns-2
 returns-2 c = sym (ap countOf (c .enum-told .given .1))
 
 pub count-spec : {M : Type 1} → statement M
-count-spec = tie.close (tie.spec enum-known-a enum-told returns returns-2)
+count-spec = tie.close (tie.spec (λ c. search needs) (λ c. search needs) returns returns-2)

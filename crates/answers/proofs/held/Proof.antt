@@ -21,9 +21,6 @@ returns c =
     let m = c .before .args .m in
     sym (held-out (signed minus m) (lt-leb (natAbs (signed minus m)) mostCount (omega (arith, abs-signed minus m))))
 
-with-sign-requires : tie.Need-with-sign-requires
-with-sign-requires c κs = search needs
-
 returns-2 : tie.Need-returns-2
 returns-2 c =
     let minus = c .before .before .args .minus in
@@ -32,4 +29,4 @@ returns-2 c =
     ∙ sym (held-in (signed minus m) (le-leb (natAbs (signed minus m)) mostCount (omega (arith, abs-signed minus m))))
 
 pub held-spec : {M : Type 1} → statement M
-held-spec = tie.close (tie.spec returns with-sign-requires returns-2)
+held-spec = tie.close (tie.spec returns (λ c κs. search needs) returns-2)

@@ -9,11 +9,8 @@ use Rattle.answers.specs.Refusals.{mostCount}
 use Rattle.answers.proofs.is_count.Statement.{statement}
 use Rattle.answers.proofs.is_count.Tie as tie
 
-magnitude-requires : tie.Need-magnitude-requires
-magnitude-requires c κs = search needs
-
 returns : tie.Need-returns
 returns c = ap (λ (m : ℕ). leb m mostCount) (rw (toZ-ofZ (c .before .fits .x)) at (c .magnitude .ensures))
 
 pub is-count-spec : {M : Type 1} → statement M
-is-count-spec = tie.close (tie.spec magnitude-requires returns)
+is-count-spec = tie.close (tie.spec (λ c κs. search needs) returns)

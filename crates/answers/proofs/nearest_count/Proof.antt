@@ -12,18 +12,6 @@ use Rattle.answers.specs.Refusals.{held}
 use Rattle.answers.proofs.nearest_count.Statement.{statement}
 use Rattle.answers.proofs.nearest_count.Tie as tie
 
-below-zero-requires : tie.Need-below-zero-requires
-below-zero-requires c κs = search needs
-
-magnitude-requires : tie.Need-magnitude-requires
-magnitude-requires c κs = search needs
-
-nearest-requires : tie.Need-nearest-requires
-nearest-requires c κs = search needs
-
-held-requires : tie.Need-held-requires
-held-requires c κs = search needs
-
 returns : tie.Need-returns
 returns c =
     let s = c .before .before .before .before in
@@ -35,4 +23,4 @@ returns c =
 pub nearest-count-spec : {M : Type 1} → statement M
 nearest-count-spec =
     tie.close
-    (tie.spec below-zero-requires magnitude-requires nearest-requires held-requires returns)
+    (tie.spec (λ c κs. search needs) (λ c κs. search needs) (λ c κs. search needs) (λ c κs. search needs) returns)

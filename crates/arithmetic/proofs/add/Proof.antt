@@ -1,6 +1,5 @@
 -- `arithmetic::add` meets its contract: what is admitted has instants, and what is refused is refused.
 -- Assumes nothing.
-use Prim.Native.Nat.{ℕ}
 use mathlib.Core.Path.{_≡_, sym, _∙_, ap, ap₂}
 use mathlib.Core.List.{[], _∷_}
 use native.Mathlib.Omega.{arith}
@@ -24,12 +23,6 @@ use Rattle.arithmetic.specs.Sum.{joinedFrame, joined}
 use Rattle.arithmetic.proofs.add.Statement.{statement}
 use Rattle.arithmetic.proofs.add.Tie as tie
 
-admit-both-requires : tie.Need-admit-both-requires
-admit-both-requires c κs = search needs
-
-enum-told : tie.Need-enum-told
-enum-told c = search needs
-
 passed : (c : tie.After-enum-told) → let s = c .before .before .before in judged (admitsBoth (s .args .a) (s .args .b)) ≡ verdict.Passed
 passed c = sym (c .before .before .admit-both .ensures) ∙ c .enum-told .given .1
 
@@ -38,12 +31,6 @@ left c = let s = c .before .before .before .args in admitsBoth-left (s .a) (s .b
 
 right : (c : tie.After-enum-told) → Valid (c .before .before .before .args .b)
 right c = let s = c .before .before .before .args in admitsBoth-right (s .a) (s .b) (judged-clear (admitsBoth (s .a) (s .b)) (passed c))
-
-instant-of-requires : tie.Need-instant-of-requires
-instant-of-requires c κs = search needs
-
-instant-of-requires-2 : tie.Need-instant-of-requires-2
-instant-of-requires-2 c κs = search needs
 
 -- the two instants, as the machine reads them
 x-is : (c : tie.After-instant-of) → toZ w64 (ofZ w64 (c .instant-of .result)) ≡ instant (c .before .before .before .before .args .a)
@@ -56,12 +43,6 @@ sum-requires : tie.Need-sum-requires
 sum-requires c κs =
     let t = c .before .before in
     rw (x-is (c .before), y-is c) (omega (arith, instant-abs-le _ (left t), instant-abs-le _ (right t)))
-
-moved-requires : tie.Need-moved-requires
-moved-requires c κs = search needs
-
-enum-known-e : tie.Need-enum-known-e
-enum-known-e c = search needs
 
 returns : tie.Need-returns
 unfolding joined held
@@ -89,12 +70,12 @@ pub add-spec : {M : Type 1} → statement M
 add-spec =
     tie.close
     (tie.spec
-    admit-both-requires
-    enum-told
-    instant-of-requires
-    instant-of-requires-2
+    (λ c κs. search needs)
+    (λ c. search needs)
+    (λ c κs. search needs)
+    (λ c κs. search needs)
     sum-requires
-    moved-requires
-    enum-known-e
+    (λ c κs. search needs)
+    (λ c. search needs)
     returns
     returns-2)

@@ -1,10 +1,10 @@
 -- `arithmetic::cmp` meets its contract: what is admitted has instants, and what is refused is refused.
 -- Assumes nothing.
-use mathlib.Core.Path.{_≡_, sym, _∙_, ap, ap₂}
+use mathlib.Core.Path.{sym, _∙_, ap, ap₂}
 use borrow.Author.Needs.{needs}
 use mir.Facts.{toZ-ofZ}
 use Rattle.answers.specs.declared.Verdict.the-variants as verdict
-use Rattle.answers.specs.Order.{judged, Clear}
+use Rattle.answers.specs.Order.{Clear}
 use Rattle.answers.specs.OrderLaws.{judged-refused, judged-clear, unless-clear}
 use Rattle.timecodes.specs.Admitted.{admitsBoth}
 use Rattle.timecodes.specs.AdmittedLaws.{admitsBoth-left, admitsBoth-right}
@@ -15,28 +15,10 @@ use Rattle.arithmetic.specs.Compare.{orderOf, compareOf}
 use Rattle.arithmetic.proofs.cmp.Statement.{statement}
 use Rattle.arithmetic.proofs.cmp.Tie as tie
 
-admit-both-requires : tie.Need-admit-both-requires
-admit-both-requires c κs = search needs
-
-enum-told : tie.Need-enum-told
-enum-told c = search needs
-
 clear : (c : tie.After-enum-told) → let s = c .before .before .before in Clear (admitsBoth (s .args .a) (s .args .b))
 clear c =
     let s = c .before .before .before .args in
     judged-clear (admitsBoth (s .a) (s .b)) (sym (c .before .before .admit-both .ensures) ∙ c .enum-told .given .1)
-
-instant-of-requires : tie.Need-instant-of-requires
-instant-of-requires c κs = search needs
-
-instant-of-requires-2 : tie.Need-instant-of-requires-2
-instant-of-requires-2 c κs = search needs
-
-order-requires : tie.Need-order-requires
-order-requires c κs = search needs
-
-enum-known-e : tie.Need-enum-known-e
-enum-known-e c = search needs
 
 returns : tie.Need-returns
 unfolding compareOf
@@ -67,11 +49,11 @@ pub cmp-spec : {M : Type 1} → statement M
 cmp-spec =
     tie.close
     (tie.spec
-    admit-both-requires
-    enum-told
-    instant-of-requires
-    instant-of-requires-2
-    order-requires
-    enum-known-e
+    (λ c κs. search needs)
+    (λ c. search needs)
+    (λ c κs. search needs)
+    (λ c κs. search needs)
+    (λ c κs. search needs)
+    (λ c. search needs)
     returns
     returns-2)

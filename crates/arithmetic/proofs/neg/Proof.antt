@@ -17,12 +17,6 @@ use Rattle.answers.specs.declared.Counted.the-variants.{Count}
 use Rattle.arithmetic.proofs.neg.Statement.{statement}
 use Rattle.arithmetic.proofs.neg.Tie as tie
 
-admit-requires : tie.Need-admit-requires
-admit-requires c κs = search needs
-
-enum-told : tie.Need-enum-told
-enum-told c = search needs
-
 passed : (c : tie.After-enum-told) → judged (admits (c .before .before .before .args .tc)) ≡ verdict.Passed
 passed c = sym (c .before .before .admit .ensures) ∙ c .enum-told .given .1
 
@@ -35,12 +29,6 @@ negated-requires : tie.Need-negated-requires
 negated-requires c κs =
     let tc = c .before .before .before .before .args .tc in
     rw (count-is c) (valid-count-le tc (admits-valid tc (judged-clear (admits tc) (passed (c .before)))))
-
-moved-requires : tie.Need-moved-requires
-moved-requires c κs = search needs
-
-enum-known-e : tie.Need-enum-known-e
-enum-known-e c = search needs
 
 returns : tie.Need-returns
 unfolding negOf
@@ -61,4 +49,4 @@ returns-2 c =
 pub neg-spec : {M : Type 1} → statement M
 neg-spec =
     tie.close
-    (tie.spec admit-requires enum-told negated-requires moved-requires enum-known-e returns returns-2)
+    (tie.spec (λ c κs. search needs) (λ c. search needs) negated-requires (λ c κs. search needs) (λ c. search needs) returns returns-2)

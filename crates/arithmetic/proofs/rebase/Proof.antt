@@ -17,9 +17,6 @@ use Rattle.arithmetic.specs.Count.{rebaseOf}
 use Rattle.arithmetic.proofs.rebase.Statement.{statement}
 use Rattle.arithmetic.proofs.rebase.Tie as tie
 
-is-rate-requires : tie.Need-is-rate-requires
-is-rate-requires c κs = search needs
-
 returns : tie.Need-returns
 unfolding rebaseOf
 returns c = simp (fails (c .before .is-rate .ensures) (c .if1 .taken))
@@ -27,22 +24,10 @@ returns c = simp (fails (c .before .is-rate .ensures) (c .if1 .taken))
 rated : (c : tie.Else1) → isRate (c .before .before .args .rate) ≡ true
 rated c = passes (c .before .is-rate .ensures) (c .if1 .left)
 
-admit-requires : tie.Need-admit-requires
-admit-requires c κs = search needs
-
-enum-told : tie.Need-enum-told
-enum-told c = search needs
-
 -- the count, as the machine reads it
 count-is : (c : tie.After-struct-told) → let tc = c .before .before .before .before .before .before .args .tc in
     toZ w64 (ofZ w64 (tc .count)) ≡ tc .count
 count-is c = search needs
-
-moved-requires : tie.Need-moved-requires
-moved-requires c κs = search needs
-
-enum-known-e : tie.Need-enum-known-e
-enum-known-e c = search needs
 
 returns-2 : tie.Need-returns-2
 unfolding rebaseOf
@@ -68,11 +53,11 @@ pub rebase-spec : {M : Type 1} → statement M
 rebase-spec =
     tie.close
     (tie.spec
-    is-rate-requires
+    (λ c κs. search needs)
     returns
-    admit-requires
-    enum-told
-    moved-requires
-    enum-known-e
+    (λ c κs. search needs)
+    (λ c. search needs)
+    (λ c κs. search needs)
+    (λ c. search needs)
     returns-2
     returns-3)

@@ -18,26 +18,8 @@ Inv-loop chunk buffer₀ out₀ t₀ buffer out t = (length buffer ≡ length bu
 abbrev μ-loop : tie.MeasureT-loop
 μ-loop chunk buffer₀ out₀ t₀ buffer out t = length chunk - t .next
 
-loop-holds : tie.Need-loop-holds Inv-loop μ-loop
-loop-holds c = search needs
-
-step-requires : tie.Need-step-requires Inv-loop μ-loop
-step-requires c κs = search needs
-
 loop-less : tie.Need-loop-less Inv-loop μ-loop
 loop-less c = let s = c .before .before .before .before .before .before .before .before .before .loop in omega (arith, next-more (c .before .before .before .before .before .before .before .before .before .before .before .before .before .args .chunk .now) (s .t .next) _ (s .buffer) (s .t .gathered) (c .before .before .before .before .before .before .before .if1 .taken) (c .before .before .before .before .step .ensures .0))
-
-loop-again : tie.Need-loop-again Inv-loop μ-loop
-loop-again c = search needs
-
-same-length : tie.Need-same-length Inv-loop μ-loop
-same-length c = search needs
-
-same-length-2 : tie.Need-same-length-2 Inv-loop μ-loop
-same-length-2 c = search needs
-
-returns : tie.Need-returns Inv-loop μ-loop
-returns c = search needs
 
 pub feed-spec : {M : Type 1} → statement M
 feed-spec =
@@ -45,10 +27,10 @@ feed-spec =
     (tie.spec
     Inv-loop
     μ-loop
-    loop-holds
-    step-requires
+    (λ c. search needs)
+    (λ c κs. search needs)
     loop-less
-    loop-again
-    same-length
-    same-length-2
-    returns)
+    (λ c. search needs)
+    (λ c. search needs)
+    (λ c. search needs)
+    (λ c. search needs))

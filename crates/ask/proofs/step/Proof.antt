@@ -11,28 +11,10 @@ use Rattle.ask.proofs.answer.answer.Reads as answer-reads
 use Rattle.streams.proofs.gathered.Gathered.new.Reads as new-reads
 use Rattle.streams.proofs.gather.Reads as gather-reads
 
-gather-requires : tie.Need-gather-requires
-gather-requires c κs = search needs
-
-answer-requires : tie.Need-answer-requires
-answer-requires c κs = search needs
-
-new-requires : tie.Need-new-requires
-new-requires c κs = search needs
-
-same-length : tie.Need-same-length
-same-length c = search needs
-
-same-length-2 : tie.Need-same-length-2
-same-length-2 c = search needs
-
 returns : tie.Need-returns
 returns c =
     let e = c .before .before .before .before .before .before .before .before .before .before .gather .ensures in
     (ap (λ z. z .next) (e .0), (gone-ended _ _ _ (c .new .ensures) (e .0) (c .before .before .before .before .before .before .if1 .taken), e .1))
-
-same-length-3 : tie.Need-same-length-3
-same-length-3 c = search needs
 
 returns-2 : tie.Need-returns-2
 returns-2 c =
@@ -43,11 +25,11 @@ pub step-spec : {M : Type 1} → statement M
 step-spec =
     tie.close
     (tie.spec
-    gather-requires
-    answer-requires
-    new-requires
-    same-length
-    same-length-2
+    (λ c κs. search needs)
+    (λ c κs. search needs)
+    (λ c κs. search needs)
+    (λ c. search needs)
+    (λ c. search needs)
     returns
-    same-length-3
+    (λ c. search needs)
     returns-2)

@@ -22,15 +22,6 @@ abbrev μ-loop : tie.MeasureT-loop
 loop-holds : tie.Need-loop-holds Inv-loop μ-loop
 loop-holds c = (omega arith, refl)
 
-mul-is-rate : tie.Need-mul-is-rate Inv-loop μ-loop
-mul-is-rate c = search needs
-
-shared-slice-read-is-rate : tie.Need-shared-slice-read-is-rate Inv-loop μ-loop
-shared-slice-read-is-rate c = search needs
-
-is-rate-requires : tie.Need-is-rate-requires Inv-loop μ-loop
-is-rate-requires c κs = search needs
-
 returns : tie.Need-returns Inv-loop μ-loop
 returns c =
     let k = c .before .before .before .before in
@@ -38,12 +29,6 @@ returns c =
     let below : k .loop .i < length l = search needs in
     let none : isRate (getD l (k .loop .i) 0) ≡ false = fails (c .before .is-rate .ensures) (c .if1 .taken) in
     rw (from-here l (k .loop .i) below, none) at (k .loop .inv .1)
-
-add-i : tie.Need-add-i Inv-loop μ-loop
-add-i c = search needs
-
-loop-less : tie.Need-loop-less Inv-loop μ-loop
-loop-less c = search needs
 
 loop-again : tie.Need-loop-again Inv-loop μ-loop
 loop-again c =
@@ -67,11 +52,11 @@ all-rates-spec =
     Inv-loop
     μ-loop
     loop-holds
-    mul-is-rate
-    shared-slice-read-is-rate
-    is-rate-requires
+    (λ c. search needs)
+    (λ c. search needs)
+    (λ c κs. search needs)
     returns
-    add-i
-    loop-less
+    (λ c. search needs)
+    (λ c. search needs)
     loop-again
     returns-2)

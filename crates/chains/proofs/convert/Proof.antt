@@ -16,9 +16,6 @@ use Rattle.chains.specs.ChainLaws.{convertOf-out, convertOf-in}
 use Rattle.chains.proofs.convert.Statement.{statement}
 use Rattle.chains.proofs.convert.Tie as tie
 
-all-rates-requires : tie.Need-all-rates-requires
-all-rates-requires c κs = search needs
-
 returns : tie.Need-returns
 returns c =
     let a = c .before .before .before .args in
@@ -26,12 +23,6 @@ returns c =
 
 listed : (c : tie.Else1) → every isRate (c .before .before .before .args .list .now) ≡ true
 listed c = passes (c .before .all-rates .ensures) (c .if1 .left)
-
-admit-requires : tie.Need-admit-requires
-admit-requires c κs = search needs
-
-enum-told : tie.Need-enum-told
-enum-told c = search needs
 
 -- what is admitted is clear of the timecode's own conditions
 clear : (c : tie.After-enum-told) → Clear (admits (c .before .before .before .before .before .before .args .tc))
@@ -41,9 +32,6 @@ clear c =
 
 carry-requires : tie.Need-carry-requires
 carry-requires c κs = (admits-valid _ (clear c), listed (c .before .before .before))
-
-enum-known-e : tie.Need-enum-known-e
-enum-known-e c = search needs
 
 returns-2 : tie.Need-returns-2
 returns-2 c =
@@ -63,11 +51,11 @@ pub convert-spec : {M : Type 1} → statement M
 convert-spec =
     tie.close
     (tie.spec
-    all-rates-requires
+    (λ c κs. search needs)
     returns
-    admit-requires
-    enum-told
+    (λ c κs. search needs)
+    (λ c. search needs)
     carry-requires
-    enum-known-e
+    (λ c. search needs)
     returns-2
     returns-3)

@@ -19,18 +19,6 @@ use Rattle.chains.specs.Chain.{nearestFrame, stepOf}
 use Rattle.chains.proofs.step.Statement.{statement}
 use Rattle.chains.proofs.step.Tie as tie
 
-instant-of-requires : tie.Need-instant-of-requires
-instant-of-requires c κs = search needs
-
-row-requires : tie.Need-row-requires
-row-requires c κs = search needs
-
-nearest-count-requires : tie.Need-nearest-count-requires
-nearest-count-requires c κs = search needs
-
-moved-requires : tie.Need-moved-requires
-moved-requires c κs = search needs
-
 -- what the two operands of the nearest count are
 instant-is : (c : tie.After-instant-of) → toZ w64 (ofZ w64 (c .instant-of .result)) ≡ instant (c .before .args .tc)
 instant-is c =
@@ -54,4 +42,4 @@ returns c =
     ∙ moved-held (a .tc) (a .next) (nearestFrame (a .tc) (a .next))
 
 pub step-spec : {M : Type 1} → statement M
-step-spec = tie.close (tie.spec instant-of-requires row-requires nearest-count-requires moved-requires returns)
+step-spec = tie.close (tie.spec (λ c κs. search needs) (λ c κs. search needs) (λ c κs. search needs) (λ c κs. search needs) returns)

@@ -1,7 +1,7 @@
 -- `feeding::answer` meets its contract: the answer is laid down behind what is used, or nothing is.
 -- Assumes nothing.
 use Prim.Native.Nat.{_-_}
-use mathlib.Core.Path.{_≡_, ap, _∙_}
+use mathlib.Core.Path.{ap, _∙_}
 use mathlib.Core.Logic.{⊎-elim}
 use native.Mathlib.Omega.{arith}
 use lib.ListN.{take}
@@ -17,33 +17,12 @@ use Rattle.feeding.proofs.least.Reads as least-reads
 use Rattle.lines.proofs.answer.Reads as answer-reads
 use Rattle.written.proofs.length.Reads as length-reads
 
-least-requires : tie.Need-least-requires
-least-requires c κs = search needs
-
-sub-answer : tie.Need-sub-answer
-sub-answer c = search needs
-
-part-answer-start : tie.Need-part-answer-start
-part-answer-start c = search needs
-
-part-answer-end : tie.Need-part-answer-end
-part-answer-end c = search needs
-
-answer-requires : tie.Need-answer-requires
-answer-requires c κs = search needs
-
-length-requires : tie.Need-length-requires
-length-requires c κs = search needs
-
 add-result : tie.Need-add-result
 add-result c =
     let a = c .before .before .before .before .before .before .before .before .before .args in
     let e = c .length .ensures ∙ ap lengthOf (c .before .before .before .answer .ensures .0) in
     ⊎-elim (λ h. omega (arith, e, h)) (λ h. omega (arith, e, h))
     (laid-fits (a .out .now) (a .used) (answerText (take (c .before .before .before .before .before .before .least .result - 0) (a .buffer .now))))
-
-same-length : tie.Need-same-length
-same-length c = search needs
 
 returns : tie.Need-returns
 returns c = let a = c .before .before .before .before .before .before .before .before .before .args in answer-is (a .buffer .now) (a .g) (a .out .now) (a .used) _ (c .before .before .before .before .before .before .least .ensures) _ _ _ (c .before .before .before .answer .ensures .0) (c .before .before .before .answer .ensures .1) (c .length .ensures)
@@ -52,12 +31,12 @@ pub answer-spec : {M : Type 1} → statement M
 answer-spec =
     tie.close
     (tie.spec
-    least-requires
-    sub-answer
-    part-answer-start
-    part-answer-end
-    answer-requires
-    length-requires
+    (λ c κs. search needs)
+    (λ c. search needs)
+    (λ c. search needs)
+    (λ c. search needs)
+    (λ c κs. search needs)
+    (λ c κs. search needs)
     add-result
-    same-length
+    (λ c. search needs)
     returns)

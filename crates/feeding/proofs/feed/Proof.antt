@@ -1,7 +1,7 @@
 -- `feeding::feed` meets its contract: what is wanted from here is what is wanted from the start.
 -- Assumes nothing.
 use Prim.Native.Nat.{_-_}
-use mathlib.Core.Path.{_≡_, sym, ap, _∙_}
+use mathlib.Core.Path.{sym, ap}
 use native.Mathlib.Omega.{arith}
 use lib.ListN.{length}
 use borrow.Author.Needs.{needs}
@@ -22,12 +22,6 @@ abbrev μ-loop : tie.MeasureT-loop
 
 loop-holds : tie.Need-loop-holds Inv-loop μ-loop
 loop-holds c = run-start _ _
-
-goes-on-requires : tie.Need-goes-on-requires Inv-loop μ-loop
-goes-on-requires c κs = search needs
-
-step-requires : tie.Need-step-requires Inv-loop μ-loop
-step-requires c κs = search needs
 
 loop-less : tie.Need-loop-less Inv-loop μ-loop
 loop-less c =
@@ -64,8 +58,8 @@ feed-spec =
     Inv-loop
     μ-loop
     loop-holds
-    goes-on-requires
-    step-requires
+    (λ c κs. search needs)
+    (λ c κs. search needs)
     loop-less
     loop-again
     same-length

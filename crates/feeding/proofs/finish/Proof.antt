@@ -10,20 +10,11 @@ use Rattle.feeding.proofs.finish.Lts as lts
 use Rattle.feeding.proofs.answer.Reads as answer-reads
 use Rattle.streams.proofs.gathered.Gathered.is_empty.Reads as is-empty-reads
 
-is-empty-requires : tie.Need-is-empty-requires
-is-empty-requires c κs = search needs
-
 returns : tie.Need-returns
 returns c = let a = c .before .before .before .before .args in finished-none (a .buffer .now) (a .out .now) (a .g) (sym (c .before .is-empty .ensures) ∙ c .if1 .taken)
-
-answer-requires : tie.Need-answer-requires
-answer-requires c κs = search needs
-
-same-length : tie.Need-same-length
-same-length c = search needs
 
 returns-2 : tie.Need-returns-2
 returns-2 c = let a = c .before .before .before .before .before .before .before .before .args in finished-last (a .buffer .now) (a .out .now) (a .g) _ _ (sym (c .before .before .before .before .before .is-empty .ensures) ∙ c .before .before .before .before .if1 .left) (c .before .before .answer .ensures)
 
 pub finish-spec : {M : Type 1} → statement M
-finish-spec = tie.close (tie.spec is-empty-requires returns answer-requires same-length returns-2)
+finish-spec = tie.close (tie.spec (λ c κs. search needs) returns (λ c κs. search needs) (λ c. search needs) returns-2)

@@ -8,9 +8,6 @@ use Rattle.feeding.proofs.goes_on.Reads as reads
 use Rattle.feeding.proofs.goes_on.Lts as lts
 use Rattle.lent.proofs.room.Reads as room-reads
 
-room-requires : tie.Need-room-requires
-room-requires c κs = search needs
-
 returns : tie.Need-returns
 returns c = let a = c .before .before .args in on-yes (a .i) (a .n) (a .total) (a .used) _ (c .before .if1 .taken) (c .room .ensures)
 
@@ -18,4 +15,4 @@ returns-2 : tie.Need-returns-2
 returns-2 c = let a = c .before .args in on-no (a .i) (a .n) (a .total) (a .used) (c .if1 .left)
 
 pub goes-on-spec : {M : Type 1} → statement M
-goes-on-spec = tie.close (tie.spec room-requires returns returns-2)
+goes-on-spec = tie.close (tie.spec (λ c κs. search needs) returns returns-2)

@@ -6,48 +6,6 @@ use Rattle.film.specs.Footage.{footageCount}
 use Rattle.film.proofs.count_of.Statement.{statement}
 use Rattle.film.proofs.count_of.Tie as tie
 
-enum-told : tie.Need-enum-told
-enum-told c = search needs
-
-mul-result : tie.Need-mul-result
-mul-result c = search needs
-
-add-result : tie.Need-add-result
-add-result c = search needs
-
-enum-told-2 : tie.Need-enum-told-2
-enum-told-2 c = search needs
-
-mul-result-2 : tie.Need-mul-result-2
-mul-result-2 c = search needs
-
-mul-result-3 : tie.Need-mul-result-3
-mul-result-3 c = search needs
-
-add-result-2 : tie.Need-add-result-2
-add-result-2 c = search needs
-
-add-result-3 : tie.Need-add-result-3
-add-result-3 c = search needs
-
-enum-told-3 : tie.Need-enum-told-3
-enum-told-3 c = search needs
-
-mul-result-4 : tie.Need-mul-result-4
-mul-result-4 c = search needs
-
-add-result-4 : tie.Need-add-result-4
-add-result-4 c = search needs
-
-enum-told-4 : tie.Need-enum-told-4
-enum-told-4 c = search needs
-
-mul-result-5 : tie.Need-mul-result-5
-mul-result-5 c = search needs
-
-add-result-5 : tie.Need-add-result-5
-add-result-5 c = search needs
-
 returns : tie.Need-returns
 unfolding footageCount
 returns c =
@@ -76,20 +34,20 @@ pub count-of-spec : {M : Type 1} → statement M
 count-of-spec =
     tie.close
     (tie.spec
-    enum-told
-    mul-result
-    add-result
-    enum-told-2
-    mul-result-2
-    mul-result-3
-    add-result-2
-    add-result-3
-    enum-told-3
-    mul-result-4
-    add-result-4
-    enum-told-4
-    mul-result-5
-    add-result-5
+    (λ c. search needs)
+    (λ c. search needs)
+    (λ c. search needs)
+    (λ c. search needs)
+    (λ c. search needs)
+    (λ c. search needs)
+    (λ c. search needs)
+    (λ c. search needs)
+    (λ c. search needs)
+    (λ c. search needs)
+    (λ c. search needs)
+    (λ c. search needs)
+    (λ c. search needs)
+    (λ c. search needs)
     returns
     returns-2
     returns-3

@@ -11,11 +11,8 @@ returns : tie.Need-returns
 unfolding footageIn
 returns c = search tests
 
-footage-of-requires : tie.Need-footage-of-requires
-footage-of-requires c κs = search needs
-
 returns-2 : tie.Need-returns-2
 returns-2 c = c .footage-of .ensures ∙ sym (footageIn-in _ _ (c .before .if1 .left))
 
 pub feet-and-frames-spec : {M : Type 1} → statement M
-feet-and-frames-spec = tie.close (tie.spec returns footage-of-requires returns-2)
+feet-and-frames-spec = tie.close (tie.spec returns (λ c κs. search needs) returns-2)

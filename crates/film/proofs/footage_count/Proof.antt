@@ -30,16 +30,10 @@ returns-2 c =
     let a = c .before .before .args in
     above (a .minus) (footageCount (a .format) (a .feet) (a .frames)) (omega (arith, count-ge (a .format) (a .feet) (a .frames)))
 
-count-of-requires : tie.Need-count-of-requires
-count-of-requires c κs = search needs
-
-held-requires : tie.Need-held-requires
-held-requires c κs = search needs
-
 returns-3 : tie.Need-returns-3
 returns-3 c =
     let minus = c .before .before .before .before .args .minus in
     c .held .ensures ∙ ap (λ m. held (signed minus m)) (c .before .count-of .ensures)
 
 pub footage-count-spec : {M : Type 1} → statement M
-footage-count-spec = tie.close (tie.spec returns returns-2 count-of-requires held-requires returns-3)
+footage-count-spec = tie.close (tie.spec returns returns-2 (λ c κs. search needs) (λ c κs. search needs) returns-3)

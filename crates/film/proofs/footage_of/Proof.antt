@@ -9,12 +9,6 @@ use Rattle.film.specs.FootageLaws.{perfs-le}
 use Rattle.film.proofs.footage_of.Statement.{statement}
 use Rattle.film.proofs.footage_of.Tie as tie
 
-perfs-per-frame-requires : tie.Need-perfs-per-frame-requires
-perfs-per-frame-requires c κs = search needs
-
-perfs-per-foot-requires : tie.Need-perfs-per-foot-requires
-perfs-per-foot-requires c κs = search needs
-
 mul-last-perf : tie.Need-mul-last-perf
 mul-last-perf c = record { fits = omega (arith, perfs-le (c .before .before .args .format) (c .before .before .args .f) _ (c .before .perfs-per-frame .ensures)) }
 
@@ -41,8 +35,8 @@ pub footage-of-spec : {M : Type 1} → statement M
 footage-of-spec =
     tie.close
     (tie.spec
-    perfs-per-frame-requires
-    perfs-per-foot-requires
+    (λ c κs. search needs)
+    (λ c κs. search needs)
     mul-last-perf
     add-last-perf
     sub-last-perf

@@ -6,18 +6,9 @@ use Rattle.footage_scan.specs.Footage.{footageFrom, footageScan}
 use Rattle.footage_scan.proofs.scan_footage.Statement.{statement}
 use Rattle.footage_scan.proofs.scan_footage.Tie as tie
 
-scan-text-requires : tie.Need-scan-text-requires
-scan-text-requires c κs = search needs
-
-array-read-t9 : tie.Need-array-read-t9
-array-read-t9 c = search needs
-
-array-read-t12 : tie.Need-array-read-t12
-array-read-t12 c = search needs
-
 returns : tie.Need-returns
 unfolding footageScan
 returns c = ap footageFrom (c .before .before .scan-text .ensures)
 
 pub scan-footage-spec : {M : Type 1} → statement M
-scan-footage-spec = tie.close (tie.spec scan-text-requires array-read-t9 array-read-t12 returns)
+scan-footage-spec = tie.close (tie.spec (λ c κs. search needs) (λ c. search needs) (λ c. search needs) returns)

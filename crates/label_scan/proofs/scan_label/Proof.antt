@@ -6,12 +6,9 @@ use Rattle.label_scan.specs.Label.{labelFrom, labelScan}
 use Rattle.label_scan.proofs.scan_label.Statement.{statement}
 use Rattle.label_scan.proofs.scan_label.Tie as tie
 
-scan-text-requires : tie.Need-scan-text-requires
-scan-text-requires c κs = search needs
-
 returns : tie.Need-returns
 unfolding labelScan
 returns c = ap labelFrom (c .before .scan-text .ensures)
 
 pub scan-label-spec : {M : Type 1} → statement M
-scan-label-spec = tie.close (tie.spec scan-text-requires returns)
+scan-label-spec = tie.close (tie.spec (λ c κs. search needs) returns)

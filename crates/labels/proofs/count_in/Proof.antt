@@ -23,38 +23,11 @@ taken-small c =
     let f = c .args .t1 in
     dropped-le (c .args .timebase) (c .args .d) (omega arith) (hoursIn f) (minutesIn f) (secondsIn f) (framesIn f)
 
-array-read-m : tie.Need-array-read-m
-array-read-m c = search needs
-
-mul-m : tie.Need-mul-m
-mul-m c = search needs
-
-array-read-m-2 : tie.Need-array-read-m-2
-array-read-m-2 c = search needs
-
-add-m : tie.Need-add-m
-add-m c = search needs
-
-mul-result : tie.Need-mul-result
-mul-result c = search needs
-
-array-read-result : tie.Need-array-read-result
-array-read-result c = search needs
-
-add-result : tie.Need-add-result
-add-result c = search needs
-
 mul-result-2 : tie.Need-mul-result-2
 mul-result-2 c = omega (arith, number-small c)
 
-array-read-result-2 : tie.Need-array-read-result-2
-array-read-result-2 c = search needs
-
 add-result-2 : tie.Need-add-result-2
 add-result-2 c = omega (arith, number-small c)
-
-sub-result : tie.Need-sub-result
-sub-result c = search needs
 
 mul-result-3 : tie.Need-mul-result-3
 mul-result-3 c = omega (arith, number-small c, taken-small c)
@@ -70,17 +43,17 @@ pub count-in-spec : {M : Type 1} → statement M
 count-in-spec =
     tie.close
     (tie.spec
-    array-read-m
-    mul-m
-    array-read-m-2
-    add-m
-    mul-result
-    array-read-result
-    add-result
+    (λ c. search needs)
+    (λ c. search needs)
+    (λ c. search needs)
+    (λ c. search needs)
+    (λ c. search needs)
+    (λ c. search needs)
+    (λ c. search needs)
     mul-result-2
-    array-read-result-2
+    (λ c. search needs)
     add-result-2
-    sub-result
+    (λ c. search needs)
     mul-result-3
     sub-result-2
     returns)

@@ -35,21 +35,6 @@ module _ (timebase D n : ℕ) (small : timebase ≤ 60) (d : D < timebase) (h : 
       let z : n % tens - D ≡ 0 = omega arith in
       rw (z, zero-div (60 * timebase - D)) (omega arith)
 
-mul-tens : tie.Need-mul-tens
-mul-tens c = search needs
-
-mul-tens-2 : tie.Need-mul-tens-2
-mul-tens-2 c = search needs
-
-sub-tens : tie.Need-sub-tens
-sub-tens c = search needs
-
-div-t : tie.Need-div-t
-div-t c = search needs
-
-rem-rest : tie.Need-rem-rest
-rem-rest c = search needs
-
 mul-result : tie.Need-mul-result
 mul-result c =
     let a = c .before .args in
@@ -67,15 +52,6 @@ mul-result-3 : tie.Need-mul-result-3
 mul-result-3 c =
     let a = c .before .args in
     omega (arith, all-minutes (a .timebase) (a .d) (a .n) (omega arith) (omega arith) (omega arith))
-
-mul-result-4 : tie.Need-mul-result-4
-mul-result-4 c = search needs
-
-sub-result : tie.Need-sub-result
-sub-result c = search needs
-
-div-result : tie.Need-div-result
-div-result c = search needs
 
 add-result : tie.Need-add-result
 add-result c =
@@ -95,18 +71,18 @@ pub drop-frame-adjustment-spec : {M : Type 1} → statement M
 drop-frame-adjustment-spec =
     tie.close
     (tie.spec
-    mul-tens
-    mul-tens-2
-    sub-tens
-    div-t
-    rem-rest
+    (λ c. search needs)
+    (λ c. search needs)
+    (λ c. search needs)
+    (λ c. search needs)
+    (λ c. search needs)
     mul-result
     mul-result-2
     returns
     mul-result-3
-    mul-result-4
-    sub-result
-    div-result
+    (λ c. search needs)
+    (λ c. search needs)
+    (λ c. search needs)
     add-result
     mul-result-5
     returns-2)

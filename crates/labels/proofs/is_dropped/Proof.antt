@@ -9,22 +9,13 @@ use Rattle.labels.specs.LabelLaws.{kept-second, kept-frame}
 use Rattle.labels.proofs.is_dropped.Statement.{statement}
 use Rattle.labels.proofs.is_dropped.Tie as tie
 
-array-read-if1 : tie.Need-array-read-if1
-array-read-if1 c = search needs
-
 returns : tie.Need-returns
 returns c = let f = c .before .args .t1 in sym (kept-second (c .before .args .d) (minutesIn f) (secondsIn f) (framesIn f) (omega arith))
-
-array-read-if2 : tie.Need-array-read-if2
-array-read-if2 c = search needs
 
 returns-2 : tie.Need-returns-2
 returns-2 c =
     let f = c .before .before .args .t1 in
     sym (kept-frame (c .before .before .args .d) (minutesIn f) (secondsIn f) (framesIn f) (c .if2 .taken))
-
-array-read-result : tie.Need-array-read-result
-array-read-result c = search needs
 
 returns-3 : tie.Need-returns-3
 unfolding isDropped
@@ -33,4 +24,4 @@ returns-3 c = simp (eq-eqb _ 0 (c .before .if1 .left), lt-ltb _ _ (c .if2 .left)
 pub is-dropped-spec : {M : Type 1} → statement M
 is-dropped-spec =
     tie.close
-    (tie.spec array-read-if1 returns array-read-if2 returns-2 array-read-result returns-3)
+    (tie.spec (λ c. search needs) returns (λ c. search needs) returns-2 (λ c. search needs) returns-3)

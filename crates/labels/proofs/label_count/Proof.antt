@@ -24,14 +24,8 @@ use Rattle.labels.proofs.label_count.Tie as tie
 rate-is : (c : tie.Else1) → isRate (c .before .before .args .rate) ≡ true
 rate-is c = passes (c .before .is-rate .ensures) (c .if1 .left)
 
-is-rate-requires : tie.Need-is-rate-requires
-is-rate-requires c κs = search needs
-
 returns : tie.Need-returns
 returns c = sym (labelCounted-out _ _ _ (fails (c .before .is-rate .ensures) (c .if1 .taken)))
-
-is-bounded-requires : tie.Need-is-bounded-requires
-is-bounded-requires c κs = search needs
 
 returns-2 : tie.Need-returns-2
 returns-2 c =
@@ -43,21 +37,12 @@ returns-2 c =
     (labelCounted-in (a .rate) (a .minus) (a .fields) e
     ∙ held-out (signed (a .minus) m) (rw (abs-signed (a .minus) m) (lt-leb m mostCount over)))
 
-row-requires : tie.Need-row-requires
-row-requires c κs = search needs
-
-drop-frames-per-minute-requires : tie.Need-drop-frames-per-minute-requires
-drop-frames-per-minute-requires c κs = search needs
-
 count-in-requires : tie.Need-count-in-requires
 count-in-requires c κs =
     let s = c .before .before in (
       isBounded-in _ (passes (s .before .is-bounded .ensures) (s .if2 .left)),
       rate-asks _ _ _ (rate-is (s .before .before)) (c .before .row .ensures) (c .drop-frames-per-minute .ensures),
     )
-
-held-requires : tie.Need-held-requires
-held-requires c κs = search needs
 
 returns-3 : tie.Need-returns-3
 returns-3 c =
@@ -74,12 +59,12 @@ pub label-count-spec : {M : Type 1} → statement M
 label-count-spec =
     tie.close
     (tie.spec
-    is-rate-requires
+    (λ c κs. search needs)
     returns
-    is-bounded-requires
+    (λ c κs. search needs)
     returns-2
-    row-requires
-    drop-frames-per-minute-requires
+    (λ c κs. search needs)
+    (λ c κs. search needs)
     count-in-requires
-    held-requires
+    (λ c κs. search needs)
     returns-3)

@@ -17,9 +17,6 @@ use Rattle.labels.proofs.sections.Tie as tie
 rate-is : (c : tie.Else1) → isRate (c .before .before .args .rate) ≡ true
 rate-is c = passes (c .before .is-rate .ensures) (c .if1 .left)
 
-is-rate-requires : tie.Need-is-rate-requires
-is-rate-requires c κs = search needs
-
 returns : tie.Need-returns
 unfolding sectionsAt
 returns c = rw (fails (c .before .is-rate .ensures) (c .if1 .taken))
@@ -27,12 +24,6 @@ returns c = rw (fails (c .before .is-rate .ensures) (c .if1 .taken))
 returns-2 : tie.Need-returns-2
 unfolding sectionsAt
 returns-2 c = let e = rate-is (c .before) in search (tests, e)
-
-row-requires : tie.Need-row-requires
-row-requires c κs = search needs
-
-drop-frames-per-minute-requires : tie.Need-drop-frames-per-minute-requires
-drop-frames-per-minute-requires c κs = search needs
 
 sections-of-requires : tie.Need-sections-of-requires
 sections-of-requires c κs =
@@ -52,10 +43,10 @@ pub sections-spec : {M : Type 1} → statement M
 sections-spec =
     tie.close
     (tie.spec
-    is-rate-requires
+    (λ c κs. search needs)
     returns
     returns-2
-    row-requires
-    drop-frames-per-minute-requires
+    (λ c κs. search needs)
+    (λ c κs. search needs)
     sections-of-requires
     returns-3)

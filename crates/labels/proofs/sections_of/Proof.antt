@@ -9,16 +9,10 @@ use Rattle.labels.specs.Sections.{fieldsAt, sectionsOf}
 use Rattle.labels.proofs.sections_of.Statement.{statement}
 use Rattle.labels.proofs.sections_of.Tie as tie
 
-drop-frame-adjustment-requires : tie.Need-drop-frame-adjustment-requires
-drop-frame-adjustment-requires c κs = search needs
-
 add-number : tie.Need-add-number
 add-number c =
     let a = c .before .args in
     omega (arith, c .drop-frame-adjustment .ensures, dropped-short (a .timebase) (a .d) (a .n) (omega arith) (omega arith))
-
-fields-at-requires : tie.Need-fields-at-requires
-fields-at-requires c κs = search needs
 
 returns : tie.Need-returns
 unfolding sectionsOf
@@ -28,4 +22,4 @@ returns c =
 
 pub sections-of-spec : {M : Type 1} → statement M
 sections-of-spec =
-    tie.close (tie.spec drop-frame-adjustment-requires add-number fields-at-requires returns)
+    tie.close (tie.spec (λ c κs. search needs) add-number (λ c κs. search needs) returns)

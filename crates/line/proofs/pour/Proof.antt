@@ -10,18 +10,6 @@ use Rattle.line.proofs.pour.Lts as lts
 use Rattle.feeding.proofs.feed.Reads as feed-reads
 use Rattle.line.proofs.write_sheet.Reads as write-sheet-reads
 
-feed-requires : tie.Need-feed-requires
-feed-requires c κs = search needs
-
-write-sheet-requires : tie.Need-write-sheet-requires
-write-sheet-requires c κs = search needs
-
-same-length : tie.Need-same-length
-same-length c = search needs
-
-same-length-2 : tie.Need-same-length-2
-same-length-2 c = search needs
-
 returns : tie.Need-returns
 returns c =
     let a = c .before .before .before .before .before .before .before .before .before .before .before .before .before .args in
@@ -30,4 +18,4 @@ returns c =
 
 pub pour-spec : {M : Type 1} → statement M
 pour-spec =
-    tie.close (tie.spec feed-requires write-sheet-requires same-length same-length-2 returns)
+    tie.close (tie.spec (λ c κs. search needs) (λ c κs. search needs) (λ c. search needs) (λ c. search needs) returns)

@@ -17,12 +17,6 @@ returns : tie.Need-returns
 unfolding minuteAt
 returns c = search tests
 
-entry-requires : tie.Need-entry-requires
-entry-requires c κs = search needs
-
-cast-t6 : tie.Need-cast-t6
-cast-t6 c = search needs
-
 returns-2 : tie.Need-returns-2
 unfolding minuteAt
 returns-2 c =
@@ -32,4 +26,4 @@ returns-2 c =
     rw (le-leb m 1439 (c .before .if1 .left)) (ap Count start)
 
 pub minute-start-spec : {M : Type 1} → statement M
-minute-start-spec = tie.close (tie.spec returns entry-requires cast-t6 returns-2)
+minute-start-spec = tie.close (tie.spec returns (λ c κs. search needs) (λ c. search needs) returns-2)

@@ -34,9 +34,6 @@ returns c =
     let f = c .before .fits .x in
     ap (λ (z : ℤ). natAbs z + 1) (back-is x f (c .if1 .taken)) ∙ add-one (mag x) ∙ sym (ap natAbs (x-is x f (c .if1 .taken)))
 
-returns-2 : tie.Need-returns-2
-returns-2 c = search needs
-
 pub magnitude-spec : {M : Type 1} → statement M
 magnitude-spec =
-    tie.close (tie.spec add-up sub-flipped cast-result add-result cast-result-2 returns returns-2)
+    tie.close (tie.spec add-up sub-flipped cast-result add-result cast-result-2 returns (λ c. search needs))

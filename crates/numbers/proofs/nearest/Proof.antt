@@ -14,11 +14,5 @@ returns c =
     let a = c .before .args .a in
     sym (ap (nearestN a) (c .if1 .taken) ∙ div-zero (2 * a + 0))
 
-nearest-requires : tie.Need-nearest-requires
-nearest-requires c κs = search needs
-
-returns-2 : tie.Need-returns-2
-returns-2 c = search needs
-
 pub nearest-spec : {M : Type 1} → statement M
-nearest-spec = tie.close (tie.spec returns nearest-requires returns-2)
+nearest-spec = tie.close (tie.spec returns (λ c κs. search needs) (λ c. search needs))

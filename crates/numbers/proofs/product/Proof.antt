@@ -30,15 +30,6 @@ test-is : (c : tie.After-product)
     (natAbs (toZ w64 (ofZ w64 (c .before .before .before .args .y))))
 test-is c = c .product .ensures ∙ ap₂ within (c .before .before .magnitude .ensures) (c .before .magnitude2 .ensures)
 
-magnitude-requires : tie.Need-magnitude-requires
-magnitude-requires c κs = search needs
-
-magnitude-requires-2 : tie.Need-magnitude-requires-2
-magnitude-requires-2 c κs = search needs
-
-product-requires : tie.Need-product-requires
-product-requires c κs = search needs
-
 product-requires-2 : tie.Need-product-requires-2
 product-requires-2 c κs = ltb-true _ _ (sym (test-is (c .before)) ∙ c .if1 .taken)
 
@@ -57,4 +48,4 @@ returns-2 c =
     ∙ read-two answer (s .args .x) (s .args .y) (s .fits .x) (s .fits .y)
 
 pub product-spec : {M : Type 1} → statement M
-product-spec = tie.close (tie.spec magnitude-requires magnitude-requires-2 product-requires product-requires-2 returns returns-2)
+product-spec = tie.close (tie.spec (λ c κs. search needs) (λ c κs. search needs) (λ c κs. search needs) product-requires-2 returns returns-2)

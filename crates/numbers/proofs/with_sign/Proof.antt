@@ -10,12 +10,9 @@ use Rattle.numbers.proofs.with_sign.Tie as tie
 returns : tie.Need-returns
 returns c = sym (fitted-out _ _ (c .if1 .taken))
 
-with-sign-requires : tie.Need-with-sign-requires
-with-sign-requires c κs = search needs
-
 returns-2 : tie.Need-returns-2
 returns-2 c =
     toZ-ofZ (record { sfits = c .with-sign .ok }) ∙ c .with-sign .ensures ∙ sym (fitted-in _ _ (c .before .if1 .left))
 
 pub with-sign-spec : {M : Type 1} → statement M
-with-sign-spec = tie.close (tie.spec returns with-sign-requires returns-2)
+with-sign-spec = tie.close (tie.spec returns (λ c κs. search needs) returns-2)

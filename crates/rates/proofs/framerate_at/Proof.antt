@@ -7,12 +7,6 @@ use Rattle.rates.specs.Laws.{rateAt-in, rateAt-out}
 use Rattle.rates.proofs.framerate_at.Statement.{statement}
 use Rattle.rates.proofs.framerate_at.Tie as tie
 
-is-rate-requires : tie.Need-is-rate-requires
-is-rate-requires c κs = search needs
-
-row-requires : tie.Need-row-requires
-row-requires c κs = search needs
-
 returns : tie.Need-returns
 returns c =
     ap Row (c .row .ensures) ∙ sym (rateAt-in _ (sym (c .before .before .is-rate .ensures) ∙ c .before .if1 .taken))
@@ -21,4 +15,4 @@ returns-2 : tie.Need-returns-2
 returns-2 c = sym (rateAt-out _ (sym (c .before .is-rate .ensures) ∙ c .if1 .left))
 
 pub framerate-at-spec : {M : Type 1} → statement M
-framerate-at-spec = tie.close (tie.spec is-rate-requires row-requires returns returns-2)
+framerate-at-spec = tie.close (tie.spec (λ c κs. search needs) (λ c κs. search needs) returns returns-2)

@@ -6,9 +6,6 @@ use Rattle.rates.specs.Laws.{row-out}
 use Rattle.rates.proofs.row.Statement.{statement}
 use Rattle.rates.proofs.row.Tie as tie
 
-is-rate-requires : tie.Need-is-rate-requires
-is-rate-requires c κs = search needs
-
 entry-requires : tie.Need-entry-requires
 entry-requires c κs = sym (c .before .is-rate .ensures) ∙ c .if1 .taken
 
@@ -19,4 +16,4 @@ returns-2 : tie.Need-returns-2
 returns-2 c = sym (row-out _ (sym (c .before .is-rate .ensures) ∙ c .if1 .left))
 
 pub row-spec : {M : Type 1} → statement M
-row-spec = tie.close (tie.spec is-rate-requires entry-requires returns returns-2)
+row-spec = tie.close (tie.spec (λ c κs. search needs) entry-requires returns returns-2)

@@ -11,12 +11,6 @@ use Rattle.reading.specs.Answer.{asLabel}
 use Rattle.reading.proofs.as_label.Statement.{statement}
 use Rattle.reading.proofs.as_label.Tie as tie
 
-enum-known-counted : tie.Need-enum-known-counted
-enum-known-counted c = search needs
-
-enum-known-counted-2 : tie.Need-enum-known-counted-2
-enum-known-counted-2 c = search needs
-
 returns : tie.Need-returns
 returns c =
     let z = c .before .before .counted .given .0 .0 in
@@ -28,4 +22,4 @@ returns-2 : tie.Need-returns-2
 returns-2 c = sym (ap (asLabel (c .before .before .before .args .rate)) (c .before .counted2 .given .1))
 
 pub as-label-spec : {M : Type 1} → statement M
-as-label-spec = tie.close (tie.spec enum-known-counted (λ c κs. search needs) enum-known-counted-2 returns returns-2)
+as-label-spec = tie.close (tie.spec (λ c. search needs) (λ c κs. search needs) (λ c. search needs) returns returns-2)

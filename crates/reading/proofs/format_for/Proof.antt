@@ -7,27 +7,6 @@ use Rattle.reading.specs.Shaped.{formatFrom, formatFor}
 use Rattle.reading.proofs.format_for.Statement.{statement}
 use Rattle.reading.proofs.format_for.Tie as tie
 
-enum-known-stated : tie.Need-enum-known-stated
-enum-known-stated c = search needs
-
-enum-told : tie.Need-enum-told
-enum-told c = search needs
-
-returns : tie.Need-returns
-returns c = search needs
-
-returns-2 : tie.Need-returns-2
-returns-2 c = search needs
-
-format-at-requires : tie.Need-format-at-requires
-format-at-requires c κs = search needs
-
-enum-known-filmed : tie.Need-enum-known-filmed
-enum-known-filmed c = search needs
-
-enum-told-2 : tie.Need-enum-told-2
-enum-told-2 c = search needs
-
 returns-3 : tie.Need-returns-3
 returns-3 c =
     let perf = c .before .before .before .before .before .before .args .perf in
@@ -44,12 +23,12 @@ pub format-for-spec : {M : Type 1} → statement M
 format-for-spec =
     tie.close
     (tie.spec
-    enum-known-stated
-    enum-told
-    returns
-    returns-2
-    format-at-requires
-    enum-known-filmed
-    enum-told-2
+    (λ c. search needs)
+    (λ c. search needs)
+    (λ c. search needs)
+    (λ c. search needs)
+    (λ c κs. search needs)
+    (λ c. search needs)
+    (λ c. search needs)
     returns-3
     returns-4)

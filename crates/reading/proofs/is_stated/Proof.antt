@@ -7,24 +7,6 @@ use Rattle.reading.proofs.Filmed.{format-number, no-number}
 use Rattle.reading.proofs.is_stated.Statement.{statement}
 use Rattle.reading.proofs.is_stated.Tie as tie
 
-enum-known-stated : tie.Need-enum-known-stated
-enum-known-stated c = search needs
-
-enum-told : tie.Need-enum-told
-enum-told c = search needs
-
-returns : tie.Need-returns
-returns c = search needs
-
-format-at-requires : tie.Need-format-at-requires
-format-at-requires c κs = search needs
-
-enum-told-2 : tie.Need-enum-told-2
-enum-told-2 c = search needs
-
-enum-told-3 : tie.Need-enum-told-3
-enum-told-3 c = search needs
-
 returns-2 : tie.Need-returns-2
 returns-2 c =
     let stated = c .before .before .before .before .stated .given in
@@ -39,11 +21,11 @@ pub is-stated-spec : {M : Type 1} → statement M
 is-stated-spec =
     tie.close
     (tie.spec
-    enum-known-stated
-    enum-told
-    returns
-    format-at-requires
-    enum-told-2
-    enum-told-3
+    (λ c. search needs)
+    (λ c. search needs)
+    (λ c. search needs)
+    (λ c κs. search needs)
+    (λ c. search needs)
+    (λ c. search needs)
     returns-2
     returns-3)

@@ -10,23 +10,8 @@ use Rattle.reading.proofs.Scans.{label-fits, label-long, label-other}
 use Rattle.reading.proofs.label_or_footage.Statement.{statement}
 use Rattle.reading.proofs.label_or_footage.Tie as tie
 
-scan-label-requires : tie.Need-scan-label-requires
-scan-label-requires c κs = search needs
-
-enum-told : tie.Need-enum-told
-enum-told c = search needs
-
 read-label-requires : tie.Need-read-label-requires
 read-label-requires c κs = c .before .before .before .before .before .pre
-
-enum-told-2 : tie.Need-enum-told-2
-enum-told-2 c = search needs
-
-enum-told-3 : tie.Need-enum-told-3
-enum-told-3 c = search needs
-
-only-footage-requires : tie.Need-only-footage-requires
-only-footage-requires c κs = search needs
 
 -- what the text is where it is no label
 abbrev other : tie.After-scan-label → Shaped
@@ -61,12 +46,12 @@ pub label-or-footage-spec : {M : Type 1} → statement M
 label-or-footage-spec =
     tie.close
     (tie.spec
-    scan-label-requires
-    enum-told
+    (λ c κs. search needs)
+    (λ c. search needs)
     read-label-requires
-    enum-told-2
-    enum-told-3
-    only-footage-requires
+    (λ c. search needs)
+    (λ c. search needs)
+    (λ c κs. search needs)
     returns
     returns-2
     returns-3)

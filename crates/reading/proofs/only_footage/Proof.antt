@@ -3,31 +3,12 @@
 use mathlib.Core.Path.{_≡_, sym, ap, _∙_}
 use borrow.Author.Needs.{needs}
 use Rattle.film.specs.declared.FilmFormat.{FilmFormat}
-use Rattle.footage_scan.specs.declared.FootageScan.{FootageScan}
 use Rattle.footage_scan.specs.Footage.{footageScan}
 use Rattle.reading.specs.Shaped.{Shaped, footageShaped}
 use Rattle.reading.specs.Reading.{footageRead, readShaped}
 use Rattle.reading.proofs.Scans.{footage-fits, footage-long, footage-none}
 use Rattle.reading.proofs.only_footage.Statement.{statement}
 use Rattle.reading.proofs.only_footage.Tie as tie
-
-scan-footage-requires : tie.Need-scan-footage-requires
-scan-footage-requires c κs = search needs
-
-enum-told : tie.Need-enum-told
-enum-told c = search needs
-
-format-for-requires : tie.Need-format-for-requires
-format-for-requires c κs = search needs
-
-read-footage-requires : tie.Need-read-footage-requires
-read-footage-requires c κs = search needs
-
-enum-told-2 : tie.Need-enum-told-2
-enum-told-2 c = search needs
-
-enum-told-3 : tie.Need-enum-told-3
-enum-told-3 c = search needs
 
 -- the answer to a shape that the scan gives is that to the text's
 scanned-as : (c : tie.After-scan-footage) (x : Shaped) → footageShaped (c .scan-footage .result) ≡ x
@@ -61,12 +42,12 @@ pub only-footage-spec : {M : Type 1} → statement M
 only-footage-spec =
     tie.close
     (tie.spec
-    scan-footage-requires
-    enum-told
-    format-for-requires
-    read-footage-requires
-    enum-told-2
-    enum-told-3
+    (λ c κs. search needs)
+    (λ c. search needs)
+    (λ c κs. search needs)
+    (λ c κs. search needs)
+    (λ c. search needs)
+    (λ c. search needs)
     returns
     returns-2
     returns-3)

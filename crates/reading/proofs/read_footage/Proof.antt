@@ -8,19 +8,10 @@ use Rattle.reading.specs.ReadingLaws.{footage-marked, footage-taken}
 use Rattle.reading.proofs.read_footage.Statement.{statement}
 use Rattle.reading.proofs.read_footage.Tie as tie
 
-takes-perf-requires : tie.Need-takes-perf-requires
-takes-perf-requires c κs = search needs
-
 returns : tie.Need-returns
 returns c =
     let a = c .before .before .args in
     sym (footage-marked (a .rate) (a .format) (a .minus) (a .feet) (a .frames) (a .perf) (fails (c .before .takes-perf .ensures) (c .if1 .taken)))
-
-footage-count-requires : tie.Need-footage-count-requires
-footage-count-requires c κs = search needs
-
-as-footage-requires : tie.Need-as-footage-requires
-as-footage-requires c κs = search needs
 
 returns-2 : tie.Need-returns-2
 returns-2 c =
@@ -32,4 +23,4 @@ returns-2 c =
 
 pub read-footage-spec : {M : Type 1} → statement M
 read-footage-spec =
-    tie.close (tie.spec takes-perf-requires returns footage-count-requires as-footage-requires returns-2)
+    tie.close (tie.spec (λ c κs. search needs) returns (λ c κs. search needs) (λ c κs. search needs) returns-2)

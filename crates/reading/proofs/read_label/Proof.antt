@@ -11,12 +11,6 @@ use Rattle.reading.specs.ReadingLaws.{label-dropped, label-kept}
 use Rattle.reading.proofs.read_label.Statement.{statement}
 use Rattle.reading.proofs.read_label.Tie as tie
 
-drop-frames-per-minute-requires : tie.Need-drop-frames-per-minute-requires
-drop-frames-per-minute-requires c κs = search needs
-
-is-dropped-requires : tie.Need-is-dropped-requires
-is-dropped-requires c κs = search needs
-
 -- what the test told is of the rate's own D
 told : (c : tie.After-is-dropped) → let a = c .before .before .args in c .is-dropped .result ≡ droppedIn (dropFrames (a .rate)) (a .fields)
 told c = c .is-dropped .ensures ∙ ap (λ (d : ℕ). droppedIn d (c .before .before .args .fields)) (c .before .drop-frames-per-minute .ensures)
@@ -25,12 +19,6 @@ returns : tie.Need-returns
 returns c =
     let a = c .before .before .before .args in
     sym (label-dropped (a .rate) (a .minus) (a .fields) (sym (told (c .before)) ∙ c .if1 .taken))
-
-label-count-requires : tie.Need-label-count-requires
-label-count-requires c κs = search needs
-
-as-label-requires : tie.Need-as-label-requires
-as-label-requires c κs = search needs
 
 returns-2 : tie.Need-returns-2
 returns-2 c =
@@ -45,9 +33,9 @@ pub read-label-spec : {M : Type 1} → statement M
 read-label-spec =
     tie.close
     (tie.spec
-    drop-frames-per-minute-requires
-    is-dropped-requires
+    (λ c κs. search needs)
+    (λ c κs. search needs)
     returns
-    label-count-requires
-    as-label-requires
+    (λ c κs. search needs)
+    (λ c κs. search needs)
     returns-2)

@@ -12,9 +12,6 @@ use Rattle.reading.specs.ReadingLaws.{no-rate, no-format, read-shaped}
 use Rattle.reading.proofs.read_text.Statement.{statement}
 use Rattle.reading.proofs.read_text.Tie as tie
 
-is-rate-requires : tie.Need-is-rate-requires
-is-rate-requires c κs = search needs
-
 returns : tie.Need-returns
 returns c =
     let a = c .before .before .before .args in
@@ -22,9 +19,6 @@ returns c =
 
 rated : (c : tie.Else1) → isRate (c .before .before .before .args .rate) ≡ true
 rated c = sym (c .before .is-rate .ensures) ∙ not-false _ (c .if1 .left)
-
-is-stated-requires : tie.Need-is-stated-requires
-is-stated-requires c κs = search needs
 
 returns-2 : tie.Need-returns-2
 returns-2 c =
@@ -34,12 +28,6 @@ returns-2 c =
 
 allowed : (c : tie.Else2) → isStated (c .before .before .before .before .before .args .stated) ≡ true
 allowed c = sym (c .before .is-stated .ensures) ∙ not-false _ (c .if2 .left)
-
-enum-told : tie.Need-enum-told
-enum-told c = search needs
-
-enum-told-2 : tie.Need-enum-told-2
-enum-told-2 c = search needs
 
 label-or-footage-requires : tie.Need-label-or-footage-requires
 label-or-footage-requires c κs = rated (c .before .before .before .before)
@@ -52,9 +40,6 @@ returns-3 c =
     c .label-or-footage .ensures
     ∙ sym (read-shaped (a .text .now) (a .stated) (a .rate) (rated first) (allowed second)
     ∙ ap (λ (s : Stated). readShaped (a .rate) s (shapeOf s (a .text .now))) (c .before .enum-told2 .given .1))
-
-only-footage-requires : tie.Need-only-footage-requires
-only-footage-requires c κs = search needs
 
 returns-4 : tie.Need-returns-4
 returns-4 c =
@@ -69,13 +54,13 @@ pub read-text-spec : {M : Type 1} → statement M
 read-text-spec =
     tie.close
     (tie.spec
-    is-rate-requires
+    (λ c κs. search needs)
     returns
-    is-stated-requires
+    (λ c κs. search needs)
     returns-2
-    enum-told
-    enum-told-2
+    (λ c. search needs)
+    (λ c. search needs)
     label-or-footage-requires
     returns-3
-    only-footage-requires
+    (λ c κs. search needs)
     returns-4)

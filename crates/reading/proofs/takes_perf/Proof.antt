@@ -8,12 +8,6 @@ use Rattle.film.specs.Film.{allowsPerfField}
 use Rattle.reading.proofs.takes_perf.Statement.{statement}
 use Rattle.reading.proofs.takes_perf.Tie as tie
 
-returns : tie.Need-returns
-returns c = search needs
-
-allows-perf-field-requires : tie.Need-allows-perf-field-requires
-allows-perf-field-requires c κs = search needs
-
 returns-2 : tie.Need-returns-2
 returns-2 c =
     let args = c .before .before .args in
@@ -21,4 +15,4 @@ returns-2 c =
     c .allows-perf-field .ensures ∙ sym (ap (λ (t : Bool). not t || allowsPerfField (args .format)) has)
 
 pub takes-perf-spec : {M : Type 1} → statement M
-takes-perf-spec = tie.close (tie.spec returns allows-perf-field-requires returns-2)
+takes-perf-spec = tie.close (tie.spec (λ c. search needs) (λ c κs. search needs) returns-2)

@@ -18,23 +18,14 @@ use Rattle.runtime_reading.specs.ReadingLaws.{seconds-small, product-sma
 use Rattle.runtime_reading.proofs.nearest_frame.Statement.{statement}
 use Rattle.runtime_reading.proofs.nearest_frame.Tie as tie
 
-array-read-seconds : tie.Need-array-read-seconds
-array-read-seconds c = search needs
-
 mul-seconds : tie.Need-mul-seconds
 mul-seconds c = omega (arith, seconds-small (c .args .t3) (c .args .millionths) (c .pre .1))
-
-array-read-seconds-2 : tie.Need-array-read-seconds-2
-array-read-seconds-2 c = search needs
 
 mul-seconds-2 : tie.Need-mul-seconds-2
 mul-seconds-2 c = omega (arith, seconds-small (c .args .t3) (c .args .millionths) (c .pre .1))
 
 add-seconds : tie.Need-add-seconds
 add-seconds c = omega (arith, seconds-small (c .args .t3) (c .args .millionths) (c .pre .1))
-
-array-read-seconds-3 : tie.Need-array-read-seconds-3
-array-read-seconds-3 c = search needs
 
 add-seconds-2 : tie.Need-add-seconds-2
 add-seconds-2 c = omega (arith, seconds-small (c .args .t3) (c .args .millionths) (c .pre .1))
@@ -58,29 +49,14 @@ frames-small c =
     rw (numerator-is c)
     (product-small (start .args .t3) (start .args .millionths) (start .pre .1) (start .args .rate) (start .pre .0) (c .before .if1 .left))
 
-row-requires : tie.Need-row-requires
-row-requires c κs = search needs
-
-mul-time : tie.Need-mul-time
-mul-time c = search needs
-
-add-time : tie.Need-add-time
-add-time c = search needs
-
 mul-with-sign : tie.Need-mul-with-sign
 mul-with-sign c = record { fits = omega (arith, frames-small (c .before)) }
-
-with-sign-requires : tie.Need-with-sign-requires
-with-sign-requires c κs = search needs
 
 mul-nearest-count : tie.Need-mul-nearest-count
 mul-nearest-count c =
     let row = c .before .before .before in
     let start = row .before .before in
     record { fits = omega (arith, denominator-is row, sound (start .args .rate) (start .pre .0) .denominator-most) }
-
-nearest-count-requires : tie.Need-nearest-count-requires
-nearest-count-requires c κs = search needs
 
 returns-2 : tie.Need-returns-2
 unfolding runtimeFrame
@@ -101,19 +77,19 @@ pub nearest-frame-spec : {M : Type 1} → statement M
 nearest-frame-spec =
     tie.close
     (tie.spec
-    array-read-seconds
+    (λ c. search needs)
     mul-seconds
-    array-read-seconds-2
+    (λ c. search needs)
     mul-seconds-2
     add-seconds
-    array-read-seconds-3
+    (λ c. search needs)
     add-seconds-2
     returns
-    row-requires
-    mul-time
-    add-time
+    (λ c κs. search needs)
+    (λ c. search needs)
+    (λ c. search needs)
     mul-with-sign
-    with-sign-requires
+    (λ c κs. search needs)
     mul-nearest-count
-    nearest-count-requires
+    (λ c κs. search needs)
     returns-2)

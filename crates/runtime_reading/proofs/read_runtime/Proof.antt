@@ -15,9 +15,6 @@ use Rattle.runtime_reading.specs.ReadingLaws.{no-rate, read-scanned, tim
 use Rattle.runtime_reading.proofs.read_runtime.Statement.{statement}
 use Rattle.runtime_reading.proofs.read_runtime.Tie as tie
 
-is-rate-requires : tie.Need-is-rate-requires
-is-rate-requires c κs = search needs
-
 returns : tie.Need-returns
 returns c =
     let a = c .before .before .before .args in
@@ -25,9 +22,6 @@ returns c =
 
 rated : (c : tie.Else1) → isRate (c .before .before .before .args .rate) ≡ true
 rated c = passes (c .before .is-rate .ensures) (c .if1 .left)
-
-scan-runtime-requires : tie.Need-scan-runtime-requires
-scan-runtime-requires c κs = search needs
 
 -- the answer to how the scan fits is that to the text
 scanned-as : (c : tie.After-scan-runtime) (v : Fit) → c .scan-runtime .result .fit ≡ v
@@ -41,23 +35,11 @@ scanned-as c v e =
     ∙ ap (readScan (a .rate)) (sym (c .scan-runtime .ensures))
     ∙ ap (byItsFit (timeRead (a .rate) (s .minus) (timeIn (s .fields) (s .millionths)))) e)
 
-enum-told : tie.Need-enum-told
-enum-told c = search needs
-
 nearest-frame-requires : tie.Need-nearest-frame-requires
 nearest-frame-requires c κs =
     let scanned = c .before .before .before in
     let a = scanned .before .before .before .before .args in
     (rated (scanned .before), subst (λ (s : RuntimeScan). RuntimeBounds (s .fields) (s .millionths)) (sym (scanned .scan-runtime .ensures)) (runtime-bounded (a .text .now)))
-
-placed-requires : tie.Need-placed-requires
-placed-requires c κs = search needs
-
-enum-told-2 : tie.Need-enum-told-2
-enum-told-2 c = search needs
-
-enum-told-3 : tie.Need-enum-told-3
-enum-told-3 c = search needs
 
 returns-2 : tie.Need-returns-2
 returns-2 c =
@@ -80,14 +62,14 @@ pub read-runtime-spec : {M : Type 1} → statement M
 read-runtime-spec =
     tie.close
     (tie.spec
-    is-rate-requires
+    (λ c κs. search needs)
     returns
-    scan-runtime-requires
-    enum-told
+    (λ c κs. search needs)
+    (λ c. search needs)
     nearest-frame-requires
-    placed-requires
-    enum-told-2
-    enum-told-3
+    (λ c κs. search needs)
+    (λ c. search needs)
+    (λ c. search needs)
     returns-2
     returns-3
     returns-4)

@@ -15,14 +15,8 @@ abbrev μ-loop : tie.MeasureT-loop
 loop-holds : tie.Need-loop-holds Inv-loop μ-loop
 loop-holds c = scaling-start (c .args .count)
 
-sub-k : tie.Need-sub-k Inv-loop μ-loop
-sub-k c = search needs
-
 mul-power : tie.Need-mul-power Inv-loop μ-loop
 mul-power c = omega (arith, c .before .loop .inv .is, scale-most (c .before .loop .k))
-
-loop-less : tie.Need-loop-less Inv-loop μ-loop
-loop-less c = search needs
 
 loop-again : tie.Need-loop-again Inv-loop μ-loop
 loop-again c = scaling-turn (c .before .before .args .count) (c .before .loop .k) (c .before .loop .power) (c .before .loop .inv) (c .loop-test .taken)
@@ -32,4 +26,4 @@ returns c = scaling-done (c .before .before .args .count) (c .before .loop .k) (
 
 pub scale-spec : {M : Type 1} → statement M
 scale-spec =
-    tie.close (tie.spec Inv-loop μ-loop loop-holds sub-k mul-power loop-less loop-again returns)
+    tie.close (tie.spec Inv-loop μ-loop loop-holds (λ c. search needs) mul-power (λ c. search needs) loop-again returns)

@@ -10,12 +10,6 @@ use Rattle.runtime_scan.proofs.Millionths.{scaled-fits}
 use Rattle.runtime_scan.proofs.scan_runtime.Statement.{statement}
 use Rattle.runtime_scan.proofs.scan_runtime.Tie as tie
 
-scan-text-requires : tie.Need-scan-text-requires
-scan-text-requires c κs = search needs
-
-scale-requires : tie.Need-scale-requires
-scale-requires c κs = search needs
-
 mul-t8 : tie.Need-mul-t8
 mul-t8 c =
     let s = c .before .before .before in
@@ -30,4 +24,4 @@ returns c =
     rw (c .before .scale .ensures) (ap runtimeFrom (x .ensures))
 
 pub scan-runtime-spec : {M : Type 1} → statement M
-scan-runtime-spec = tie.close (tie.spec scan-text-requires scale-requires mul-t8 returns)
+scan-runtime-spec = tie.close (tie.spec (λ c κs. search needs) (λ c κs. search needs) mul-t8 returns)

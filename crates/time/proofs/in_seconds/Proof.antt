@@ -1,7 +1,7 @@
 -- `time::in_seconds` meets its contract: the magnitude over the ticks of a second in lowest terms, with the ticks' sign.
 -- Assumes nothing.
 use Prim.Native.Nat.{ℕ}
-use mathlib.Core.Path.{_≡_, sym, _∙_, ap, ap₂, subst}
+use mathlib.Core.Path.{_≡_, sym, _∙_, ap, subst}
 use mathlib.Core.Bool.{Bool}
 use native.Mathlib.Omega.{arith}
 use borrow.Author.Needs.{needs}
@@ -17,23 +17,11 @@ use Rattle.time.specs.SecondsLaws.{inSeconds-signed}
 use Rattle.time.proofs.in_seconds.Statement.{statement}
 use Rattle.time.proofs.in_seconds.Tie as tie
 
-magnitude-requires : tie.Need-magnitude-requires
-magnitude-requires c κs = search needs
-
-lowest-requires : tie.Need-lowest-requires
-lowest-requires c κs = search needs
-
 -- the fraction that the call gave is that of the ticks' magnitude
 lowest-is : (c : tie.After-lowest) → Lowest (natAbs (c .before .before .args .ticks)) secondTicks (c .lowest .result .num) (c .lowest .result .den)
 lowest-is c =
     subst (λ (m : ℕ). Lowest m secondTicks (c .lowest .result .num) (c .lowest .result .den))
     (c .before .magnitude .ensures ∙ ap natAbs (toZ-ofZ (c .before .before .fits .ticks))) (c .lowest .ensures .0 (omega arith))
-
-below-zero-requires : tie.Need-below-zero-requires
-below-zero-requires c κs = search needs
-
-with-sign-requires : tie.Need-with-sign-requires
-with-sign-requires c κs = search needs
 
 returns : tie.Need-returns
 returns c =
@@ -53,4 +41,4 @@ returns c =
 
 pub in-seconds-spec : {M : Type 1} → statement M
 in-seconds-spec =
-    tie.close (tie.spec magnitude-requires lowest-requires below-zero-requires with-sign-requires returns)
+    tie.close (tie.spec (λ c κs. search needs) (λ c κs. search needs) (λ c κs. search needs) (λ c κs. search needs) returns)

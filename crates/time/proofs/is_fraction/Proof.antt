@@ -15,9 +15,6 @@ use Rattle.time.proofs.is_fraction.Tie as tie
 m-is : (c : tie.After-magnitude) → c .magnitude .result ≡ natAbs (c .before .args .p)
 m-is c = rw (toZ-ofZ (c .before .fits .p)) at (c .magnitude .ensures)
 
-magnitude-requires : tie.Need-magnitude-requires
-magnitude-requires c κs = search needs
-
 returns : tie.Need-returns
 unfolding isFraction
 returns c =
@@ -47,4 +44,4 @@ returns-4 c =
     search tests
 
 pub is-fraction-spec : {M : Type 1} → statement M
-is-fraction-spec = tie.close (tie.spec magnitude-requires returns returns-2 returns-3 returns-4)
+is-fraction-spec = tie.close (tie.spec (λ c κs. search needs) returns returns-2 returns-3 returns-4)

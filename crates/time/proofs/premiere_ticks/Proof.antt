@@ -13,18 +13,6 @@ use Rattle.time.specs.Ticks.{ticksOf}
 use Rattle.time.proofs.premiere_ticks.Statement.{statement}
 use Rattle.time.proofs.premiere_ticks.Tie as tie
 
-admit-requires : tie.Need-admit-requires
-admit-requires c κs = search needs
-
-enum-told : tie.Need-enum-told
-enum-told c = search needs
-
-instant-of-requires : tie.Need-instant-of-requires
-instant-of-requires c κs = search needs
-
-enum-known-e : tie.Need-enum-known-e
-enum-known-e c = search needs
-
 returns : tie.Need-returns
 unfolding ticksOf
 returns c =
@@ -41,4 +29,4 @@ returns-2 c =
 
 pub premiere-ticks-spec : {M : Type 1} → statement M
 premiere-ticks-spec =
-    tie.close (tie.spec admit-requires enum-told instant-of-requires enum-known-e returns returns-2)
+    tie.close (tie.spec (λ c κs. search needs) (λ c. search needs) (λ c κs. search needs) (λ c. search needs) returns returns-2)

@@ -1,10 +1,10 @@
 -- `time::seconds` meets its contract: what is admitted has the seconds of its instant, and what is refused is refused.
 -- Assumes nothing.
-use Prim.Native.Nat.{ℕ, _<_, _^_}
+use Prim.Native.Nat.{ℕ}
 use mathlib.Core.Path.{_≡_, sym, _∙_, ap, subst}
 use native.Mathlib.Omega.{arith}
 use borrow.Author.Needs.{needs}
-use lib.IntN.{ℤ, natAbs}
+use lib.IntN.{ℤ}
 use mir.Syntax.{w64}
 use mir.Val.{toZ, ofZ}
 use mir.Facts.{toZ-ofZ}
@@ -20,15 +20,6 @@ use Rattle.time.specs.Seconds.{IsSeconds}
 use Rattle.time.proofs.seconds.Statement.{statement}
 use Rattle.time.proofs.seconds.Tie as tie
 
-admit-requires : tie.Need-admit-requires
-admit-requires c κs = search needs
-
-enum-told : tie.Need-enum-told
-enum-told c = search needs
-
-instant-of-requires : tie.Need-instant-of-requires
-instant-of-requires c κs = search needs
-
 passed : (c : tie.After-enum-told) → judged (admits (c .before .before .before .args .tc)) ≡ verdict.Passed
 passed c = sym (c .before .before .admit .ensures) ∙ c .enum-told .given .1
 
@@ -41,9 +32,6 @@ ticks-is c = toZ-ofZ (record { sfits = c .instant-of .ok }) ∙ c .instant-of .e
 
 in-seconds-requires : tie.Need-in-seconds-requires
 in-seconds-requires c κs = rw (ticks-is c) (omega (arith, instant-abs-le _ (valid (c .before))))
-
-enum-known-e : tie.Need-enum-known-e
-enum-known-e c = search needs
 
 returns : tie.Need-returns
 returns c =
@@ -65,4 +53,4 @@ returns-2 c =
 pub seconds-spec : {M : Type 1} → statement M
 seconds-spec =
     tie.close
-    (tie.spec admit-requires enum-told instant-of-requires in-seconds-requires enum-known-e returns returns-2)
+    (tie.spec (λ c κs. search needs) (λ c. search needs) (λ c κs. search needs) in-seconds-requires (λ c. search needs) returns returns-2)

@@ -4,7 +4,6 @@ use mathlib.Core.Path.{_≡_, sym, _∙_, ap}
 use borrow.Author.Needs.{needs}
 use lib.IntN.{ℤ}
 use mir.Facts.{toZ-ofZ}
-use Rattle.answers.specs.declared.Verdict.{Verdict}
 use Rattle.answers.specs.Order.{judged}
 use Rattle.answers.specs.OrderLaws.{judged-refused, judged-clear, unless-clear}
 use Rattle.timecodes.specs.declared.Timecode.{Timecode}
@@ -14,18 +13,6 @@ use Rattle.timecodes.specs.Admitted.{admits}
 use Rattle.time.specs.Frames.{framesAt}
 use Rattle.time.proofs.with_frames.Statement.{statement}
 use Rattle.time.proofs.with_frames.Tie as tie
-
-new-requires : tie.Need-new-requires
-new-requires c κs = search needs
-
-admit-requires : tie.Need-admit-requires
-admit-requires c κs = search needs
-
-enum-told : tie.Need-enum-told
-enum-told c = search needs
-
-enum-known-e : tie.Need-enum-known-e
-enum-known-e c = search needs
 
 -- the timecode that was made is that of the count itself
 made : (c : tie.After-new) → c .new .result ≡ timecode (c .before .args .count) (c .before .args .rate)
@@ -50,4 +37,4 @@ returns-2 c =
     sym (judged-refused (admits tc) _ (asked (c .before .before .before) ∙ c .before .e .given .1) Refused (At tc))
 
 pub with-frames-spec : {M : Type 1} → statement M
-with-frames-spec = tie.close (tie.spec new-requires admit-requires enum-told enum-known-e returns returns-2)
+with-frames-spec = tie.close (tie.spec (λ c κs. search needs) (λ c κs. search needs) (λ c. search needs) (λ c. search needs) returns returns-2)

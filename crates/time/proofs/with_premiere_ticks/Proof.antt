@@ -1,13 +1,13 @@
 -- `time::with_premiere_ticks` meets its contract: it asks for the nearest count at the rate's row.
 -- Assumes nothing.
 use Prim.Native.Nat.{ℕ}
-use mathlib.Core.Path.{_≡_, _∙_, ap, ap₂}
+use mathlib.Core.Path.{_∙_, ap, ap₂}
 use borrow.Author.Needs.{needs}
 use lib.IntN.{ℤ}
 use mir.Facts.{toZ-ofZ}
 use Rattle.numbers.specs.Nearest.{nearestZ}
 use Rattle.numbers.proofs.Tests.{fails, passes}
-use Rattle.answers.specs.Refusals.{badCount, held}
+use Rattle.answers.specs.Refusals.{held}
 use Rattle.rates.specs.declared.Framerate.{Framerate}
 use Rattle.timecodes.specs.Timecode.{placed}
 use Rattle.timecodes.specs.AdmittedLaws.{placed-held}
@@ -15,21 +15,9 @@ use Rattle.time.specs.Frames.{ticksFrame, ticksAt}
 use Rattle.time.proofs.with_premiere_ticks.Statement.{statement}
 use Rattle.time.proofs.with_premiere_ticks.Tie as tie
 
-is-rate-requires : tie.Need-is-rate-requires
-is-rate-requires c κs = search needs
-
 returns : tie.Need-returns
 unfolding ticksAt
 returns c = simp (fails (c .before .is-rate .ensures) (c .if1 .taken))
-
-row-requires : tie.Need-row-requires
-row-requires c κs = search needs
-
-nearest-count-requires : tie.Need-nearest-count-requires
-nearest-count-requires c κs = search needs
-
-placed-requires : tie.Need-placed-requires
-placed-requires c κs = search needs
 
 returns-2 : tie.Need-returns-2
 unfolding ticksAt
@@ -46,4 +34,4 @@ returns-2 c =
 
 pub with-premiere-ticks-spec : {M : Type 1} → statement M
 with-premiere-ticks-spec =
-    tie.close (tie.spec is-rate-requires returns row-requires nearest-count-requires placed-requires returns-2)
+    tie.close (tie.spec (λ c κs. search needs) returns (λ c κs. search needs) (λ c κs. search needs) (λ c κs. search needs) returns-2)

@@ -25,18 +25,12 @@ use Rattle.time.specs.Frames.{secondsFrame, secondsAt}
 use Rattle.time.proofs.with_seconds.Statement.{statement}
 use Rattle.time.proofs.with_seconds.Tie as tie
 
-is-rate-requires : tie.Need-is-rate-requires
-is-rate-requires c κs = search needs
-
 returns : tie.Need-returns
 unfolding secondsAt
 returns c = simp (fails (c .before .is-rate .ensures) (c .if1 .taken))
 
 rated : (c : tie.Else1) → isRate (c .before .before .args .rate) ≡ true
 rated c = passes (c .before .is-rate .ensures) (c .if1 .left)
-
-is-fraction-requires : tie.Need-is-fraction-requires
-is-fraction-requires c κs = search needs
 
 -- what the test told is of p itself
 told : (c : tie.After-is-fraction)
@@ -59,20 +53,11 @@ fraction c = passes (told (c .before)) (c .if2 .left)
 within : (c : tie.Else2) → InBounds mostSeconds (start c .args .p) (start c .args .q)
 within c = isFraction-told mostSeconds _ _ (fraction c)
 
-row-requires : tie.Need-row-requires
-row-requires c κs = search needs
-
 numerator-is : (c : tie.After-row) → c .row .result .numerator ≡ rateRow (start (c .before) .args .rate) .numerator
 numerator-is c = ap (λ (r : Framerate). r .numerator) (c .row .ensures)
 
 denominator-is : (c : tie.After-row) → c .row .result .denominator ≡ rateRow (start (c .before) .args .rate) .denominator
 denominator-is c = ap (λ (r : Framerate). r .denominator) (c .row .ensures)
-
-with-sign-requires : tie.Need-with-sign-requires
-with-sign-requires c κs = search needs
-
-product-requires : tie.Need-product-requires
-product-requires c κs = search needs
 
 -- the numerator, as the machine reads it
 top-is : (c : tie.After-with-sign)
@@ -105,12 +90,6 @@ bottom-le c =
 mul-nearest-count : tie.Need-mul-nearest-count
 mul-nearest-count c = record { fits = omega (arith, bottom-le (c .before .before .before)) }
 
-nearest-count-requires : tie.Need-nearest-count-requires
-nearest-count-requires c κs = search needs
-
-placed-requires : tie.Need-placed-requires
-placed-requires c κs = search needs
-
 returns-3 : tie.Need-returns-3
 unfolding secondsAt
 returns-3 c =
@@ -129,14 +108,14 @@ pub with-seconds-spec : {M : Type 1} → statement M
 with-seconds-spec =
     tie.close
     (tie.spec
-    is-rate-requires
+    (λ c κs. search needs)
     returns
-    is-fraction-requires
+    (λ c κs. search needs)
     returns-2
-    row-requires
-    with-sign-requires
-    product-requires
+    (λ c κs. search needs)
+    (λ c κs. search needs)
+    (λ c κs. search needs)
     mul-nearest-count
-    nearest-count-requires
-    placed-requires
+    (λ c κs. search needs)
+    (λ c κs. search needs)
     returns-3)

@@ -11,17 +11,11 @@ use Rattle.rates.specs.Rates.{isRate}
 use Rattle.timecodes.proofs.admit.Statement.{statement}
 use Rattle.timecodes.proofs.admit.Tie as tie
 
-is-rate-requires : tie.Need-is-rate-requires
-is-rate-requires c κs = search needs
-
 returns : tie.Need-returns
 returns c = simp (fails (c .before .is-rate .ensures) (c .if1 .taken))
 
 rated : (c : tie.Else1) → isRate (c .before .before .args .tc .rate) ≡ true
 rated c = passes (c .before .is-rate .ensures) (c .if1 .left)
-
-is-count-requires : tie.Need-is-count-requires
-is-count-requires c κs = search needs
 
 -- what the test told is of the count itself
 told : (c : tie.After-is-count) → c .is-count .result ≡ isCount (c .before .before .before .before .args .tc .count)
@@ -37,4 +31,4 @@ returns-3 : tie.Need-returns-3
 returns-3 c = simp (rated (c .before .before .before), passes (told (c .before)) (c .if2 .left))
 
 pub admit-spec : {M : Type 1} → statement M
-admit-spec = tie.close (tie.spec is-rate-requires returns is-count-requires returns-2 returns-3)
+admit-spec = tie.close (tie.spec (λ c κs. search needs) returns (λ c κs. search needs) returns-2 returns-3)

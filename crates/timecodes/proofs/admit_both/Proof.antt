@@ -11,26 +11,17 @@ use Rattle.rates.specs.Rates.{isRate}
 use Rattle.timecodes.proofs.admit_both.Statement.{statement}
 use Rattle.timecodes.proofs.admit_both.Tie as tie
 
-is-rate-requires : tie.Need-is-rate-requires
-is-rate-requires c κs = search needs
-
 returns : tie.Need-returns
 returns c = simp (fails (c .before .is-rate .ensures) (c .if1 .taken))
 
 left-rated : (c : tie.Else1) → isRate (c .before .before .args .a .rate) ≡ true
 left-rated c = passes (c .before .is-rate .ensures) (c .if1 .left)
 
-is-rate-requires-2 : tie.Need-is-rate-requires-2
-is-rate-requires-2 c κs = search needs
-
 returns-2 : tie.Need-returns-2
 returns-2 c = simp (left-rated (c .before .before), fails (c .before .is-rate2 .ensures) (c .if2 .taken))
 
 right-rated : (c : tie.Else2) → isRate (c .before .before .before .before .args .b .rate) ≡ true
 right-rated c = passes (c .before .is-rate2 .ensures) (c .if2 .left)
-
-is-count-requires : tie.Need-is-count-requires
-is-count-requires c κs = search needs
 
 -- what each test told is of the count itself
 left-told : (c : tie.After-is-count) → c .is-count .result ≡ isCount (c .before .before .before .before .before .before .args .a .count)
@@ -43,9 +34,6 @@ returns-3 : tie.Need-returns-3
 returns-3 c =
     let e = c .before .before .before in
     simp (left-rated (e .before .before), right-rated e, fails (left-told (c .before)) (c .if3 .taken))
-
-is-count-requires-2 : tie.Need-is-count-requires-2
-is-count-requires-2 c κs = search needs
 
 right-told : (c : tie.After-is-count2) → c .is-count2 .result ≡ isCount (c .before .before .before .before .before .before .before .before .before .args .b .count)
 right-told c =
@@ -69,12 +57,12 @@ pub admit-both-spec : {M : Type 1} → statement M
 admit-both-spec =
     tie.close
     (tie.spec
-    is-rate-requires
+    (λ c κs. search needs)
     returns
-    is-rate-requires-2
+    (λ c κs. search needs)
     returns-2
-    is-count-requires
+    (λ c κs. search needs)
     returns-3
-    is-count-requires-2
+    (λ c κs. search needs)
     returns-4
     returns-5)

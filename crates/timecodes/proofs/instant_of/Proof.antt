@@ -1,7 +1,7 @@
 -- `timecodes::instant_of` meets its contract: the product of the count and the ticks of its row.
 -- Assumes nothing.
 use Prim.Native.Nat.{ℕ, _*_}
-use mathlib.Core.Path.{_≡_, sym, _∙_, ap, ap₂}
+use mathlib.Core.Path.{_≡_, _∙_, ap, ap₂}
 use native.Mathlib.Omega.{arith}
 use borrow.Author.Needs.{needs}
 use lib.IntN.{ℤ, pos, natAbs, _*ℤ_}
@@ -15,15 +15,6 @@ use Rattle.rates.specs.Laws.{frameTicks-le}
 use Rattle.timecodes.specs.Instant.{instant, instantIn}
 use Rattle.timecodes.proofs.instant_of.Statement.{statement}
 use Rattle.timecodes.proofs.instant_of.Tie as tie
-
-row-requires : tie.Need-row-requires
-row-requires c κs = search needs
-
-with-sign-requires : tie.Need-with-sign-requires
-with-sign-requires c κs = search needs
-
-product-requires : tie.Need-product-requires
-product-requires c κs = search needs
 
 -- what the two operands of the product are, as the machine reads them
 count-is : (c : tie.After-with-sign)
@@ -48,4 +39,4 @@ returns c =
     ∙ ap₂ (λ (x y : ℤ). fitted (natAbs x * natAbs y) (x *ℤ y)) (count-is (c .before)) (ticks-is (c .before))
 
 pub instant-of-spec : {M : Type 1} → statement M
-instant-of-spec = tie.close (tie.spec row-requires with-sign-requires product-requires returns)
+instant-of-spec = tie.close (tie.spec (λ c κs. search needs) (λ c κs. search needs) (λ c κs. search needs) returns)

@@ -11,12 +11,6 @@ use Rattle.answers.specs.declared.Counted.the-variants.{Count}
 use Rattle.arithmetic.proofs.counts.absolute.Statement.{statement}
 use Rattle.arithmetic.proofs.counts.absolute.Tie as tie
 
-magnitude-requires : tie.Need-magnitude-requires
-magnitude-requires c κs = search needs
-
-with-sign-requires : tie.Need-with-sign-requires
-with-sign-requires c κs = search needs
-
 returns : tie.Need-returns
 returns c =
     let s = c .before .before in
@@ -29,4 +23,4 @@ returns c =
     ∙ fitted-in m (pos m) (omega (arith, s .pre)))
 
 pub absolute-spec : {M : Type 1} → statement M
-absolute-spec = tie.close (tie.spec magnitude-requires with-sign-requires returns)
+absolute-spec = tie.close (tie.spec (λ c κs. search needs) (λ c κs. search needs) returns)

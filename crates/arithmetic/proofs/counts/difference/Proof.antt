@@ -12,15 +12,6 @@ use Rattle.rates.specs.declared.Framerate.{Framerate}
 use Rattle.arithmetic.proofs.counts.difference.Statement.{statement}
 use Rattle.arithmetic.proofs.counts.difference.Tie as tie
 
-row-requires : tie.Need-row-requires
-row-requires c κs = search needs
-
-difference-requires : tie.Need-difference-requires
-difference-requires c κs = search needs
-
-nearest-count-requires : tie.Need-nearest-count-requires
-nearest-count-requires c κs = search needs
-
 returns : tie.Need-returns
 returns c =
     let r = c .before .before in
@@ -34,4 +25,4 @@ returns c =
     (ap (λ (f : Framerate). f .ticks) (r .row .ensures))
 
 pub difference-spec : {M : Type 1} → statement M
-difference-spec = tie.close (tie.spec row-requires difference-requires nearest-count-requires returns)
+difference-spec = tie.close (tie.spec (λ c κs. search needs) (λ c κs. search needs) (λ c κs. search needs) returns)

@@ -12,9 +12,6 @@ use Rattle.answers.specs.declared.Counted.the-variants.{Count}
 use Rattle.arithmetic.proofs.counts.negated.Statement.{statement}
 use Rattle.arithmetic.proofs.counts.negated.Tie as tie
 
-difference-requires : tie.Need-difference-requires
-difference-requires c κs = search needs
-
 returns : tie.Need-returns
 returns c =
     let s = c .before in
@@ -27,4 +24,4 @@ returns c =
     ∙ flip z)
 
 pub negated-spec : {M : Type 1} → statement M
-negated-spec = tie.close (tie.spec difference-requires returns)
+negated-spec = tie.close (tie.spec (λ c κs. search needs) returns)

@@ -17,9 +17,6 @@ use Rattle.arithmetic.specs.Product.{productCounted}
 use Rattle.arithmetic.proofs.counts.product.Statement.{statement}
 use Rattle.arithmetic.proofs.counts.product.Tie as tie
 
-is-fraction-requires : tie.Need-is-fraction-requires
-is-fraction-requires c κs = search needs
-
 -- what the test told is of p itself
 told : (c : tie.After-is-fraction) → c .is-fraction .result ≡ isFraction mostFactor (c .before .args .p) (c .before .args .q)
 told c = c .is-fraction .ensures ∙ ap (λ (z : ℤ). isFraction mostFactor z (c .before .args .q)) (toZ-ofZ (c .before .fits .p))
@@ -27,12 +24,6 @@ told c = c .is-fraction .ensures ∙ ap (λ (z : ℤ). isFraction mostFactor z (
 returns : tie.Need-returns
 unfolding productCounted
 returns c = simp (fails (told (c .before)) (c .if1 .taken))
-
-product-requires : tie.Need-product-requires
-product-requires c κs = search needs
-
-nearest-count-requires : tie.Need-nearest-count-requires
-nearest-count-requires c κs = search needs
 
 returns-2 : tie.Need-returns-2
 unfolding productCounted held
@@ -51,4 +42,4 @@ returns-2 c =
 
 pub product-spec : {M : Type 1} → statement M
 product-spec =
-    tie.close (tie.spec is-fraction-requires returns product-requires nearest-count-requires returns-2)
+    tie.close (tie.spec (λ c κs. search needs) returns (λ c κs. search needs) (λ c κs. search needs) returns-2)

@@ -14,9 +14,6 @@ use Rattle.arithmetic.specs.Truncating.{quotientCounted}
 use Rattle.arithmetic.proofs.counts.quotient.Statement.{statement}
 use Rattle.arithmetic.proofs.counts.quotient.Tie as tie
 
-magnitude-requires : tie.Need-magnitude-requires
-magnitude-requires c κs = search needs
-
 -- the magnitude that the call gave is that of n itself
 m-is : (c : tie.After-magnitude) → c .magnitude .result ≡ natAbs (c .before .args .n)
 m-is c = rw (toZ-ofZ (c .before .fits .n)) at (c .magnitude .ensures)
@@ -24,9 +21,6 @@ m-is c = rw (toZ-ofZ (c .before .fits .n)) at (c .magnitude .ensures)
 returns : tie.Need-returns
 unfolding quotientCounted
 returns c = simp (le-ltb 0 (natAbs (c .before .before .args .n)) (omega (arith, m-is (c .before))))
-
-quotient-requires : tie.Need-quotient-requires
-quotient-requires c κs = search needs
 
 returns-2 : tie.Need-returns-2
 unfolding quotientCounted
@@ -43,4 +37,4 @@ returns-2 c =
     ∙ divided-in x n (quotZ x n) (omega (arith, s .pre)) nonzero))
 
 pub quotient-spec : {M : Type 1} → statement M
-quotient-spec = tie.close (tie.spec magnitude-requires returns quotient-requires returns-2)
+quotient-spec = tie.close (tie.spec (λ c κs. search needs) returns (λ c κs. search needs) returns-2)

@@ -24,9 +24,6 @@ use Rattle.arithmetic.specs.Flooring.{flooredOf, flooredCounted}
 use Rattle.arithmetic.proofs.counts.quotient_by.Statement.{statement}
 use Rattle.arithmetic.proofs.counts.quotient_by.Tie as tie
 
-is-fraction-requires : tie.Need-is-fraction-requires
-is-fraction-requires c κs = search needs
-
 -- what the test told is of p itself
 told : (c : tie.After-is-fraction) → c .is-fraction .result ≡ isFraction mostFactor (c .before .args .p) (c .before .args .q)
 told c = c .is-fraction .ensures ∙ ap (λ (z : ℤ). isFraction mostFactor z (c .before .args .q)) (toZ-ofZ (c .before .fits .p))
@@ -40,9 +37,6 @@ factored c = passes (told (c .before)) (c .if1 .left)
 
 within : (c : tie.Else1) → InBounds mostFactor (c .before .before .args .p) (c .before .before .args .q)
 within c = isFraction-told mostFactor _ _ (factored c)
-
-magnitude-requires : tie.Need-magnitude-requires
-magnitude-requires c κs = search needs
 
 -- the magnitude that the call gave is that of p itself
 m-is : (c : tie.After-magnitude) → c .magnitude .result ≡ natAbs (c .before .before .before .args .p)
@@ -76,9 +70,6 @@ dividend-lt c =
     let s = e .before .before in
     rw (abs-product (s .args .count) (pos (s .args .q))) (omega (arith, mul-le-mul (s .pre) (within e .bottom)))
 
-floor-requires : tie.Need-floor-requires
-floor-requires c κs = search needs
-
 -- the quotient, as the machine reads it
 floor-is : (c : tie.After-floor) → let a = c .before .before .before .before .before .before .args in
     toZ w64 (ofZ w64 (c .floor .result)) ≡ flooredOf (a .count) (a .p) (a .q)
@@ -89,15 +80,6 @@ floor-is c =
     ∙ c .floor .ensures
     ∙ ap₂ (λ (x y : ℤ). divided x y (floorZ x y)) (dividend-is d) (toZ-ofZ (s .fits .p))
     ∙ divided-in _ (s .args .p) (flooredOf (s .args .count) (s .args .p) (s .args .q)) (dividend-lt d) (nonzero (d .before))
-
-below-zero-requires : tie.Need-below-zero-requires
-below-zero-requires c κs = search needs
-
-magnitude-requires-2 : tie.Need-magnitude-requires-2
-magnitude-requires-2 c κs = search needs
-
-held-requires : tie.Need-held-requires
-held-requires c κs = search needs
 
 returns-3 : tie.Need-returns-3
 unfolding flooredCounted held
@@ -117,13 +99,13 @@ pub quotient-by-spec : {M : Type 1} → statement M
 quotient-by-spec =
     tie.close
     (tie.spec
-    is-fraction-requires
+    (λ c κs. search needs)
     returns
-    magnitude-requires
+    (λ c κs. search needs)
     returns-2
     scaled-requires
-    floor-requires
-    below-zero-requires
-    magnitude-requires-2
-    held-requires
+    (λ c κs. search needs)
+    (λ c κs. search needs)
+    (λ c κs. search needs)
+    (λ c κs. search needs)
     returns-3)

@@ -14,9 +14,6 @@ use Rattle.arithmetic.specs.Truncating.{remainderCounted}
 use Rattle.arithmetic.proofs.counts.remainder.Statement.{statement}
 use Rattle.arithmetic.proofs.counts.remainder.Tie as tie
 
-magnitude-requires : tie.Need-magnitude-requires
-magnitude-requires c κs = search needs
-
 -- the magnitude that the call gave is that of n itself
 m-is : (c : tie.After-magnitude) → c .magnitude .result ≡ natAbs (c .before .args .n)
 m-is c = rw (toZ-ofZ (c .before .fits .n)) at (c .magnitude .ensures)
@@ -24,9 +21,6 @@ m-is c = rw (toZ-ofZ (c .before .fits .n)) at (c .magnitude .ensures)
 returns : tie.Need-returns
 unfolding remainderCounted
 returns c = simp (le-ltb 0 (natAbs (c .before .before .args .n)) (omega (arith, m-is (c .before))))
-
-remainder-requires : tie.Need-remainder-requires
-remainder-requires c κs = search needs
 
 returns-2 : tie.Need-returns-2
 unfolding remainderCounted
@@ -43,4 +37,4 @@ returns-2 c =
     ∙ divided-in x n (remZ x n) (omega (arith, s .pre)) nonzero))
 
 pub remainder-spec : {M : Type 1} → statement M
-remainder-spec = tie.close (tie.spec magnitude-requires returns remainder-requires returns-2)
+remainder-spec = tie.close (tie.spec (λ c κs. search needs) returns (λ c κs. search needs) returns-2)

@@ -23,9 +23,6 @@ use Rattle.arithmetic.specs.Remainder.{leftCounted}
 use Rattle.arithmetic.proofs.counts.remainder_by.Statement.{statement}
 use Rattle.arithmetic.proofs.counts.remainder_by.Tie as tie
 
-is-fraction-requires : tie.Need-is-fraction-requires
-is-fraction-requires c κs = search needs
-
 -- what the test told is of p itself
 told : (c : tie.After-is-fraction) → c .is-fraction .result ≡ isFraction mostFactor (c .before .args .p) (c .before .args .q)
 told c = c .is-fraction .ensures ∙ ap (λ (z : ℤ). isFraction mostFactor z (c .before .args .q)) (toZ-ofZ (c .before .fits .p))
@@ -39,9 +36,6 @@ factored c = passes (told (c .before)) (c .if1 .left)
 
 within : (c : tie.Else1) → InBounds mostFactor (c .before .before .args .p) (c .before .before .args .q)
 within c = isFraction-told mostFactor _ _ (factored c)
-
-magnitude-requires : tie.Need-magnitude-requires
-magnitude-requires c κs = search needs
 
 -- the magnitude that the call gave is that of p itself
 m-is : (c : tie.After-magnitude) → c .magnitude .result ≡ natAbs (c .before .before .before .args .p)
@@ -75,12 +69,6 @@ dividend-lt c =
     let s = e .before .before in
     rw (abs-product (s .args .count) (pos (s .args .q))) (omega (arith, mul-le-mul (s .pre) (within e .bottom)))
 
-remainder-requires : tie.Need-remainder-requires
-remainder-requires c κs = search needs
-
-nearest-count-requires : tie.Need-nearest-count-requires
-nearest-count-requires c κs = search needs
-
 returns-3 : tie.Need-returns-3
 unfolding leftCounted held
 returns-3 c =
@@ -102,11 +90,11 @@ pub remainder-by-spec : {M : Type 1} → statement M
 remainder-by-spec =
     tie.close
     (tie.spec
-    is-fraction-requires
+    (λ c κs. search needs)
     returns
-    magnitude-requires
+    (λ c κs. search needs)
     returns-2
     scaled-requires
-    remainder-requires
-    nearest-count-requires
+    (λ c κs. search needs)
+    (λ c κs. search needs)
     returns-3)

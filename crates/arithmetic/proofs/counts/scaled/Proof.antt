@@ -11,12 +11,6 @@ use Rattle.numbers.specs.Total.{fitted, fitted-in}
 use Rattle.arithmetic.proofs.counts.scaled.Statement.{statement}
 use Rattle.arithmetic.proofs.counts.scaled.Tie as tie
 
-with-sign-requires : tie.Need-with-sign-requires
-with-sign-requires c κs = search needs
-
-product-requires : tie.Need-product-requires
-product-requires c κs = search needs
-
 returns : tie.Need-returns
 returns c =
     let s = c .before .before in
@@ -28,4 +22,4 @@ returns c =
     ∙ fitted-in _ (s .args .count *ℤ pos q) (omega (arith, mul-le-mul (s .pre .0) (s .pre .1)))
 
 pub scaled-spec : {M : Type 1} → statement M
-scaled-spec = tie.close (tie.spec with-sign-requires product-requires returns)
+scaled-spec = tie.close (tie.spec (λ c κs. search needs) (λ c κs. search needs) returns)

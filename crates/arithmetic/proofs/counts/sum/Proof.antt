@@ -12,15 +12,6 @@ use Rattle.rates.specs.declared.Framerate.{Framerate}
 use Rattle.arithmetic.proofs.counts.sum.Statement.{statement}
 use Rattle.arithmetic.proofs.counts.sum.Tie as tie
 
-row-requires : tie.Need-row-requires
-row-requires c κs = search needs
-
-sum-requires : tie.Need-sum-requires
-sum-requires c κs = search needs
-
-nearest-count-requires : tie.Need-nearest-count-requires
-nearest-count-requires c κs = search needs
-
 returns : tie.Need-returns
 returns c =
     let r = c .before .before in
@@ -34,4 +25,4 @@ returns c =
     (ap (λ (f : Framerate). f .ticks) (r .row .ensures))
 
 pub sum-spec : {M : Type 1} → statement M
-sum-spec = tie.close (tie.spec row-requires sum-requires nearest-count-requires returns)
+sum-spec = tie.close (tie.spec (λ c κs. search needs) (λ c κs. search needs) (λ c κs. search needs) returns)

@@ -4,7 +4,6 @@ use Prim.Native.Nat.{ℕ}
 use mathlib.Core.Path.{_≡_}
 use native.Mathlib.Omega.{arith}
 use borrow.Author.Tests.{leb-true}
-use borrow.Author.Needs.{needs}
 use Rattle.ask.proofs.answer.is_whole.Statement.{statement}
 use Rattle.ask.proofs.answer.is_whole.Tie as tie
 use Rattle.ask.proofs.answer.is_whole.Reads as reads

@@ -6,12 +6,9 @@ use Rattle.asking.specs.Table.{rows, filled, bytesIn, tableBytes}
 use Rattle.asking.proofs.table.byte_at.Statement.{statement}
 use Rattle.asking.proofs.table.byte_at.Tie as tie
 
-array-read-result : tie.Need-array-read-result
-array-read-result c = search needs
-
 returns : tie.Need-returns
 unfolding rows filled bytesIn tableBytes
 returns c = refl
 
 pub byte-at-spec : {M : Type 1} → statement M
-byte-at-spec = tie.close (tie.spec array-read-result returns)
+byte-at-spec = tie.close (tie.spec (λ c. search needs) returns)

@@ -1,11 +1,10 @@
 -- `asking::table::is_named` meets its contract: byte by byte the two are the same, and where the word ends the other has a space.
 -- Assumes nothing.
-use Prim.Native.Nat.{_<_, _-_, _≤_}
+use Prim.Native.Nat.{_-_, _≤_}
 use mathlib.Core.Path.{ap, _≡_, sym, refl, _∙_}
 use native.Mathlib.Omega.{arith}
 use lib.Dec.{eqb}
 use lib.ListN.{length, getD}
-use borrow.Author.Tests.{ne-eqb}
 use borrow.Author.Needs.{needs}
 use Rattle.asking.specs.Table.{rowAt}
 use Rattle.asking.proofs.Filled.{name-at}
@@ -28,18 +27,6 @@ returns c = sym (same-longer _ _ (omega (arith, name-short (c .before .before .a
 loop-holds : tie.Need-loop-holds Inv-loop μ-loop
 loop-holds c = (record { within = omega arith; same-from = refl }, omega arith)
 
-shared-slice-read-if2 : tie.Need-shared-slice-read-if2 Inv-loop μ-loop
-shared-slice-read-if2 c = search needs
-
-mul-byte-at : tie.Need-mul-byte-at Inv-loop μ-loop
-mul-byte-at c = search needs
-
-add-byte-at : tie.Need-add-byte-at Inv-loop μ-loop
-add-byte-at c = search needs
-
-byte-at-requires : tie.Need-byte-at-requires Inv-loop μ-loop
-byte-at-requires c κs = search needs
-
 -- the row's byte
 there : (c : tie.After-byte-at Inv-loop μ-loop) → c .byte-at .result ≡ getD (rowAt (c .before .before .before .before .before .before .args .row) .name) (c .before .before .before .loop .i) 32
 there c = c .byte-at .ensures ∙ name-at _ _ (c .before .before .before .before .before .before .pre .1) (omega arith)
@@ -47,23 +34,8 @@ there c = c .byte-at .ensures ∙ name-at _ _ (c .before .before .before .before
 returns-2 : tie.Need-returns-2 Inv-loop μ-loop
 returns-2 c = sym (comparing-other _ _ _ (c .before .before .before .before .loop .inv .0) (c .before .before .before .loop-test .taken) (λ e. c .if2 .taken (e ∙ sym (there (c .before)))))
 
-add-i : tie.Need-add-i Inv-loop μ-loop
-add-i c = search needs
-
-loop-less : tie.Need-loop-less Inv-loop μ-loop
-loop-less c = search needs
-
 loop-again : tie.Need-loop-again Inv-loop μ-loop
 loop-again c = (comparing-turn _ _ _ (c .before .before .before .before .loop .inv .0) (c .before .before .before .before .before .before .before .pre .0) (c .before .before .before .loop-test .taken) (c .if2 .left ∙ there (c .before)), c .before .before .before .before .loop .inv .1)
-
-mul-byte-at-2 : tie.Need-mul-byte-at-2 Inv-loop μ-loop
-mul-byte-at-2 c = search needs
-
-add-byte-at-2 : tie.Need-add-byte-at-2 Inv-loop μ-loop
-add-byte-at-2 c = search needs
-
-byte-at-requires-2 : tie.Need-byte-at-requires-2 Inv-loop μ-loop
-byte-at-requires-2 c κs = search needs
 
 returns-3 : tie.Need-returns-3 Inv-loop μ-loop
 returns-3 c = ap (λ z. eqb z 32) (c .byte-at2 .ensures ∙ name-at (c .before .before .before .before .before .args .row) (c .before .before .loop .i) (c .before .before .before .before .before .pre .1) (omega arith)) ∙ sym (comparing-done _ _ _ (c .before .before .loop .inv .0) (name-plain _ (c .before .before .before .before .before .pre .1)) (c .before .loop-test .left))
@@ -76,15 +48,15 @@ is-named-spec =
     μ-loop
     returns
     loop-holds
-    shared-slice-read-if2
-    mul-byte-at
-    add-byte-at
-    byte-at-requires
+    (λ c. search needs)
+    (λ c. search needs)
+    (λ c. search needs)
+    (λ c κs. search needs)
     returns-2
-    add-i
-    loop-less
+    (λ c. search needs)
+    (λ c. search needs)
     loop-again
-    mul-byte-at-2
-    add-byte-at-2
-    byte-at-requires-2
+    (λ c. search needs)
+    (λ c. search needs)
+    (λ c κs. search needs)
     returns-3)

@@ -20,17 +20,8 @@ abbrev μ-loop : tie.MeasureT-loop
 loop-holds : tie.Need-loop-holds Inv-loop μ-loop
 loop-holds c = record { within = omega arith; same-from = refl }
 
-is-named-requires : tie.Need-is-named-requires Inv-loop μ-loop
-is-named-requires c κs = search needs
-
 returns : tie.Need-returns Inv-loop μ-loop
 returns c = seeking-found _ _ (c .before .before .before .loop .inv) (c .before .before .loop-test .taken) (sym (c .before .is-named .ensures) ∙ c .if1 .taken)
-
-add-i : tie.Need-add-i Inv-loop μ-loop
-add-i c = search needs
-
-loop-less : tie.Need-loop-less Inv-loop μ-loop
-loop-less c = search needs
 
 loop-again : tie.Need-loop-again Inv-loop μ-loop
 loop-again c = seeking-turn _ _ (c .before .before .before .loop .inv) (c .before .before .loop-test .taken) (sym (c .before .is-named .ensures) ∙ c .if1 .left)
@@ -45,9 +36,9 @@ row-named-spec =
     Inv-loop
     μ-loop
     loop-holds
-    is-named-requires
+    (λ c κs. search needs)
     returns
-    add-i
-    loop-less
+    (λ c. search needs)
+    (λ c. search needs)
     loop-again
     returns-2)

@@ -1,6 +1,6 @@
 -- `asking::values::digits_at` meets its contract: the run there is its digits, and what is held of their value is enough.
 -- Assumes nothing.
-use mathlib.Core.Path.{_≡_, ap, _∙_}
+use mathlib.Core.Path.{ap, _∙_}
 use native.Mathlib.Omega.{arith}
 use borrow.Author.Needs.{needs}
 use Rattle.digits.proofs.Runs.{run-count}
@@ -13,29 +13,17 @@ use Rattle.asking.proofs.values.magnitude.Reads as magnitude-reads
 use Rattle.asking.proofs.values.signed.Reads as signed-reads
 use Rattle.digits.proofs.run_at.Reads as run-at-reads
 
-run-at-requires : tie.Need-run-at-requires
-run-at-requires c κs = search needs
-
 returns : tie.Need-returns
 returns c = digits-none _ _ _ (ap (λ z. z .count) (c .before .run-at .ensures) ∙ run-count _) _ (c .if1 .taken)
 
 add-end : tie.Need-add-end
 add-end c = omega (arith, digits-within (c .before .before .before .args .line .now) (c .before .before .before .args .at) _ (ap (λ z. z .count) (c .before .run-at .ensures) ∙ run-count _) (c .if1 .left))
 
-sub-magnitude : tie.Need-sub-magnitude
-sub-magnitude c = search needs
-
-part-magnitude-start : tie.Need-part-magnitude-start
-part-magnitude-start c = search needs
-
 part-magnitude-end : tie.Need-part-magnitude-end
 part-magnitude-end c = digits-within _ _ _ (ap (λ z. z .count) (c .before .run-at .ensures) ∙ run-count _) (c .if1 .left)
 
 magnitude-requires : tie.Need-magnitude-requires
 magnitude-requires c κs = part-digits _ _ _ (ap (λ z. z .count) (c .before .before .run-at .ensures) ∙ run-count _)
-
-signed-requires : tie.Need-signed-requires
-signed-requires c κs = search needs
 
 returns-2 : tie.Need-returns-2
 returns-2 c = c .signed .ensures ∙ digits-some _ _ _ (ap (λ z. z .count) (c .before .before .before .before .run-at .ensures) ∙ run-count _) _ _ (c .before .before .before .if1 .left) (c .before .magnitude .ensures)
@@ -44,12 +32,12 @@ pub digits-at-spec : {M : Type 1} → statement M
 digits-at-spec =
     tie.close
     (tie.spec
-    run-at-requires
+    (λ c κs. search needs)
     returns
     add-end
-    sub-magnitude
-    part-magnitude-start
+    (λ c. search needs)
+    (λ c. search needs)
     part-magnitude-end
     magnitude-requires
-    signed-requires
+    (λ c κs. search needs)
     returns-2)

@@ -1,7 +1,6 @@
 -- `asking::values::magnitude` meets its contract: what is held of the digits so far.
 -- Assumes nothing.
 use Prim.Native.Nat.{_-_}
-use native.Mathlib.Omega.{arith}
 use lib.ListN.{length}
 use borrow.Author.Needs.{needs}
 use Rattle.asking.proofs.Numbers.{Valuing, valuing-start, valuing-turn, valuing-done, here}
@@ -20,17 +19,8 @@ abbrev μ-loop : tie.MeasureT-loop
 loop-holds : tie.Need-loop-holds Inv-loop μ-loop
 loop-holds c = valuing-start _
 
-shared-slice-read-push : tie.Need-shared-slice-read-push Inv-loop μ-loop
-shared-slice-read-push c = search needs
-
 push-requires : tie.Need-push-requires Inv-loop μ-loop
 push-requires c κs = here _ (c .before .before .before .before .pre) _ (c .before .loop-test .taken)
-
-add-i : tie.Need-add-i Inv-loop μ-loop
-add-i c = search needs
-
-loop-less : tie.Need-loop-less Inv-loop μ-loop
-loop-less c = search needs
 
 loop-again : tie.Need-loop-again Inv-loop μ-loop
 loop-again c = valuing-turn _ _ _ _ (c .before .before .before .loop .inv) (c .before .before .before .before .before .pre) (c .before .before .loop-test .taken) (c .push .ensures)
@@ -45,9 +35,9 @@ magnitude-spec =
     Inv-loop
     μ-loop
     loop-holds
-    shared-slice-read-push
+    (λ c. search needs)
     push-requires
-    add-i
-    loop-less
+    (λ c. search needs)
+    (λ c. search needs)
     loop-again
     returns)

@@ -1,7 +1,7 @@
 -- `asking::values::number` meets its contract: a space, an optional `-`, and the digits behind it.
 -- Assumes nothing.
 use Prim.Native.Nat.{_+_}
-use mathlib.Core.Path.{_≡_, sym, _∙_}
+use mathlib.Core.Path.{sym, _∙_}
 use native.Mathlib.Omega.{arith}
 use borrow.Author.Tests.{not-true, not-false}
 use borrow.Author.Needs.{needs}
@@ -13,29 +13,17 @@ use Rattle.asking.proofs.values.number.Lts as lts
 use Rattle.asking.proofs.values.digits_at.Reads as digits-at-reads
 use Rattle.asking.proofs.values.stands.Reads as stands-reads
 
-stands-requires : tie.Need-stands-requires
-stands-requires c κs = search needs
-
 returns : tie.Need-returns
 returns c = number-none _ _ (sym (c .before .stands .ensures) ∙ not-true _ (c .if1 .taken))
 
 add-from : tie.Need-add-from
 add-from c = omega (arith, stands-within (c .before .before .before .args .line .now) (c .before .before .before .args .at) 32 (sym (c .before .stands .ensures) ∙ not-false _ (c .if1 .left)))
 
-stands-requires-2 : tie.Need-stands-requires-2
-stands-requires-2 c κs = search needs
-
 add-digits-at : tie.Need-add-digits-at
 add-digits-at c = omega (arith, stands-within (c .before .before .before .before .before .args .line .now) (c .before .before .before .before .before .args .at + 1) 45 (sym (c .before .stands2 .ensures) ∙ c .if2 .taken))
 
-digits-at-requires : tie.Need-digits-at-requires
-digits-at-requires c κs = search needs
-
 returns-2 : tie.Need-returns-2
 returns-2 c = c .digits-at .ensures ∙ number-minus _ _ (sym (c .before .before .before .before .stands .ensures) ∙ not-false _ (c .before .before .before .if1 .left)) (sym (c .before .before .stands2 .ensures) ∙ c .before .if2 .taken)
-
-digits-at-requires-2 : tie.Need-digits-at-requires-2
-digits-at-requires-2 c κs = search needs
 
 returns-3 : tie.Need-returns-3
 returns-3 c = c .digits-at2 .ensures ∙ number-plain _ _ (sym (c .before .before .before .before .stands .ensures) ∙ not-false _ (c .before .before .before .if1 .left)) (sym (c .before .before .stands2 .ensures) ∙ c .before .if2 .left)
@@ -44,12 +32,12 @@ pub number-spec : {M : Type 1} → statement M
 number-spec =
     tie.close
     (tie.spec
-    stands-requires
+    (λ c κs. search needs)
     returns
     add-from
-    stands-requires-2
+    (λ c κs. search needs)
     add-digits-at
-    digits-at-requires
+    (λ c κs. search needs)
     returns-2
-    digits-at-requires-2
+    (λ c κs. search needs)
     returns-3)

@@ -12,17 +12,11 @@ use Rattle.asking.proofs.values.push.Lts as lts
 returns : tie.Need-returns
 returns c = pushed-past _ _ (c .if1 .taken)
 
-mul-result : tie.Need-mul-result
-mul-result c = search needs
-
 sub-result : tie.Need-sub-result
 sub-result c = omega (arith, digit-bounds (c .before .args .b) (c .before .pre))
-
-add-result : tie.Need-add-result
-add-result c = search needs
 
 returns-2 : tie.Need-returns-2
 returns-2 c = pushed-within _ _ (c .if1 .left)
 
 pub push-spec : {M : Type 1} → statement M
-push-spec = tie.close (tie.spec returns mul-result sub-result add-result returns-2)
+push-spec = tie.close (tie.spec returns (λ c. search needs) sub-result (λ c. search needs) returns-2)

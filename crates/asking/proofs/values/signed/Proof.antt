@@ -1,21 +1,16 @@
 -- `asking::values::signed` meets its contract: below 2^63 every number is within 64 bits, at it the least one alone.
 -- Assumes nothing.
-use mathlib.Core.Path.{_≡_, refl, ap, _∙_}
-use native.Mathlib.Omega.{arith}
+use mathlib.Core.Path.{ap, _∙_}
 use borrow.Author.Needs.{needs}
 use Rattle.numbers.specs.Total.{fitted-in}
 use mir.Facts.{toZ-ofZ}
 use Rattle.asking.specs.declared.values.Word.the-variants.{Number}
-use Rattle.asking.specs.Numbers.{signedWord}
 use Rattle.asking.proofs.Numbers.{word-least, word-most, word-within, word-past}
 use Rattle.asking.proofs.values.signed.Statement.{statement}
 use Rattle.asking.proofs.values.signed.Tie as tie
 use Rattle.asking.proofs.values.signed.Reads as reads
 use Rattle.asking.proofs.values.signed.Lts as lts
 use Rattle.numbers.proofs.with_sign.Reads as with-sign-reads
-
-with-sign-requires : tie.Need-with-sign-requires
-with-sign-requires c κs = search needs
 
 returns : tie.Need-returns
 returns c = ap (λ z. Number z (c .before .before .args .next)) (toZ-ofZ (record { sfits = c .with-sign .ok }) ∙ c .with-sign .ensures ∙ fitted-in _ _ (c .before .if1 .taken)) ∙ word-within _ _ _ (c .before .if1 .taken)
@@ -30,4 +25,4 @@ returns-4 : tie.Need-returns-4
 returns-4 c = word-most _ _ _ (c .before .before .if1 .left) (c .if3 .left)
 
 pub signed-spec : {M : Type 1} → statement M
-signed-spec = tie.close (tie.spec with-sign-requires returns returns-2 returns-3 returns-4)
+signed-spec = tie.close (tie.spec (λ c κs. search needs) returns returns-2 returns-3 returns-4)

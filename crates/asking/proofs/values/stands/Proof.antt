@@ -7,9 +7,6 @@ use Rattle.asking.proofs.values.stands.Tie as tie
 use Rattle.asking.proofs.values.stands.Reads as reads
 use Rattle.asking.proofs.values.stands.Lts as lts
 
-shared-slice-read-result : tie.Need-shared-slice-read-result
-shared-slice-read-result c = search needs
-
 returns : tie.Need-returns
 returns c = stands-here _ _ _ (c .before .if1 .taken)
 
@@ -17,4 +14,4 @@ returns-2 : tie.Need-returns-2
 returns-2 c = stands-past _ _ _ (c .if1 .left)
 
 pub stands-spec : {M : Type 1} → statement M
-stands-spec = tie.close (tie.spec shared-slice-read-result returns returns-2)
+stands-spec = tie.close (tie.spec (λ c. search needs) returns returns-2)

@@ -13,21 +13,6 @@ use Rattle.asking.proofs.table.kind_of.Reads as kind-of-reads
 use Rattle.asking.proofs.words.not_understood.Reads as not-understood-reads
 use Rattle.asking.proofs.words.rest_at.Reads as rest-at-reads
 
-kind-of-requires : tie.Need-kind-of-requires
-kind-of-requires c κs = search needs
-
-rest-at-requires : tie.Need-rest-at-requires
-rest-at-requires c κs = search needs
-
-enum-known-r : tie.Need-enum-known-r
-enum-known-r c = search needs
-
-enum-told : tie.Need-enum-told
-enum-told c = search needs
-
-not-understood-requires : tie.Need-not-understood-requires
-not-understood-requires c κs = search needs
-
 -- what `rest_at` answered
 there : (c : tie.After-rest-at)
     → let a = c .before .before .before .args in restAt (kindOf (a .row) (a .k)) (a .at) (drop (a .at) (a .line .now)) ≡ c .rest-at .result
@@ -47,10 +32,10 @@ pub ended-spec : {M : Type 1} → statement M
 ended-spec =
     tie.close
     (tie.spec
-    kind-of-requires
-    rest-at-requires
-    enum-known-r
-    enum-told
-    not-understood-requires
+    (λ c κs. search needs)
+    (λ c κs. search needs)
+    (λ c. search needs)
+    (λ c. search needs)
+    (λ c κs. search needs)
     returns
     returns-2)

@@ -1,7 +1,7 @@
 -- `asking::words::is_allowed` meets its contract: two letters have bounds.
 -- Assumes nothing.
 use mathlib.Core.Bool.{_&&_, not}
-use mathlib.Core.Path.{_≡_, ap, _∙_}
+use mathlib.Core.Path.{ap, _∙_}
 use lib.Dec.{leb}
 use lib.IntN.{natAbs}
 use borrow.Author.Needs.{needs}
@@ -15,14 +15,8 @@ use Rattle.asking.proofs.words.is_allowed.Lts as lts
 use Rattle.asking.proofs.words.is_room.Reads as is-room-reads
 use Rattle.numbers.proofs.below_zero.Reads as below-zero-reads
 
-below-zero-requires : tie.Need-below-zero-requires
-below-zero-requires c κs = search needs
-
 returns : tie.Need-returns
 returns c = ap not (c .below-zero .ensures ∙ ap isNeg (toZ-ofZ (c .before .before .fits .z))) ∙ allowed-place _ _ (c .before .if1 .taken)
-
-is-room-requires : tie.Need-is-room-requires
-is-room-requires c κs = search needs
 
 returns-2 : tie.Need-returns-2
 returns-2 c = c .is-room .ensures ∙ ap (λ z. not (isNeg z) && leb (natAbs z) 128) (toZ-ofZ (c .before .before .before .fits .z)) ∙ allowed-room _ _ (c .before .before .if1 .left) (c .before .if2 .taken)
@@ -32,4 +26,4 @@ returns-3 c = allowed-any _ _ (c .before .if1 .left) (c .if2 .left)
 
 pub is-allowed-spec : {M : Type 1} → statement M
 is-allowed-spec =
-    tie.close (tie.spec below-zero-requires returns is-room-requires returns-2 returns-3)
+    tie.close (tie.spec (λ c κs. search needs) returns (λ c κs. search needs) returns-2 returns-3)

@@ -1,6 +1,6 @@
 -- `asking::words::is_number` meets its contract: three letters are no number's.
 -- Assumes nothing.
-use mathlib.Core.Path.{_≡_, sym, ap, _∙_}
+use mathlib.Core.Path.{sym, ap, _∙_}
 use mathlib.Core.Bool.{not}
 use lib.Dec.{eqb}
 use borrow.Author.Needs.{needs}
@@ -15,9 +15,6 @@ use Rattle.asking.proofs.table.kind_of.Reads as kind-of-reads
 returns : tie.Need-returns
 returns c = number-past (c .before .args .k) (kindOf (c .before .args .row) (c .before .args .k)) (c .if1 .taken)
 
-kind-of-requires : tie.Need-kind-of-requires
-kind-of-requires c κs = search needs
-
 returns-2 : tie.Need-returns-2
 returns-2 c = number-space (c .before .before .before .args .k) _ (sym (c .before .kind-of .ensures) ∙ c .if2 .taken)
 
@@ -28,4 +25,4 @@ returns-4 : tie.Need-returns-4
 returns-4 c = ap (λ z. not (eqb z 42)) (c .before .before .kind-of .ensures) ∙ number-other (c .before .before .before .before .args .k) _ (λ e. c .before .if2 .left (c .before .before .kind-of .ensures ∙ e)) (c .before .before .before .if1 .left) (λ e. c .if3 .left (c .before .before .kind-of .ensures ∙ e))
 
 pub is-number-spec : {M : Type 1} → statement M
-is-number-spec = tie.close (tie.spec returns kind-of-requires returns-2 returns-3 returns-4)
+is-number-spec = tie.close (tie.spec returns (λ c κs. search needs) returns-2 returns-3 returns-4)

@@ -1,6 +1,6 @@
 -- `asking::words::is_room` meets its contract: sign and magnitude are the number's.
 -- Assumes nothing.
-use mathlib.Core.Path.{_≡_, sym, ap, _∙_}
+use mathlib.Core.Path.{sym, ap, _∙_}
 use lib.IntN.{natAbs}
 use borrow.Author.Needs.{needs}
 use Rattle.numbers.specs.Sign.{isNeg}
@@ -13,17 +13,11 @@ use Rattle.asking.proofs.words.is_room.Lts as lts
 use Rattle.numbers.proofs.below_zero.Reads as below-zero-reads
 use Rattle.numbers.proofs.magnitude.Reads as magnitude-reads
 
-below-zero-requires : tie.Need-below-zero-requires
-below-zero-requires c κs = search needs
-
 returns : tie.Need-returns
 returns c = room-below (c .before .before .args .z) (sym (ap isNeg (toZ-ofZ (c .before .before .fits .z))) ∙ sym (c .before .below-zero .ensures) ∙ c .if1 .taken)
-
-magnitude-requires : tie.Need-magnitude-requires
-magnitude-requires c κs = search needs
 
 returns-2 : tie.Need-returns-2
 returns-2 c = room-not (c .before .before .before .args .z) _ (sym (ap isNeg (toZ-ofZ (c .before .before .before .fits .z))) ∙ sym (c .before .before .below-zero .ensures) ∙ c .before .if1 .left) (c .magnitude .ensures ∙ ap natAbs (toZ-ofZ (c .before .before .before .fits .z)))
 
 pub is-room-spec : {M : Type 1} → statement M
-is-room-spec = tie.close (tie.spec below-zero-requires returns magnitude-requires returns-2)
+is-room-spec = tie.close (tie.spec (λ c κs. search needs) returns (λ c κs. search needs) returns-2)

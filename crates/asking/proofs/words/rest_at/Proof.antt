@@ -16,14 +16,8 @@ returns-2 c = rest-own _ _ _ (c .before .if1 .left) (c .if2 .taken)
 returns-3 : tie.Need-returns-3
 returns-3 c = rest-none _ _ _ (c .before .before .if1 .left) (c .before .if2 .left) (c .if3 .taken)
 
-shared-slice-read-if4 : tie.Need-shared-slice-read-if4
-shared-slice-read-if4 c = search needs
-
 returns-4 : tie.Need-returns-4
 returns-4 c = rest-other _ _ _ (c .before .before .before .before .if1 .left) (c .before .before .before .if2 .left) (c .if4 .taken)
-
-add-t4 : tie.Need-add-t4
-add-t4 c = search needs
 
 returns-5 : tie.Need-returns-5
 returns-5 c = rest-text _ _ _ (c .before .before .before .before .if1 .left) (c .before .before .before .if2 .left) (c .before .before .if3 .left) (c .if4 .left)
@@ -31,4 +25,4 @@ returns-5 c = rest-text _ _ _ (c .before .before .before .before .if1 .left) (c 
 pub rest-at-spec : {M : Type 1} → statement M
 rest-at-spec =
     tie.close
-    (tie.spec returns returns-2 returns-3 shared-slice-read-if4 returns-4 add-t4 returns-5)
+    (tie.spec returns returns-2 returns-3 (λ c. search needs) returns-4 (λ c. search needs) returns-5)

@@ -1,6 +1,6 @@
 -- `asking::words::understand` meets its contract: the first word names the row, and the row says what follows.
 -- Assumes nothing.
-use mathlib.Core.Path.{_≡_, ap, _∙_}
+use mathlib.Core.Path.{ap, _∙_}
 use native.Mathlib.Omega.{arith}
 use borrow.Author.Needs.{needs}
 use Rattle.asking.specs.Table.{rowNamed}
@@ -15,29 +15,14 @@ use Rattle.asking.proofs.words.not_understood.Reads as not-understood-r
 use Rattle.asking.proofs.words.word_end.Reads as word-end-reads
 use Rattle.asking.proofs.words.words.Reads as words-reads
 
-word-end-requires : tie.Need-word-end-requires
-word-end-requires c κs = search needs
-
-sub-row-named : tie.Need-sub-row-named
-sub-row-named c = search needs
-
-part-row-named-start : tie.Need-part-row-named-start
-part-row-named-start c = search needs
-
 part-row-named-end : tie.Need-part-row-named-end
 part-row-named-end c = omega (arith, c .word-end .ensures, word-within (c .before .before .args .line .now))
 
 row-named-requires : tie.Need-row-named-requires
 row-named-requires c κs = part-plain _ _ (c .before .word-end .ensures)
 
-words-requires : tie.Need-words-requires
-words-requires c κs = search needs
-
 returns : tie.Need-returns
 returns c = c .words .ensures ∙ ap (λ n. wordsFrom 5 (c .before .before .row-named .result) (c .before .before .before .before .before .before .args .line .now) n 0 noValues) (c .before .before .before .before .word-end .ensures) ∙ asked-known _ _ (c .before .before .row-named .ensures ∙ ap rowNamed (word-part _ _ (c .before .before .before .before .word-end .ensures))) (c .before .if1 .taken)
-
-not-understood-requires : tie.Need-not-understood-requires
-not-understood-requires c κs = search needs
 
 returns-2 : tie.Need-returns-2
 returns-2 c = c .not-understood .ensures ∙ asked-unknown _ _ (c .before .before .row-named .ensures ∙ ap rowNamed (word-part _ _ (c .before .before .before .before .word-end .ensures))) (c .before .if1 .left)
@@ -46,12 +31,12 @@ pub understand-spec : {M : Type 1} → statement M
 understand-spec =
     tie.close
     (tie.spec
-    word-end-requires
-    sub-row-named
-    part-row-named-start
+    (λ c κs. search needs)
+    (λ c. search needs)
+    (λ c. search needs)
     part-row-named-end
     row-named-requires
-    words-requires
+    (λ c κs. search needs)
     returns
-    not-understood-requires
+    (λ c κs. search needs)
     returns-2)

@@ -13,20 +13,8 @@ use Rattle.asking.proofs.words.word_at.Lts as lts
 use Rattle.asking.proofs.values.number.Reads as number-reads
 use Rattle.asking.proofs.words.is_allowed.Reads as is-allowed-reads
 
-number-requires : tie.Need-number-requires
-number-requires c κs = search needs
-
-enum-known-w : tie.Need-enum-known-w
-enum-known-w c = search needs
-
-enum-told : tie.Need-enum-told
-enum-told c = search needs
-
 returns : tie.Need-returns
 returns c = sym (ap (allowed (c .before .before .before .before .args .kind)) (sym (c .before .before .number .ensures) ∙ c .enum-told .given .1))
-
-is-allowed-requires : tie.Need-is-allowed-requires
-is-allowed-requires c κs = search needs
 
 -- the number, read back
 back : (c : tie.After-known-told) → toZ w64 (ofZ w64 (c .before .w .given .0 .0)) ≡ c .before .w .given .0 .0
@@ -42,10 +30,10 @@ pub word-at-spec : {M : Type 1} → statement M
 word-at-spec =
     tie.close
     (tie.spec
-    number-requires
-    enum-known-w
-    enum-told
+    (λ c κs. search needs)
+    (λ c. search needs)
+    (λ c. search needs)
     returns
-    is-allowed-requires
+    (λ c κs. search needs)
     returns-2
     returns-3)

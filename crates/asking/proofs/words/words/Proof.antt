@@ -3,7 +3,7 @@
 use Prim.Native.Nat.{_-_}
 use mathlib.Core.Path.{_≡_, sym, ap, _∙_}
 use native.Mathlib.Omega.{arith}
-use lib.ListN.{set, drop}
+use lib.ListN.{drop}
 use borrow.Author.Needs.{needs}
 use mir.Syntax.{w64}
 use mir.Val.{toZ, ofZ}
@@ -30,23 +30,8 @@ abbrev μ-loop : tie.MeasureT-loop
 loop-holds : tie.Need-loop-holds Inv-loop μ-loop
 loop-holds c = going-start _ _ _
 
-is-number-requires : tie.Need-is-number-requires Inv-loop μ-loop
-is-number-requires c κs = search needs
-
 kind-of-requires : tie.Need-kind-of-requires Inv-loop μ-loop
 kind-of-requires c κs = (c .before .before .before .before .pre, omega (arith, going-within _ _ _ _ _ _ (c .before .before .loop .inv) _ (c .before .is-number .ensures) (c .if1 .taken)))
-
-word-at-requires : tie.Need-word-at-requires Inv-loop μ-loop
-word-at-requires c κs = search needs
-
-enum-known-w : tie.Need-enum-known-w Inv-loop μ-loop
-enum-known-w c = search needs
-
-enum-told : tie.Need-enum-told Inv-loop μ-loop
-enum-told c = search needs
-
-not-understood-requires : tie.Need-not-understood-requires Inv-loop μ-loop
-not-understood-requires c κs = search needs
 
 -- what `word_at` answered, and its number, read back
 there : (c : tie.After-word-at Inv-loop μ-loop)
@@ -92,12 +77,12 @@ words-spec =
     Inv-loop
     μ-loop
     loop-holds
-    is-number-requires
+    (λ c κs. search needs)
     kind-of-requires
-    word-at-requires
-    enum-known-w
-    enum-told
-    not-understood-requires
+    (λ c κs. search needs)
+    (λ c. search needs)
+    (λ c. search needs)
+    (λ c κs. search needs)
     returns
     mul-values
     array-set-from-values

@@ -8,21 +8,6 @@ use borrow.Author.Needs.{needs}
 use Rattle.exports.proofs.handed.handed_read.Statement.{statement}
 use Rattle.exports.proofs.handed.handed_read.Tie as tie
 
-enum-known-a : tie.Need-enum-known-a
-enum-known-a c = search needs
-
-enum-known-a-2 : tie.Need-enum-known-a-2
-enum-known-a-2 c = search needs
-
-number-requires : tie.Need-number-requires
-number-requires c κs = search needs
-
-enum-known-a-3 : tie.Need-enum-known-a-3
-enum-known-a-3 c = search needs
-
-wide-requires : tie.Need-wide-requires
-wide-requires c κs = search needs
-
 returns : tie.Need-returns
 unfolding handedRead
 returns c =
@@ -45,11 +30,11 @@ pub handed-read-spec : {M : Type 1} → statement M
 handed-read-spec =
     tie.close
     (tie.spec
-    enum-known-a
-    enum-known-a-2
-    number-requires
-    enum-known-a-3
-    wide-requires
+    (λ c. search needs)
+    (λ c. search needs)
+    (λ c κs. search needs)
+    (λ c. search needs)
+    (λ c κs. search needs)
     returns
     returns-2
     returns-3)

@@ -6,14 +6,8 @@ use borrow.Author.Needs.{needs}
 use Rattle.exports.proofs.reads.tzq_read_as.Statement.{statement}
 use Rattle.exports.proofs.reads.tzq_read_as.Tie as tie
 
-read-text-requires : tie.Need-read-text-requires
-read-text-requires c κs = search needs
-
-handed-read-requires : tie.Need-handed-read-requires
-handed-read-requires c κs = search needs
-
 returns : tie.Need-returns
 returns c = c .handed-read .ensures ∙ ap handedRead (c .before .read-text .ensures)
 
 pub tzq-read-as-spec : {M : Type 1} → statement M
-tzq-read-as-spec = tie.close (tie.spec read-text-requires handed-read-requires returns)
+tzq-read-as-spec = tie.close (tie.spec (λ c κs. search needs) (λ c κs. search needs) returns)

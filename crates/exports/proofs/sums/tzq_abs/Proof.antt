@@ -7,17 +7,8 @@ use borrow.Author.Needs.{needs}
 use Rattle.exports.proofs.sums.tzq_abs.Statement.{statement}
 use Rattle.exports.proofs.sums.tzq_abs.Tie as tie
 
-timecode-from-requires : tie.Need-timecode-from-requires
-timecode-from-requires c κs = search needs
-
-abs-requires : tie.Need-abs-requires
-abs-requires c κs = search needs
-
-handed-answer-requires : tie.Need-handed-answer-requires
-handed-answer-requires c κs = search needs
-
 returns : tie.Need-returns
 returns c = c .handed-answer .ensures ∙ ap handedAnswer (c .before .abs .ensures ∙ ap absOf (c .before .before .timecode-from .ensures))
 
 pub tzq-abs-spec : {M : Type 1} → statement M
-tzq-abs-spec = tie.close (tie.spec timecode-from-requires abs-requires handed-answer-requires returns)
+tzq-abs-spec = tie.close (tie.spec (λ c κs. search needs) (λ c κs. search needs) (λ c κs. search needs) returns)

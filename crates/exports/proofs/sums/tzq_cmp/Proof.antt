@@ -7,18 +7,6 @@ use borrow.Author.Needs.{needs}
 use Rattle.exports.proofs.sums.tzq_cmp.Statement.{statement}
 use Rattle.exports.proofs.sums.tzq_cmp.Tie as tie
 
-timecode-from-requires : tie.Need-timecode-from-requires
-timecode-from-requires c κs = search needs
-
-timecode-from-requires-2 : tie.Need-timecode-from-requires-2
-timecode-from-requires-2 c κs = search needs
-
-cmp-requires : tie.Need-cmp-requires
-cmp-requires c κs = search needs
-
-handed-order-requires : tie.Need-handed-order-requires
-handed-order-requires c κs = search needs
-
 returns : tie.Need-returns
 returns c =
     c .handed-order .ensures
@@ -27,4 +15,4 @@ returns c =
 pub tzq-cmp-spec : {M : Type 1} → statement M
 tzq-cmp-spec =
     tie.close
-    (tie.spec timecode-from-requires timecode-from-requires-2 cmp-requires handed-order-requires returns)
+    (tie.spec (λ c κs. search needs) (λ c κs. search needs) (λ c κs. search needs) (λ c κs. search needs) returns)

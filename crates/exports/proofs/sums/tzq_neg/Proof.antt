@@ -7,17 +7,8 @@ use borrow.Author.Needs.{needs}
 use Rattle.exports.proofs.sums.tzq_neg.Statement.{statement}
 use Rattle.exports.proofs.sums.tzq_neg.Tie as tie
 
-timecode-from-requires : tie.Need-timecode-from-requires
-timecode-from-requires c κs = search needs
-
-neg-requires : tie.Need-neg-requires
-neg-requires c κs = search needs
-
-handed-answer-requires : tie.Need-handed-answer-requires
-handed-answer-requires c κs = search needs
-
 returns : tie.Need-returns
 returns c = c .handed-answer .ensures ∙ ap handedAnswer (c .before .neg .ensures ∙ ap negOf (c .before .before .timecode-from .ensures))
 
 pub tzq-neg-spec : {M : Type 1} → statement M
-tzq-neg-spec = tie.close (tie.spec timecode-from-requires neg-requires handed-answer-requires returns)
+tzq-neg-spec = tie.close (tie.spec (λ c κs. search needs) (λ c κs. search needs) (λ c κs. search needs) returns)

@@ -8,15 +8,6 @@ use borrow.Author.Needs.{needs}
 use Rattle.exports.proofs.sums.tzq_rebase.Statement.{statement}
 use Rattle.exports.proofs.sums.tzq_rebase.Tie as tie
 
-timecode-from-requires : tie.Need-timecode-from-requires
-timecode-from-requires c κs = search needs
-
-rebase-requires : tie.Need-rebase-requires
-rebase-requires c κs = search needs
-
-handed-answer-requires : tie.Need-handed-answer-requires
-handed-answer-requires c κs = search needs
-
 returns : tie.Need-returns
 returns c =
     c .handed-answer .ensures
@@ -24,4 +15,4 @@ returns c =
 
 pub tzq-rebase-spec : {M : Type 1} → statement M
 tzq-rebase-spec =
-    tie.close (tie.spec timecode-from-requires rebase-requires handed-answer-requires returns)
+    tie.close (tie.spec (λ c κs. search needs) (λ c κs. search needs) (λ c κs. search needs) returns)

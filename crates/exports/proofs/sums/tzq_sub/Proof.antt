@@ -7,18 +7,6 @@ use borrow.Author.Needs.{needs}
 use Rattle.exports.proofs.sums.tzq_sub.Statement.{statement}
 use Rattle.exports.proofs.sums.tzq_sub.Tie as tie
 
-timecode-from-requires : tie.Need-timecode-from-requires
-timecode-from-requires c κs = search needs
-
-timecode-from-requires-2 : tie.Need-timecode-from-requires-2
-timecode-from-requires-2 c κs = search needs
-
-sub-requires : tie.Need-sub-requires
-sub-requires c κs = search needs
-
-handed-answer-requires : tie.Need-handed-answer-requires
-handed-answer-requires c κs = search needs
-
 returns : tie.Need-returns
 returns c =
     c .handed-answer .ensures
@@ -27,4 +15,4 @@ returns c =
 pub tzq-sub-spec : {M : Type 1} → statement M
 tzq-sub-spec =
     tie.close
-    (tie.spec timecode-from-requires timecode-from-requires-2 sub-requires handed-answer-requires returns)
+    (tie.spec (λ c κs. search needs) (λ c κs. search needs) (λ c κs. search needs) (λ c κs. search needs) returns)

@@ -6,14 +6,8 @@ use borrow.Author.Needs.{needs}
 use Rattle.exports.proofs.tables.tzq_format.Statement.{statement}
 use Rattle.exports.proofs.tables.tzq_format.Tie as tie
 
-format-at-requires : tie.Need-format-at-requires
-format-at-requires c κs = search needs
-
-handed-format-requires : tie.Need-handed-format-requires
-handed-format-requires c κs = search needs
-
 returns : tie.Need-returns
 returns c = c .handed-format .ensures ∙ ap handedFormat (c .before .format-at .ensures)
 
 pub tzq-format-spec : {M : Type 1} → statement M
-tzq-format-spec = tie.close (tie.spec format-at-requires handed-format-requires returns)
+tzq-format-spec = tie.close (tie.spec (λ c κs. search needs) (λ c κs. search needs) returns)

@@ -6,14 +6,8 @@ use borrow.Author.Needs.{needs}
 use Rattle.exports.proofs.tables.tzq_minute_start.Statement.{statement}
 use Rattle.exports.proofs.tables.tzq_minute_start.Tie as tie
 
-minute-start-requires : tie.Need-minute-start-requires
-minute-start-requires c κs = search needs
-
-handed-count-requires : tie.Need-handed-count-requires
-handed-count-requires c κs = search needs
-
 returns : tie.Need-returns
 returns c = c .handed-count .ensures ∙ ap handedCount (c .before .minute-start .ensures)
 
 pub tzq-minute-start-spec : {M : Type 1} → statement M
-tzq-minute-start-spec = tie.close (tie.spec minute-start-requires handed-count-requires returns)
+tzq-minute-start-spec = tie.close (tie.spec (λ c κs. search needs) (λ c κs. search needs) returns)

@@ -6,14 +6,8 @@ use borrow.Author.Needs.{needs}
 use Rattle.exports.proofs.tables.tzq_rate.Statement.{statement}
 use Rattle.exports.proofs.tables.tzq_rate.Tie as tie
 
-framerate-at-requires : tie.Need-framerate-at-requires
-framerate-at-requires c κs = search needs
-
-handed-rate-requires : tie.Need-handed-rate-requires
-handed-rate-requires c κs = search needs
-
 returns : tie.Need-returns
 returns c = c .handed-rate .ensures ∙ ap handedRate (c .before .framerate-at .ensures)
 
 pub tzq-rate-spec : {M : Type 1} → statement M
-tzq-rate-spec = tie.close (tie.spec framerate-at-requires handed-rate-requires returns)
+tzq-rate-spec = tie.close (tie.spec (λ c κs. search needs) (λ c κs. search needs) returns)

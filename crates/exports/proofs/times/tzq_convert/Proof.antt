@@ -8,15 +8,6 @@ use borrow.Author.Needs.{needs}
 use Rattle.exports.proofs.times.tzq_convert.Statement.{statement}
 use Rattle.exports.proofs.times.tzq_convert.Tie as tie
 
-timecode-from-requires : tie.Need-timecode-from-requires
-timecode-from-requires c κs = search needs
-
-convert-requires : tie.Need-convert-requires
-convert-requires c κs = search needs
-
-handed-timecode-requires : tie.Need-handed-timecode-requires
-handed-timecode-requires c κs = search needs
-
 returns : tie.Need-returns
 returns c =
     let l = c .before .before .before .before .args .list .now in
@@ -24,4 +15,4 @@ returns c =
 
 pub tzq-convert-spec : {M : Type 1} → statement M
 tzq-convert-spec =
-    tie.close (tie.spec timecode-from-requires convert-requires handed-timecode-requires returns)
+    tie.close (tie.spec (λ c κs. search needs) (λ c κs. search needs) (λ c κs. search needs) returns)

@@ -7,18 +7,9 @@ use borrow.Author.Needs.{needs}
 use Rattle.exports.proofs.times.tzq_premiere_ticks.Statement.{statement}
 use Rattle.exports.proofs.times.tzq_premiere_ticks.Tie as tie
 
-timecode-from-requires : tie.Need-timecode-from-requires
-timecode-from-requires c κs = search needs
-
-premiere-ticks-requires : tie.Need-premiere-ticks-requires
-premiere-ticks-requires c κs = search needs
-
-handed-ticks-requires : tie.Need-handed-ticks-requires
-handed-ticks-requires c κs = search needs
-
 returns : tie.Need-returns
 returns c = c .handed-ticks .ensures ∙ ap handedTicks (c .before .premiere-ticks .ensures ∙ ap ticksOf (c .before .before .timecode-from .ensures))
 
 pub tzq-premiere-ticks-spec : {M : Type 1} → statement M
 tzq-premiere-ticks-spec =
-    tie.close (tie.spec timecode-from-requires premiere-ticks-requires handed-ticks-requires returns)
+    tie.close (tie.spec (λ c κs. search needs) (λ c κs. search needs) (λ c κs. search needs) returns)

@@ -7,15 +7,6 @@ use borrow.Author.Needs.{needs}
 use Rattle.exports.proofs.times.tzq_seconds.Statement.{statement}
 use Rattle.exports.proofs.times.tzq_seconds.Tie as tie
 
-timecode-from-requires : tie.Need-timecode-from-requires
-timecode-from-requires c κs = search needs
-
-seconds-requires : tie.Need-seconds-requires
-seconds-requires c κs = search needs
-
-handed-seconds-requires : tie.Need-handed-seconds-requires
-handed-seconds-requires c κs = search needs
-
 returns : tie.Need-returns
 returns c =
     record {
@@ -26,4 +17,4 @@ returns c =
 
 pub tzq-seconds-spec : {M : Type 1} → statement M
 tzq-seconds-spec =
-    tie.close (tie.spec timecode-from-requires seconds-requires handed-seconds-requires returns)
+    tie.close (tie.spec (λ c κs. search needs) (λ c κs. search needs) (λ c κs. search needs) returns)

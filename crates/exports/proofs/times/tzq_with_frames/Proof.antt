@@ -10,12 +10,6 @@ use borrow.Author.Needs.{needs}
 use Rattle.exports.proofs.times.tzq_with_frames.Statement.{statement}
 use Rattle.exports.proofs.times.tzq_with_frames.Tie as tie
 
-with-frames-requires : tie.Need-with-frames-requires
-with-frames-requires c κs = search needs
-
-handed-answer-requires : tie.Need-handed-answer-requires
-handed-answer-requires c κs = search needs
-
 returns : tie.Need-returns
 returns c =
     let a = c .before .before .args in
@@ -23,4 +17,4 @@ returns c =
     c .handed-answer .ensures ∙ ap handedAnswer (c .before .with-frames .ensures ∙ ap (λ (z : ℤ). framesAt z (a .rate)) back)
 
 pub tzq-with-frames-spec : {M : Type 1} → statement M
-tzq-with-frames-spec = tie.close (tie.spec with-frames-requires handed-answer-requires returns)
+tzq-with-frames-spec = tie.close (tie.spec (λ c κs. search needs) (λ c κs. search needs) returns)

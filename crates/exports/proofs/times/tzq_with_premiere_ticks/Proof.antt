@@ -10,12 +10,6 @@ use borrow.Author.Needs.{needs}
 use Rattle.exports.proofs.times.tzq_with_premiere_ticks.Statement.{statement}
 use Rattle.exports.proofs.times.tzq_with_premiere_ticks.Tie as tie
 
-with-premiere-ticks-requires : tie.Need-with-premiere-ticks-requires
-with-premiere-ticks-requires c κs = search needs
-
-handed-answer-requires : tie.Need-handed-answer-requires
-handed-answer-requires c κs = search needs
-
 returns : tie.Need-returns
 returns c =
     let a = c .before .before .args in
@@ -24,4 +18,4 @@ returns c =
 
 pub tzq-with-premiere-ticks-spec : {M : Type 1} → statement M
 tzq-with-premiere-ticks-spec =
-    tie.close (tie.spec with-premiere-ticks-requires handed-answer-requires returns)
+    tie.close (tie.spec (λ c κs. search needs) (λ c κs. search needs) returns)

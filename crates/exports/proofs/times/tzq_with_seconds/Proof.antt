@@ -10,12 +10,6 @@ use borrow.Author.Needs.{needs}
 use Rattle.exports.proofs.times.tzq_with_seconds.Statement.{statement}
 use Rattle.exports.proofs.times.tzq_with_seconds.Tie as tie
 
-with-seconds-requires : tie.Need-with-seconds-requires
-with-seconds-requires c κs = search needs
-
-handed-answer-requires : tie.Need-handed-answer-requires
-handed-answer-requires c κs = search needs
-
 returns : tie.Need-returns
 returns c =
     let a = c .before .before .args in
@@ -23,4 +17,4 @@ returns c =
     c .handed-answer .ensures ∙ ap handedAnswer (c .before .with-seconds .ensures ∙ ap (λ (z : ℤ). secondsAt z (a .q) (a .rate)) back)
 
 pub tzq-with-seconds-spec : {M : Type 1} → statement M
-tzq-with-seconds-spec = tie.close (tie.spec with-seconds-requires handed-answer-requires returns)
+tzq-with-seconds-spec = tie.close (tie.spec (λ c κs. search needs) (λ c κs. search needs) returns)

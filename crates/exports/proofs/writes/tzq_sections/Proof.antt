@@ -7,18 +7,9 @@ use borrow.Author.Needs.{needs}
 use Rattle.exports.proofs.writes.tzq_sections.Statement.{statement}
 use Rattle.exports.proofs.writes.tzq_sections.Tie as tie
 
-timecode-from-requires : tie.Need-timecode-from-requires
-timecode-from-requires c κs = search needs
-
-sections-requires : tie.Need-sections-requires
-sections-requires c κs = search needs
-
-handed-sections-requires : tie.Need-handed-sections-requires
-handed-sections-requires c κs = search needs
-
 returns : tie.Need-returns
 returns c = c .handed-sections .ensures ∙ ap handedSections (c .before .sections .ensures ∙ ap sectioned (c .before .before .timecode-from .ensures))
 
 pub tzq-sections-spec : {M : Type 1} → statement M
 tzq-sections-spec =
-    tie.close (tie.spec timecode-from-requires sections-requires handed-sections-requires returns)
+    tie.close (tie.spec (λ c κs. search needs) (λ c κs. search needs) (λ c κs. search needs) returns)

@@ -10,12 +10,6 @@ use Rattle.film.specs.FormatLaws.{frame-perfs}
 use Rattle.film.proofs.FilmFormat.allows_perf_field.Statement.{statement}
 use Rattle.film.proofs.FilmFormat.allows_perf_field.Tie as tie
 
-perfs-per-foot-requires : tie.Need-perfs-per-foot-requires
-perfs-per-foot-requires c κs = search needs
-
-perfs-per-frame-requires : tie.Need-perfs-per-frame-requires
-perfs-per-frame-requires c κs = search needs
-
 rem-result : tie.Need-rem-result
 rem-result c = omega (arith, frame-perfs (c .before .before .args .self))
 
@@ -25,4 +19,4 @@ returns c =
 
 pub allows-perf-field-spec : {M : Type 1} → statement M
 allows-perf-field-spec =
-    tie.close (tie.spec perfs-per-foot-requires perfs-per-frame-requires rem-result returns)
+    tie.close (tie.spec (λ c κs. search needs) (λ c κs. search needs) rem-result returns)

@@ -5,15 +5,9 @@ use Rattle.minutes.proofs.Entries.{entries, entry-is}
 use Rattle.minutes.proofs.table.entry.Statement.{statement}
 use Rattle.minutes.proofs.table.entry.Tie as tie
 
-mul-result : tie.Need-mul-result
-mul-result c = search needs
-
-array-read-result : tie.Need-array-read-result
-array-read-result c = search needs
-
 returns : tie.Need-returns
 unfolding entries
 returns c = entry-is 1440 (c .args .minute) (search needs)
 
 pub entry-spec : {M : Type 1} → statement M
-entry-spec = tie.close (tie.spec mul-result array-read-result returns)
+entry-spec = tie.close (tie.spec (λ c. search needs) (λ c. search needs) returns)

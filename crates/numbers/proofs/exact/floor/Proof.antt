@@ -32,23 +32,11 @@ alike c =
 q-below : (c : tie.After-magnitude2) → c .before .magnitude .result / c .magnitude2 .result < 9223372036854775808
 q-below c = omega (arith, m-is c, div-le-self (c .before .magnitude .result) (c .magnitude2 .result))
 
-magnitude-requires : tie.Need-magnitude-requires
-magnitude-requires c κs = search needs
-
-magnitude-requires-2 : tie.Need-magnitude-requires-2
-magnitude-requires-2 c κs = search needs
-
 div-q : tie.Need-div-q
 div-q c = omega (arith, n-is c)
 
 rem-r : tie.Need-rem-r
 rem-r c = omega (arith, n-is c)
-
-below-zero-requires : tie.Need-below-zero-requires
-below-zero-requires c κs = search needs
-
-below-zero-requires-2 : tie.Need-below-zero-requires-2
-below-zero-requires-2 c κs = search needs
 
 with-sign-requires : tie.Need-with-sign-requires
 with-sign-requires c κs = q-below (c .before .before .before)
@@ -102,12 +90,12 @@ pub floor-spec : {M : Type 1} → statement M
 floor-spec =
     tie.close
     (tie.spec
-    magnitude-requires
-    magnitude-requires-2
+    (λ c κs. search needs)
+    (λ c κs. search needs)
     div-q
     rem-r
-    below-zero-requires
-    below-zero-requires-2
+    (λ c κs. search needs)
+    (λ c κs. search needs)
     with-sign-requires
     with-sign-requires-2
     add-with-sign

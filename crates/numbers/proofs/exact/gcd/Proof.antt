@@ -19,9 +19,6 @@ abbrev μ-loop : tie.MeasureT-loop
 loop-holds : tie.Need-loop-holds Inv-loop μ-loop
 loop-holds c = λ g h. h
 
-rem-r : tie.Need-rem-r Inv-loop μ-loop
-rem-r c = search needs
-
 loop-less : tie.Need-loop-less Inv-loop μ-loop
 loop-less c = mod-lt (c .before .loop .x) (search needs)
 
@@ -35,4 +32,4 @@ returns c =
     c .before .loop .inv x (subst (λ (y : ℕ). Gcd x y x) (sym done) (gcd-zero x))
 
 pub gcd-spec : {M : Type 1} → statement M
-gcd-spec = tie.close (tie.spec Inv-loop μ-loop loop-holds rem-r loop-less loop-again returns)
+gcd-spec = tie.close (tie.spec Inv-loop μ-loop loop-holds (λ c. search needs) loop-less loop-again returns)

@@ -5,9 +5,6 @@ use Rattle.numbers.specs.LowestLaws.{gcd-pos, over-gcd}
 use Rattle.numbers.proofs.exact.lowest.Statement.{statement}
 use Rattle.numbers.proofs.exact.lowest.Tie as tie
 
-gcd-requires : tie.Need-gcd-requires
-gcd-requires c κs = search needs
-
 div-t4 : tie.Need-div-t4
 div-t4 c = gcd-pos _ _ _ (c .before .pre) (c .gcd .ensures)
 
@@ -18,4 +15,4 @@ returns : tie.Need-returns
 returns c = over-gcd _ _ _ (c .before .pre) (c .gcd .ensures)
 
 pub lowest-spec : {M : Type 1} → statement M
-lowest-spec = tie.close (tie.spec gcd-requires div-t4 div-t5 returns)
+lowest-spec = tie.close (tie.spec (λ c κs. search needs) div-t4 div-t5 returns)

@@ -9,12 +9,6 @@ use Rattle.numbers.specs.NearestLaws.{near-is}
 use Rattle.numbers.proofs.exact.nearest.Statement.{statement}
 use Rattle.numbers.proofs.exact.nearest.Tie as tie
 
-div-q : tie.Need-div-q
-div-q c = search needs
-
-rem-r : tie.Need-rem-r
-rem-r c = search needs
-
 sub-if1 : tie.Need-sub-if1
 sub-if1 c = omega (arith, mod-lt (c .args .a) (c .pre))
 
@@ -41,4 +35,4 @@ returns-2 c =
     sym (near-is a n (a / n) (c .before .pre) (omega arith) (omega arith))
 
 pub nearest-spec : {M : Type 1} → statement M
-nearest-spec = tie.close (tie.spec div-q rem-r sub-if1 add-result returns returns-2)
+nearest-spec = tie.close (tie.spec (λ c. search needs) (λ c. search needs) sub-if1 add-result returns returns-2)

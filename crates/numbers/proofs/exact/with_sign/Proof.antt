@@ -11,9 +11,6 @@ use Rattle.numbers.proofs.Machine.{read, flip, neg-fits, pos-fits}
 use Rattle.numbers.proofs.exact.with_sign.Statement.{statement}
 use Rattle.numbers.proofs.exact.with_sign.Tie as tie
 
-cast-p : tie.Need-cast-p
-cast-p c = search needs
-
 -- what zero less the magnitude is
 less-is : (c : tie.Then1) → pos 0 -ℤ toZ w64 (c .before .args .m) ≡ negℤ (pos (c .before .args .m))
 less-is c =
@@ -30,4 +27,4 @@ returns-2 c =
     read (pos (c .before .args .m)) (pos-fits _ (c .before .pre)) ∙ sym (ap (λ (b : Bool). signed b (c .before .args .m)) (c .if1 .left))
 
 pub with-sign-spec : {M : Type 1} → statement M
-with-sign-spec = tie.close (tie.spec cast-p sub-result returns returns-2)
+with-sign-spec = tie.close (tie.spec (λ c. search needs) sub-result returns returns-2)

@@ -15,9 +15,6 @@ returns c =
     let b = c .before .args .b in
     sym (lt-ltb (c .before .args .a * b) (2 ^ 63) (omega (arith, ap (λ (a : ℕ). a * b) (c .if1 .taken))))
 
-sub-result : tie.Need-sub-result
-sub-result c = search needs
-
 div-result : tie.Need-div-result
 div-result c = search needs
 
@@ -31,4 +28,4 @@ returns-2 c =
     (λ e. omega (arith, div-lt-iff-lt-mul {k = a} {x = most} {y = b} (div-result c) .0 (leb-false b (most / a) e)))
 
 pub product-spec : {M : Type 1} → statement M
-product-spec = tie.close (tie.spec returns sub-result div-result returns-2)
+product-spec = tie.close (tie.spec returns (λ c. search needs) div-result returns-2)

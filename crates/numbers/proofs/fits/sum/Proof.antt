@@ -12,9 +12,6 @@ use Rattle.numbers.proofs.fits.sum.Tie as tie
 returns : tie.Need-returns
 returns c = sym (le-ltb (c .before .args .a + c .before .args .b) (2 ^ 63) (omega arith))
 
-sub-result : tie.Need-sub-result
-sub-result c = search needs
-
 returns-2 : tie.Need-returns-2
 returns-2 c =
     let a = c .before .args .a in
@@ -22,4 +19,4 @@ returns-2 c =
     ltb-is _ (a + b) (2 ^ 63) (λ e. omega (arith, ltb-true b (2 ^ 63 - a) e)) (λ e. omega (arith, ltb-false b (2 ^ 63 - a) e))
 
 pub sum-spec : {M : Type 1} → statement M
-sum-spec = tie.close (tie.spec returns sub-result returns-2)
+sum-spec = tie.close (tie.spec returns (λ c. search needs) returns-2)

@@ -5,17 +5,8 @@ use borrow.Author.Tests.{eq-eqb, ne-eqb}
 use Rattle.scanner.proofs.fields.divides.Statement.{statement}
 use Rattle.scanner.proofs.fields.divides.Tie as tie
 
-enum-told : tie.Need-enum-told
-enum-told c = search needs
-
-enum-told-2 : tie.Need-enum-told-2
-enum-told-2 c = search needs
-
 returns : tie.Need-returns
 returns c = rw (c .before .enum-told2 .given .1) (simp (eq-eqb _ _ (c .if1 .taken)))
-
-enum-told-3 : tie.Need-enum-told-3
-enum-told-3 c = search needs
 
 returns-2 : tie.Need-returns-2
 returns-2 c = rw (c .enum-told .given .1)
@@ -28,4 +19,4 @@ returns-4 c = rw (c .enum-told3 .given .1)
 
 pub divides-spec : {M : Type 1} → statement M
 divides-spec =
-    tie.close (tie.spec enum-told enum-told-2 returns enum-told-3 returns-2 returns-3 returns-4)
+    tie.close (tie.spec (λ c. search needs) (λ c. search needs) returns (λ c. search needs) returns-2 returns-3 returns-4)

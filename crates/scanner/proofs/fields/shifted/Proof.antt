@@ -6,17 +6,8 @@ use Rattle.scanner.proofs.Justified.{shift-four}
 use Rattle.scanner.proofs.fields.shifted.Statement.{statement}
 use Rattle.scanner.proofs.fields.shifted.Tie as tie
 
-array-read-t6 : tie.Need-array-read-t6
-array-read-t6 c = search needs
-
-array-read-t9 : tie.Need-array-read-t9
-array-read-t9 c = search needs
-
-array-read-t12 : tie.Need-array-read-t12
-array-read-t12 c = search needs
-
 returns : tie.Need-returns
 returns c = shift-four (c .args .t1) (c .args .value) (omega arith)
 
 pub shifted-spec : {M : Type 1} → statement M
-shifted-spec = tie.close (tie.spec array-read-t6 array-read-t9 array-read-t12 returns)
+shifted-spec = tie.close (tie.spec (λ c. search needs) (λ c. search needs) (λ c. search needs) returns)

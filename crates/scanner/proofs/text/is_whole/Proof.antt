@@ -23,9 +23,6 @@ returns-3 c =
     let a = e .before .before .before .before .before .args in
     rw (found (e .before .before), le-ltb _ _ (e .if2 .left), not-true (a .tail .found) (c .if3 .taken))
 
-at-end-requires : tie.Need-at-end-requires
-at-end-requires c κs = search needs
-
 returns-4 : tie.Need-returns-4
 returns-4 c =
     let t = c .before .before in
@@ -34,4 +31,4 @@ returns-4 c =
     rw (found (e .before .before), le-ltb _ _ (e .if2 .left), not-false (a .tail .found) (t .if3 .left)) (c .at-end .ensures)
 
 pub is-whole-spec : {M : Type 1} → statement M
-is-whole-spec = tie.close (tie.spec returns returns-2 returns-3 at-end-requires returns-4)
+is-whole-spec = tie.close (tie.spec returns returns-2 returns-3 (λ c κs. search needs) returns-4)

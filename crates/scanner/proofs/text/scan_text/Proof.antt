@@ -8,24 +8,6 @@ use Rattle.scanner.specs.Text.{fitting, weighed, endScan, tailScan, body
 use Rattle.scanner.proofs.text.scan_text.Statement.{statement}
 use Rattle.scanner.proofs.text.scan_text.Tie as tie
 
-sign-requires : tie.Need-sign-requires
-sign-requires c κs = search needs
-
-fields-requires : tie.Need-fields-requires
-fields-requires c κs = search needs
-
-tail-requires : tie.Need-tail-requires
-tail-requires c κs = search needs
-
-is-whole-requires : tie.Need-is-whole-requires
-is-whole-requires c κs = search needs
-
-either-requires : tie.Need-either-requires
-either-requires c κs = search needs
-
-weighed-requires : tie.Need-weighed-requires
-weighed-requires c κs = search needs
-
 returns : tie.Need-returns
 unfolding textScan
 returns c =
@@ -49,10 +31,10 @@ pub scan-text-spec : {M : Type 1} → statement M
 scan-text-spec =
     tie.close
     (tie.spec
-    sign-requires
-    fields-requires
-    tail-requires
-    is-whole-requires
-    either-requires
-    weighed-requires
+    (λ c κs. search needs)
+    (λ c κs. search needs)
+    (λ c κs. search needs)
+    (λ c κs. search needs)
+    (λ c κs. search needs)
+    (λ c κs. search needs)
     returns)

@@ -8,15 +8,6 @@ use Rattle.streams.proofs.gathered.take.Tie as tie
 use Rattle.streams.proofs.gathered.take.Reads as reads
 use Rattle.streams.proofs.gathered.take.Lts as lts
 
-slice-write-buffer : tie.Need-slice-write-buffer
-slice-write-buffer c = search needs
-
-add-t8 : tie.Need-add-t8
-add-t8 c = search needs
-
-same-length : tie.Need-same-length
-same-length c = search needs
-
 returns : tie.Need-returns
 returns c = let a = c .before .args in (taken-room (a .buffer .now) (a .g) (a .b) (c .if1 .taken), refl)
 
@@ -24,4 +15,4 @@ returns-2 : tie.Need-returns-2
 returns-2 c = let a = c .before .args in (taken-over (a .buffer .now) (a .g) (a .b) (c .if1 .left), buffer-over (a .buffer .now) (a .g) (a .b) (c .if1 .left))
 
 pub take-spec : {M : Type 1} → statement M
-take-spec = tie.close (tie.spec slice-write-buffer add-t8 same-length returns returns-2)
+take-spec = tie.close (tie.spec (λ c. search needs) (λ c. search needs) (λ c. search needs) returns returns-2)

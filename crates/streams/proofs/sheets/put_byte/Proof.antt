@@ -12,26 +12,14 @@ use Rattle.streams.proofs.sheets.put_byte.Lts as lts
 use Rattle.lent.proofs.put_byte.Reads as put-byte-reads
 use Rattle.lent.proofs.room.Reads as room-reads
 
-room-requires : tie.Need-room-requires
-room-requires c κs = search needs
-
 sub-put-byte : tie.Need-sub-put-byte
 sub-put-byte c = omega (arith, put-fits (c .before .before .before .args .out .now) (c .before .before .before .args .used) (c .before .before .before .args .b ∷ []) 1 _ refl (c .before .room .ensures) (c .if1 .taken))
 
 part-put-byte-start : tie.Need-part-put-byte-start
 part-put-byte-start c = omega (arith, put-fits (c .before .before .before .args .out .now) (c .before .before .before .args .used) (c .before .before .before .args .b ∷ []) 1 _ refl (c .before .room .ensures) (c .if1 .taken))
 
-part-put-byte-end : tie.Need-part-put-byte-end
-part-put-byte-end c = search needs
-
-put-byte-requires : tie.Need-put-byte-requires
-put-byte-requires c κs = search needs
-
 add-result : tie.Need-add-result
 add-result c = omega (arith, put-fits (c .before .before .before .before .before .before .before .args .out .now) (c .before .before .before .before .before .before .before .args .used) (c .before .before .before .before .before .before .before .args .b ∷ []) 1 _ refl (c .before .before .before .before .before .room .ensures) (c .before .before .before .before .if1 .taken))
-
-same-length : tie.Need-same-length
-same-length c = search needs
 
 returns : tie.Need-returns
 returns c = put-in (c .before .before .before .before .before .before .before .args .out .now) (c .before .before .before .before .before .before .before .args .used) (c .before .before .before .before .before .before .before .args .b ∷ []) 1 _ refl (c .before .before .before .before .before .room .ensures) _ (c .before .before .before .before .if1 .taken) (c .before .before .put-byte .ensures)
@@ -43,12 +31,12 @@ pub put-byte-spec : {M : Type 1} → statement M
 put-byte-spec =
     tie.close
     (tie.spec
-    room-requires
+    (λ c κs. search needs)
     sub-put-byte
     part-put-byte-start
-    part-put-byte-end
-    put-byte-requires
+    (λ c. search needs)
+    (λ c κs. search needs)
     add-result
-    same-length
+    (λ c. search needs)
     returns
     returns-2)

@@ -12,29 +12,14 @@ use Rattle.lent.proofs.room.Reads as room-reads
 use Rattle.written.proofs.put_signed.Reads as put-signed-reads
 use Rattle.written.proofs.signed_length.Reads as signed-length-reads
 
-signed-length-requires : tie.Need-signed-length-requires
-signed-length-requires c κs = search needs
-
-room-requires : tie.Need-room-requires
-room-requires c κs = search needs
-
 sub-put-signed : tie.Need-sub-put-signed
 sub-put-signed c = let a = c .before .before .before .before .args in omega (arith, put-fits (a .out .now) (a .used) (signedText (a .minus) (a .m)) _ _ (c .before .before .signed-length .ensures) (c .before .room .ensures) (c .if1 .taken))
 
 part-put-signed-start : tie.Need-part-put-signed-start
 part-put-signed-start c = let a = c .before .before .before .before .args in omega (arith, put-fits (a .out .now) (a .used) (signedText (a .minus) (a .m)) _ _ (c .before .before .signed-length .ensures) (c .before .room .ensures) (c .if1 .taken))
 
-part-put-signed-end : tie.Need-part-put-signed-end
-part-put-signed-end c = search needs
-
-put-signed-requires : tie.Need-put-signed-requires
-put-signed-requires c κs = search needs
-
 add-result : tie.Need-add-result
 add-result c = let a = c .before .before .before .before .before .before .before .before .args in omega (arith, put-fits (a .out .now) (a .used) (signedText (a .minus) (a .m)) _ _ (c .before .before .before .before .before .before .signed-length .ensures) (c .before .before .before .before .before .room .ensures) (c .before .before .before .before .if1 .taken))
-
-same-length : tie.Need-same-length
-same-length c = search needs
 
 returns : tie.Need-returns
 returns c = let a = c .before .before .before .before .before .before .before .before .args in put-in (a .out .now) (a .used) (signedText (a .minus) (a .m)) _ _ (c .before .before .before .before .before .before .signed-length .ensures) (c .before .before .before .before .before .room .ensures) _ (c .before .before .before .before .if1 .taken) (c .before .before .put-signed .ensures)
@@ -46,13 +31,13 @@ pub put-signed-spec : {M : Type 1} → statement M
 put-signed-spec =
     tie.close
     (tie.spec
-    signed-length-requires
-    room-requires
+    (λ c κs. search needs)
+    (λ c κs. search needs)
     sub-put-signed
     part-put-signed-start
-    part-put-signed-end
-    put-signed-requires
+    (λ c. search needs)
+    (λ c κs. search needs)
     add-result
-    same-length
+    (λ c. search needs)
     returns
     returns-2)

@@ -11,26 +11,14 @@ use Rattle.streams.proofs.sheets.put_text.Lts as lts
 use Rattle.lent.proofs.put_text.Reads as put-text-reads
 use Rattle.lent.proofs.room.Reads as room-reads
 
-room-requires : tie.Need-room-requires
-room-requires c κs = search needs
-
 sub-put-text : tie.Need-sub-put-text
 sub-put-text c = omega (arith, put-fits (c .before .before .before .before .args .out .now) (c .before .before .before .before .args .used) (c .before .before .before .before .args .text .now) _ _ refl (c .before .room .ensures) (c .if1 .taken))
 
 part-put-text-start : tie.Need-part-put-text-start
 part-put-text-start c = omega (arith, put-fits (c .before .before .before .before .args .out .now) (c .before .before .before .before .args .used) (c .before .before .before .before .args .text .now) _ _ refl (c .before .room .ensures) (c .if1 .taken))
 
-part-put-text-end : tie.Need-part-put-text-end
-part-put-text-end c = search needs
-
-put-text-requires : tie.Need-put-text-requires
-put-text-requires c κs = search needs
-
 add-result : tie.Need-add-result
 add-result c = omega (arith, put-fits (c .before .before .before .before .before .before .before .before .args .out .now) (c .before .before .before .before .before .before .before .before .args .used) (c .before .before .before .before .before .before .before .before .args .text .now) _ _ refl (c .before .before .before .before .before .room .ensures) (c .before .before .before .before .if1 .taken))
-
-same-length : tie.Need-same-length
-same-length c = search needs
 
 returns : tie.Need-returns
 returns c = put-in (c .before .before .before .before .before .before .before .before .args .out .now) (c .before .before .before .before .before .before .before .before .args .used) (c .before .before .before .before .before .before .before .before .args .text .now) _ _ refl (c .before .before .before .before .before .room .ensures) _ (c .before .before .before .before .if1 .taken) (c .before .before .put-text .ensures)
@@ -42,12 +30,12 @@ pub put-text-spec : {M : Type 1} → statement M
 put-text-spec =
     tie.close
     (tie.spec
-    room-requires
+    (λ c κs. search needs)
     sub-put-text
     part-put-text-start
-    part-put-text-end
-    put-text-requires
+    (λ c. search needs)
+    (λ c κs. search needs)
     add-result
-    same-length
+    (λ c. search needs)
     returns
     returns-2)

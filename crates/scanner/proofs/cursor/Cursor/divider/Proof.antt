@@ -20,12 +20,6 @@ returns-2 c =
     let a = c .before .before .before .args in
     past-end (lookedFor (a .left) (dividerOf (a .dividers))) (a .s .now) (a .self .at) (c .if2 .taken)
 
-shared-slice-read-divides : tie.Need-shared-slice-read-divides
-shared-slice-read-divides c = search needs
-
-divides-requires : tie.Need-divides-requires
-divides-requires c κs = search needs
-
 -- what the byte at the cursor is, it is as one that is looked for
 looked : (c : tie.After-divides) (t : Bool) → c .divides .result ≡ t
     → lookedFor (c .before .before .before .before .before .args .left) (dividerOf (c .before .before .before .before .before .args .dividers))
@@ -36,9 +30,6 @@ looked c t e =
     ap (λ (test : ℕ → Bool). test (getD (a .s .now) (a .self .at) 0)) (looked-some (a .left) (dividerOf (a .dividers)) (l .if1 .left))
     ∙ sym (c .divides .ensures)
     ∙ e
-
-add-t11 : tie.Need-add-t11
-add-t11 c = search needs
 
 returns-3 : tie.Need-returns-3
 returns-3 c =
@@ -58,8 +49,8 @@ divider-spec =
     (tie.spec
     returns
     returns-2
-    shared-slice-read-divides
-    divides-requires
-    add-t11
+    (λ c. search needs)
+    (λ c κs. search needs)
+    (λ c. search needs)
     returns-3
     returns-4)

@@ -8,9 +8,6 @@ use Rattle.scanner.proofs.Answers.{run-field, run-within}
 use Rattle.scanner.proofs.cursor.Cursor.field.Statement.{statement}
 use Rattle.scanner.proofs.cursor.Cursor.field.Tie as tie
 
-run-at-requires : tie.Need-run-at-requires
-run-at-requires c κs = search needs
-
 add-t6 : tie.Need-add-t6
 add-t6 c =
     let a = c .before .before .args in
@@ -22,4 +19,4 @@ returns c =
     run-field (a .self .at) (drop (a .self .at) (a .s .now)) (c .run-at .result) (c .run-at .ensures)
 
 pub field-spec : {M : Type 1} → statement M
-field-spec = tie.close (tie.spec run-at-requires add-t6 returns)
+field-spec = tie.close (tie.spec (λ c κs. search needs) add-t6 returns)

@@ -19,16 +19,10 @@ from-first : (c : tie.After-new Inv-loop μ-loop) → let a = c .before .before 
     fieldsFound (a .dividers) (a .most) (a .s .now) (a .self .at) ≡ fieldsFound (a .dividers) (a .most) (a .s .now) (c .new .result .next .at)
 from-first c = let a = c .before .before .args in sym (ap (λ (x : Scanned). fieldsFound (a .dividers) (a .most) (a .s .now) (x .next .at)) (c .new .ensures))
 
-new-requires : tie.Need-new-requires Inv-loop μ-loop
-new-requires c κs = search needs
-
 loop-holds : tie.Need-loop-holds Inv-loop μ-loop
 loop-holds c =
     let a = c .before .before .args in
     rw (c .new .ensures) (keeping-start (a .dividers) (a .most) (a .s .now) (a .self) (noneTaken (a .self)) refl)
-
-field-requires : tie.Need-field-requires Inv-loop μ-loop
-field-requires c κs = search needs
 
 returns : tie.Need-returns Inv-loop μ-loop
 returns c =
@@ -40,21 +34,6 @@ returns c =
     (from-first n
     ∙ keeping-missing (a .dividers) (a .most) (a .s .now) (n .new .result .next .at) (k .taken) (k .left) (k .inv)
     (f .before .before .loop-test .taken) (f .field .result) (f .field .ensures) (c .if1 .taken))
-
-keep-requires : tie.Need-keep-requires Inv-loop μ-loop
-keep-requires c κs = search needs
-
-sub-left : tie.Need-sub-left Inv-loop μ-loop
-sub-left c = search needs
-
-divider-requires : tie.Need-divider-requires Inv-loop μ-loop
-divider-requires c κs = search needs
-
-enum-known-divider : tie.Need-enum-known-divider Inv-loop μ-loop
-enum-known-divider c = search needs
-
-enum-told : tie.Need-enum-told Inv-loop μ-loop
-enum-told c = search needs
 
 returns-2 : tie.Need-returns-2 Inv-loop μ-loop
 returns-2 c =
@@ -68,12 +47,6 @@ returns-2 c =
     ∙ keeping-last (a .dividers) (a .most) (a .s .now) (n .new .result .next .at) (k .taken) (k .left) (k .inv)
     (f .before .before .loop-test .taken) (f .field .result) (f .field .ensures) (t .before .if1 .left) (t .keep .result) (t .keep .ensures)
     (sym (c .enum-told .given .1) ∙ c .before .before .divider .ensures))
-
-begin-requires : tie.Need-begin-requires Inv-loop μ-loop
-begin-requires c κs = search needs
-
-loop-less : tie.Need-loop-less Inv-loop μ-loop
-loop-less c = search needs
 
 loop-again : tie.Need-loop-again Inv-loop μ-loop
 loop-again c =
@@ -101,17 +74,17 @@ fields-spec =
     (tie.spec
     Inv-loop
     μ-loop
-    new-requires
+    (λ c κs. search needs)
     loop-holds
-    field-requires
+    (λ c κs. search needs)
     returns
-    keep-requires
-    sub-left
-    divider-requires
-    enum-known-divider
-    enum-told
+    (λ c κs. search needs)
+    (λ c. search needs)
+    (λ c κs. search needs)
+    (λ c. search needs)
+    (λ c. search needs)
     returns-2
-    begin-requires
-    loop-less
+    (λ c κs. search needs)
+    (λ c. search needs)
     loop-again
     returns-3)

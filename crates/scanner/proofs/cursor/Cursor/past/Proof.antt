@@ -11,17 +11,11 @@ use Rattle.scanner.proofs.cursor.Cursor.past.Tie as tie
 returns : tie.Need-returns
 returns c = let a = c .before .args in past-end (isByte (a .b)) (a .s .now) (a .self .at) (c .if1 .taken)
 
-shared-slice-read-if2 : tie.Need-shared-slice-read-if2
-shared-slice-read-if2 c = search needs
-
 returns-2 : tie.Need-returns-2
 returns-2 c =
     let e = c .before .before in
     let a = e .before .args in
     past-here (isByte (a .b)) (a .s .now) (a .self .at) false (e .if1 .left) (ne-eqb _ _ (c .if2 .taken))
-
-add-t5 : tie.Need-add-t5
-add-t5 c = search needs
 
 returns-3 : tie.Need-returns-3
 returns-3 c =
@@ -30,4 +24,4 @@ returns-3 c =
     past-here (isByte (a .b)) (a .s .now) (a .self .at) true (e .if1 .left) (eq-eqb _ _ (c .if2 .left))
 
 pub past-spec : {M : Type 1} → statement M
-past-spec = tie.close (tie.spec returns shared-slice-read-if2 returns-2 add-t5 returns-3)
+past-spec = tie.close (tie.spec returns (λ c. search needs) returns-2 (λ c. search needs) returns-3)

@@ -7,15 +7,6 @@ use Rattle.scanner.proofs.Optional.{sign-none, sign-some}
 use Rattle.scanner.proofs.cursor.Cursor.sign.Statement.{statement}
 use Rattle.scanner.proofs.cursor.Cursor.sign.Tie as tie
 
-past-requires : tie.Need-past-requires
-past-requires c κs = search needs
-
-enum-known-dash : tie.Need-enum-known-dash
-enum-known-dash c = search needs
-
-enum-told : tie.Need-enum-told
-enum-told c = search needs
-
 returns : tie.Need-returns
 returns c =
     let p = c .before .before in
@@ -30,4 +21,4 @@ returns-2 c =
     sign-some (a .self .at) (drop (a .self .at) (a .s .now)) (g .0 .0) (sym (g .1) ∙ p .past .ensures)
 
 pub sign-spec : {M : Type 1} → statement M
-sign-spec = tie.close (tie.spec past-requires enum-known-dash enum-told returns returns-2)
+sign-spec = tie.close (tie.spec (λ c κs. search needs) (λ c. search needs) (λ c. search needs) returns returns-2)

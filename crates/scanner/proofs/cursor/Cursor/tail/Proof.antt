@@ -7,25 +7,10 @@ use Rattle.scanner.proofs.Optional.{tail-closed, tail-none, tail-some}
 use Rattle.scanner.proofs.cursor.Cursor.tail.Statement.{statement}
 use Rattle.scanner.proofs.cursor.Cursor.tail.Tie as tie
 
-none-requires : tie.Need-none-requires
-none-requires c κs = search needs
-
 returns : tie.Need-returns
 returns c =
     let a = c .before .before .before .args in
     c .none .ensures ∙ tail-closed (a .most) (a .self .at) (drop (a .self .at) (a .s .now)) (c .before .if1 .taken)
-
-past-requires : tie.Need-past-requires
-past-requires c κs = search needs
-
-enum-known-point : tie.Need-enum-known-point
-enum-known-point c = search needs
-
-enum-told : tie.Need-enum-told
-enum-told c = search needs
-
-none-requires-2 : tie.Need-none-requires-2
-none-requires-2 c κs = search needs
 
 returns-2 : tie.Need-returns-2
 returns-2 c =
@@ -33,9 +18,6 @@ returns-2 c =
     let a = p .before .before .before .args in
     c .none2 .ensures
     ∙ tail-none (a .most) (a .self .at) (p .before .if1 .left) (drop (a .self .at) (a .s .now)) (sym (c .before .enum-told .given .1) ∙ p .past .ensures)
-
-field-requires : tie.Need-field-requires
-field-requires c κs = search needs
 
 returns-3 : tie.Need-returns-3
 returns-3 c =
@@ -49,12 +31,12 @@ pub tail-spec : {M : Type 1} → statement M
 tail-spec =
     tie.close
     (tie.spec
-    none-requires
+    (λ c κs. search needs)
     returns
-    past-requires
-    enum-known-point
-    enum-told
-    none-requires-2
+    (λ c κs. search needs)
+    (λ c. search needs)
+    (λ c. search needs)
+    (λ c κs. search needs)
     returns-2
-    field-requires
+    (λ c κs. search needs)
     returns-3)

@@ -6,11 +6,8 @@ use Rattle.streams.proofs.gathered.Gathered.is_empty.Tie as tie
 use Rattle.streams.proofs.gathered.Gathered.is_empty.Reads as reads
 use Rattle.streams.proofs.gathered.Gathered.is_empty.Lts as lts
 
-returns : tie.Need-returns
-returns c = search needs
-
 returns-2 : tie.Need-returns-2
 returns-2 c = rw (c .before .if1 .left)
 
 pub is-empty-spec : {M : Type 1} → statement M
-is-empty-spec = tie.close (tie.spec returns returns-2)
+is-empty-spec = tie.close (tie.spec (λ c. search needs) returns-2)
