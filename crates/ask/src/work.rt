@@ -81,23 +81,21 @@ fn scaled(row: usize, tc: Timecode, p: i64, q: u64) -> Answer {
 
 // A command whose answer is a timecode.
 fn timecode_of(row: usize, n: Numbers) -> Answer {
-    let tc = numbered::timecode(n);
     match row {
         7..=9 => made(row, n.first, n.second, n.third_up),
-        13..=15 => changed(row, tc, n.third_up),
-        16..=17 => joined(row, tc, numbered::other(n)),
-        _ => scaled(row, tc, n.third, n.fourth_up),
+        13..=15 => changed(row, numbered::timecode(n), n.third_up),
+        16..=17 => joined(row, numbered::timecode(n), numbered::other(n)),
+        _ => scaled(row, numbered::timecode(n), n.third, n.fourth_up),
     }
 }
 
 // By the command's row.
 pub(crate) fn shown(row: usize, n: Numbers) -> Shown {
-    let tc = numbered::timecode(n);
     match row {
         10 => minute(n.first),
-        11 => ticks(tc),
-        12 => seconds(tc),
-        18 => compared(tc, numbered::other(n)),
+        11 => ticks(numbered::timecode(n)),
+        12 => seconds(numbered::timecode(n)),
+        18 => compared(numbered::timecode(n), numbered::other(n)),
         _ => show::of_answer(timecode_of(row, n)),
     }
 }

@@ -23,27 +23,22 @@ pub(crate) fn writes(row: usize) -> bool {
     row <= 6
 }
 
+// A task of its parts.
+fn asked_for(tc: Timecode, k: u64, place: u64, room: u64) -> Task {
+    Task {
+        tc,
+        k,
+        place: place as usize,
+        room,
+    }
+}
+
 // RATE COUNT PLACE ROOM, FORMAT RATE COUNT PLACE ROOM, RATE COUNT PRECISION PLACE ROOM.
 fn wanted(row: usize, n: Numbers) -> Task {
     match row {
-        4 => Task {
-            tc: numbered::timecode(n),
-            k: 0,
-            place: n.third_up as usize,
-            room: n.fourth_up,
-        },
-        5 => Task {
-            tc: numbered::behind_format(n),
-            k: n.first,
-            place: n.fourth_up as usize,
-            room: n.fifth_up,
-        },
-        _ => Task {
-            tc: numbered::timecode(n),
-            k: n.third_up,
-            place: n.fourth_up as usize,
-            room: n.fifth_up,
-        },
+        4 => asked_for(numbered::timecode(n), 0, n.third_up, n.fourth_up),
+        5 => asked_for(numbered::behind_format(n), n.first, n.fourth_up, n.fifth_up),
+        _ => asked_for(numbered::timecode(n), n.third_up, n.fourth_up, n.fifth_up),
     }
 }
 
