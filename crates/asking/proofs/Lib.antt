@@ -2,4 +2,8 @@ pub mod Filled
 pub mod Named
 pub mod Numbers
 pub mod Taken
+pub mod Numerals
+pub mod Understanding
+pub mod Told
 pub mod Determined
+pub mod Statements

@@ -3,26 +3,22 @@
 use Prim.Native.Nat.{ℕ, zero, suc, _+_, _≤_, _<_}
 use mathlib.Core.Path.{_≡_, refl, sym, ap, _∙_}
 use mathlib.Core.List.{List, [], _∷_}
-use mathlib.Core.Bool.{Bool, true, false, cond, not, _&&_}
+use mathlib.Core.Bool.{Bool, true, false, not, _&&_, and-eq-true-iff}
 use native.Mathlib.Omega.{arith}
 use native.Mathlib.Numerals.{add-one}
 use lib.ListN.{length, drop, getD, drop-of-length-le}
 use lib.Seq.{drop-cons}
 use lib.Dec.{eqb, leb}
-use borrow.Author.Tests.{eqb-true, eq-eqb, ne-eqb, leb-true, not-true}
+use borrow.Author.Tests.{eq-eqb, ne-eqb, leb-true, not-true}
+use Rattle.laws.specs.Every.{at-every}
 use Rattle.asking.specs.Table.{Row, row, rows, rowAt, isPlain, same, isNamed, rowFrom, rowNamed}
-
-both : (p q : Bool) → (p && q) ≡ true → (p ≡ true) × (q ≡ true)
-both true true e = (refl, refl)
-both true false e = (refl, e)
-both false q e = (e, cc)
 
 -- ---- words without a space
 pub plain-at : (w : List ℕ) → isPlain w ≡ true → (i : ℕ) → i < length w → getD w i 0 ≡ 32 → ⊥
 unfolding isPlain
 plain-at [] p i h e = omega arith
-plain-at (b ∷ w) p zero h e = let z : _≡_ {A = Bool} true false = sym (eq-eqb b 32 e) ∙ not-true (eqb b 32) (both (not (eqb b 32)) (isPlain w) p .0) in let y : _≡_ {A = ℕ} 0 1 = cc in omega arith
-plain-at (b ∷ w) p (suc i) h e = plain-at w (both (not (eqb b 32)) (isPlain w) p .1) i (omega arith) e
+plain-at (b ∷ w) p zero h e = let z : _≡_ {A = Bool} true false = sym (eq-eqb b 32 e) ∙ not-true (eqb b 32) (and-eq-true-iff (not (eqb b 32)) (isPlain w) .0 p .0) in let y : _≡_ {A = ℕ} 0 1 = cc in omega arith
+plain-at (b ∷ w) p (suc i) h e = plain-at w (and-eq-true-iff (not (eqb b 32)) (isPlain w) .0 p .1) i (omega arith) e
 
 -- ---- the same bytes
 same-length : (w n : List ℕ) → same w n ≡ true → length w ≡ length n
@@ -30,7 +26,7 @@ unfolding same
 same-length [] [] e = refl
 same-length [] (b ∷ n) e = let z : _≡_ {A = ℕ} 0 1 = cc in omega arith
 same-length (a ∷ w) [] e = let z : _≡_ {A = ℕ} 0 1 = cc in omega arith
-same-length (a ∷ w) (b ∷ n) e = ap suc (same-length w n (both (eqb a b) (same w n) e .1))
+same-length (a ∷ w) (b ∷ n) e = ap suc (same-length w n (and-eq-true-iff (eqb a b) (same w n) .0 e .1))
 
 pub same-longer : (w n : List ℕ) → length n < length w → same w n ≡ false
 same-longer w n h = by (same w n) refl
@@ -54,8 +50,8 @@ same-ended : (n : List ℕ) (i : ℕ) → isPlain n ≡ true → same [] (drop i
 unfolding same isPlain
 same-ended [] zero p = refl
 same-ended [] (suc i) p = refl
-same-ended (b ∷ n) zero p = sym (not-true (eqb b 32) (both (not (eqb b 32)) (isPlain n) p .0))
-same-ended (b ∷ n) (suc i) p = same-ended n i (both (not (eqb b 32)) (isPlain n) p .1)
+same-ended (b ∷ n) zero p = sym (not-true (eqb b 32) (and-eq-true-iff (not (eqb b 32)) (isPlain n) .0 p .0))
+same-ended (b ∷ n) (suc i) p = same-ended n i (and-eq-true-iff (not (eqb b 32)) (isPlain n) .0 p .1)
 
 -- a byte of the other, where it is no space
 inside : (n : List ℕ) (i : ℕ) → (getD n i 32 ≡ 32 → ⊥) → i < length n
@@ -92,28 +88,18 @@ module _ (w n : List ℕ) (i : ℕ) (s : Comparing w n i) where
 isName : Row → Bool
 isName r = isPlain (r .name) && leb (length (r .name)) 15
 
-allNames : List Row → Bool
-allNames [] = true
-allNames (r ∷ rs) = isName r && allNames rs
-
-names-at : (rs : List Row) → allNames rs ≡ true → (n : ℕ) → n < length rs → isName (getD rs n (row "" "")) ≡ true
-unfolding allNames
-names-at [] e n h = absurd (omega arith)
-names-at (r ∷ rs) e zero h = both (isName r) (allNames rs) e .0
-names-at (r ∷ rs) e (suc n) h = names-at rs (both (isName r) (allNames rs) e .1) n (omega arith)
-
 module _ (n : ℕ) (h : n < 25) where
   name-is : isName (rowAt n) ≡ true
-  unfolding rows allNames isName isPlain
-  name-is = names-at rows refl n h
+  unfolding rows isName isPlain
+  name-is = at-every isName rows (row "" "") refl n h
 
   pub name-plain : isPlain (rowAt n .name) ≡ true
   unfolding isName
-  name-plain = both (isPlain (rowAt n .name)) _ name-is .0
+  name-plain = and-eq-true-iff (isPlain (rowAt n .name)) _ .0 name-is .0
 
   pub name-short : length (rowAt n .name) ≤ 15
   unfolding isName
-  name-short = leb-true (length (rowAt n .name)) 15 (both (isPlain (rowAt n .name)) _ name-is .1)
+  name-short = leb-true (length (rowAt n .name)) 15 (and-eq-true-iff (isPlain (rowAt n .name)) _ .0 name-is .1)
 
 -- ---- the loop of `row_named`: no row below i has the word
 pub record Seeking (w : List ℕ) (i : ℕ) : Type 0 where

@@ -1,24 +1,23 @@
 -- Digits by their value: what is held of it is enough to tell whether it is within 64 bits.
 -- Assumes nothing.
 use Prim.Native.Nat.{ℕ, zero, suc, _+_, _-_, _*_, _≤_, _<_}
-use mathlib.Core.Path.{_≡_, refl, sym, ap, _∙_}
+use mathlib.Core.Path.{_≡_, refl, sym, _∙_}
 use mathlib.Core.Logic.{_⊎_, inl, inr, ⊎-elim}
-use mathlib.Core.List.{List, [], _∷_, _++_}
-use mathlib.Core.Bool.{Bool, true, false, cond}
+use mathlib.Core.List.{List, [], _∷_}
+use mathlib.Core.Bool.{Bool, true, false}
 use native.Mathlib.Omega.{arith}
 use native.Mathlib.Numerals.{add-one}
 use lib.ListN.{length, take, drop, getD, length-drop, drop-of-length-le}
 use lib.Seq.{take-suc, take-length, drop-cons, drop-drop}
-use lib.Dec.{eqb, ltb, leb}
+use lib.Dec.{eqb, ltb}
 use borrow.Author.Tests.{lt-ltb, le-ltb, le-leb, lt-leb, ltb-true, ltb-false, eq-eqb, ne-eqb}
 use lib.IntN.{negsuc}
 use Rattle.numbers.specs.Sign.{signed}
 use Rattle.digits.specs.Digits.{isByte, isDigit, allDigits, valueFrom, valueOf, firstIs, span, leading}
 use Rattle.digits.proofs.Values.{digit-bounds, all-head, all-tail, value-snoc}
 use Rattle.digits.proofs.Runs.{span-within, leading-all}
-use Rattle.asking.specs.declared.values.Word.{Word}
 use Rattle.asking.specs.declared.values.Word.the-variants.{Number, Nothing}
-use Rattle.asking.specs.Numbers.{isWithin, signedWord, digitsAt, signedAt, numberAt, Held, pushed}
+use Rattle.asking.specs.Numbers.{signedWord, digitsAt, signedAt, numberAt, Held, pushed}
 
 -- ---- one digit more
 pub pushed-past : (m b : ℕ) → 922337203685477580 < m → 18446744073709551615 ≡ pushed m b

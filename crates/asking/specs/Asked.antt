@@ -7,7 +7,6 @@ use lib.Dec.{eqb, ltb, leb}
 use lib.IntN.{ℤ, pos, natAbs}
 use lib.ListN.{length, drop, set}
 use Rattle.numbers.specs.Sign.{isNeg}
-use Rattle.digits.specs.Digits.{firstIs}
 use Rattle.asking.specs.declared.values.Word.{Word}
 use Rattle.asking.specs.declared.values.Word.the-variants.{Number, Nothing}
 use Rattle.asking.specs.declared.words.Asked.{Asked}

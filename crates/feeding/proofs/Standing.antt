@@ -1,24 +1,24 @@
 -- What the machine stands for: the line so far, and the answers to the lines that have ended.
 -- Assumes nothing.
 use Prim.Native.Nat.{ℕ, suc, _+_, _*_, _≤_, _<_}
-use mathlib.Core.Path.{_≡_, refl, sym, ap, subst, _∙_}
+use mathlib.Core.Path.{_≡_, refl, sym, ap, _∙_}
 use mathlib.Core.Logic.{_⊎_, inl, inr, ⊎-elim}
 use mathlib.Core.List.{List, [], _∷_, _++_, append-assoc, append-nil}
 use mathlib.Core.Bool.{Bool, true, false, cond}
 use native.Mathlib.Omega.{arith}
-use lib.Dec.{eqb, ltb, leb}
+use lib.Dec.{eqb, ltb}
 use lib.ListN.{length, take, length-take}
-use lib.Seq.{take-all, take-length}
+use lib.Seq.{take-all}
 use borrow.Author.Tests.{le-leb, lt-leb, leb-true, leb-false, ltb-true, ltb-false, eqb-true, eqb-false, ne-eqb}
 use Rattle.lines.specs.Input.{isLine}
 use Rattle.lines.specs.Output.{answerText}
 use Rattle.lines.proofs.Statements.{not-begun, short-answer}
 use Rattle.streams.specs.declared.gathered.Gathered.{Gathered}
 use Rattle.streams.specs.Parting.{parted, lastLine, each}
-use Rattle.streams.specs.Gathering.{noByte, isEmpty, taken, bufferTaken}
+use Rattle.streams.specs.Gathering.{isEmpty}
 use Rattle.streams.specs.Sheet.{Sheet, sheet, textOn}
 use Rattle.streams.proofs.Parting.{parted-end, parted-byte, each-cons}
-use Rattle.streams.proofs.Putting.{Laid, put-is, put-used, put-length}
+use Rattle.streams.proofs.Putting.{Laid, put-is, put-used}
 use Rattle.streams.proofs.Standing.{Stands, stands-none, stands-byte, stands-empty}
 use Rattle.feeding.specs.Feeding.{answered, Machine, machine, next, goesOn, After, takenTo, fedFrom, begun, fedOf, finished}
 use Rattle.feeding.proofs.Following.{next-end, next-byte, next-length}

@@ -1,7 +1,7 @@
 -- The whole, tied to the contracts of the code: calls of `feed`, one a chunk, and then one of `finish`, each with what its contract allows.
 -- Assumes nothing.
 use Prim.Native.Nat.{ℕ, _≤_}
-use mathlib.Core.Path.{_≡_, refl, sym, ap, subst, _∙_}
+use mathlib.Core.Path.{_≡_, ap, _∙_}
 use mathlib.Core.List.{List, [], _++_}
 use lib.ListN.{length, take}
 use denote.Triple.Entry.{Args}

@@ -1,6 +1,6 @@
 -- A chunk of input through a buffer for the line and a sheet for the answers (BEHAVIOUR: The line program): what the code keeps.
 -- Assumes nothing.
-use Prim.Native.Nat.{ℕ, suc, _+_}
+use Prim.Native.Nat.{ℕ, suc}
 use mathlib.Core.List.{List, [], _∷_}
 use mathlib.Core.Bool.{Bool, true, false, cond}
 use lib.ListN.{length, take, drop}

@@ -24,6 +24,7 @@ use Rattle.chains.proofs.Demand3 as chains
 use Rattle.streams.proofs.Statements as streams
 use Rattle.lines.proofs.Statements as lines
 use Rattle.feeding.proofs.Statements as feeding
+use Rattle.asking.proofs.Statements as asking
 use Rattle.promises.proofs.Calls.{one-answer}
 use Rattle.promises.proofs.CallsC.{one-answer-c}
 use Rattle.promises.proofs.Ties.{ties}
@@ -181,4 +182,6 @@ promises = record {
   answered = feeding.answered;
   taken-whole = feeding.taken-whole;
   stopped-full = feeding.stopped-full;
+  understood = asking.understood;
+  only-understood = asking.only-understood;
 }

@@ -23,6 +23,7 @@ use Rattle.chains.specs.Demand3 as chains
 use Rattle.streams.specs.Statements as streams
 use Rattle.lines.specs.Statements as lines
 use Rattle.feeding.specs.Statements as feeding
+use Rattle.asking.specs.Statements as asking
 use Rattle.promises.specs.Calls.{OneAnswer}
 use Rattle.promises.specs.CallsC.{OneAnswerC}
 use Rattle.promises.specs.Ties.{Ties}
@@ -190,3 +191,5 @@ pub record Promises : Type 0 where
   pub answered : feeding.Answered
   pub taken-whole : feeding.TakenWhole
   pub stopped-full : feeding.StoppedFull
+  pub understood : asking.Understood
+  pub only-understood : asking.OnlyUnderstood

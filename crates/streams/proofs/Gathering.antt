@@ -6,10 +6,10 @@ use mathlib.Core.List.{List, [], _∷_}
 use mathlib.Core.Bool.{Bool, true, false, cond}
 use native.Mathlib.Omega.{arith}
 use native.Mathlib.Numerals.{add-one}
-use lib.ListN.{length, drop, set, getD, length-set, drop-of-length-le}
-use lib.Dec.{ltb, eqb}
+use lib.ListN.{length, drop, getD, length-set, drop-of-length-le}
+use lib.Dec.{eqb}
 use lib.Seq.{set-out, drop-cons}
-use borrow.Author.Tests.{lt-ltb, le-ltb, eq-eqb, ne-eqb}
+use borrow.Author.Tests.{lt-ltb, le-ltb, ne-eqb}
 use Rattle.streams.specs.declared.gathered.Gathered.{Gathered}
 use Rattle.streams.specs.Gathering.{more, taken, bufferTaken, Gathering, gathering, gatherFrom}
 

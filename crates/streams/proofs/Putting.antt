@@ -1,14 +1,14 @@
 -- Text put on a sheet stands behind what it has, or nothing changes.
 -- Assumes nothing.
-use Prim.Native.Nat.{ℕ, _+_, _-_, _≤_, _<_}
-use mathlib.Core.Path.{_≡_, refl, sym, ap, _∙_}
+use Prim.Native.Nat.{ℕ, _+_, _-_, _≤_}
+use mathlib.Core.Path.{_≡_, sym}
 use mathlib.Core.List.{List, _++_, append-assoc}
 use mathlib.Core.Bool.{Bool, true, false, cond}
 use native.Mathlib.Omega.{arith}
 use lib.ListN.{length, take, drop, length-append, length-take}
 use lib.Seq.{take-at}
 use borrow.Rule.Slice.PartMut.{putMid, midOf}
-use Rattle.lent.specs.Line.{laid, splice, hasRoom, lineAfter}
+use Rattle.lent.specs.Line.{laid, splice, hasRoom}
 use Rattle.lent.proofs.Laws.{fits-yes, fits-no, fits-true, fits-false, line-laid, line-kept, line-lent}
 use Rattle.lent.proofs.Statements.{same-length}
 use Rattle.streams.specs.Sheet.{Sheet, sheet, textOn, putOn}

@@ -1,19 +1,18 @@
 -- What a buffer stands for: a line of any length, of which it keeps the first bytes.
 -- Assumes nothing.
-use Prim.Native.Nat.{ℕ, zero, suc, _+_, _≤_, _<_, min}
-use mathlib.Core.Path.{_≡_, refl, sym, ap, subst, _∙_}
-use mathlib.Core.List.{List, [], _∷_, _++_, map, append-assoc}
+use Prim.Native.Nat.{ℕ, suc, _+_, _≤_, _<_, min}
+use mathlib.Core.Path.{_≡_, refl, sym, ap, _∙_}
+use mathlib.Core.List.{List, [], _∷_, _++_, map}
 use mathlib.Core.Bool.{Bool, true, false, cond}
 use native.Mathlib.Omega.{arith}
 use native.Mathlib.Numerals.{add-one}
 use lib.ListN.{length, take, set, length-set, length-append}
 use lib.Dec.{eqb, ltb}
 use lib.Seq.{take-all, take-append-le, take-suc-set}
-use borrow.Author.Tests.{lt-ltb, le-ltb, ltb-true, ltb-false, eqb-true, eqb-false, ne-eqb}
+use borrow.Author.Tests.{lt-ltb, le-ltb, ltb-true, ltb-false, ne-eqb}
 use Rattle.streams.specs.declared.gathered.Gathered.{Gathered}
 use Rattle.streams.specs.Parting.{behind, parted, lastLine}
-use Rattle.streams.specs.Gathering.{Kept, keptOf, keptIn, noByte, isEmpty, taken, bufferTaken, lastHanded, handed}
-use Rattle.streams.proofs.Parting.{parted-end, parted-byte}
+use Rattle.streams.specs.Gathering.{keptOf, keptIn, noByte, isEmpty, taken, bufferTaken, lastHanded, handed}
 use Rattle.streams.proofs.Gathering.{taken-room, taken-over, buffer-over}
 
 -- a buffer of n bytes, for the bytes of a line that have come

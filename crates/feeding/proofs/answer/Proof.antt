@@ -11,11 +11,6 @@ use Rattle.written.specs.Written.{lengthOf}
 use Rattle.feeding.proofs.Following.{laid-fits, answer-is}
 use Rattle.feeding.proofs.answer.Statement.{statement}
 use Rattle.feeding.proofs.answer.Tie as tie
-use Rattle.feeding.proofs.answer.Reads as reads
-use Rattle.feeding.proofs.answer.Lts as lts
-use Rattle.feeding.proofs.least.Reads as least-reads
-use Rattle.lines.proofs.answer.Reads as answer-reads
-use Rattle.written.proofs.length.Reads as length-reads
 
 add-result : tie.Need-add-result
 add-result c =

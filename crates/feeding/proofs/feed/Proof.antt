@@ -9,10 +9,6 @@ use Rattle.feeding.specs.Feeding.{fedAt, fedAnswer}
 use Rattle.feeding.proofs.Following.{Run, run-start, run-turn, run-done, step-more, on-within, on-room, steps-is}
 use Rattle.feeding.proofs.feed.Statement.{statement}
 use Rattle.feeding.proofs.feed.Tie as tie
-use Rattle.feeding.proofs.feed.Reads as reads
-use Rattle.feeding.proofs.feed.Lts as lts
-use Rattle.feeding.proofs.goes_on.Reads as goes-on-reads
-use Rattle.feeding.proofs.step.Reads as step-reads
 
 abbrev Inv-loop : tie.InvT-loop
 Inv-loop chunk buffer₀ out₀ f₀ buffer out f = Run chunk (fedAt buffer₀ out₀ f₀ .machine) (fedAt buffer out f)

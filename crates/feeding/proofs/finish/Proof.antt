@@ -5,10 +5,6 @@ use borrow.Author.Needs.{needs}
 use Rattle.feeding.proofs.Following.{finished-none, finished-last}
 use Rattle.feeding.proofs.finish.Statement.{statement}
 use Rattle.feeding.proofs.finish.Tie as tie
-use Rattle.feeding.proofs.finish.Reads as reads
-use Rattle.feeding.proofs.finish.Lts as lts
-use Rattle.feeding.proofs.answer.Reads as answer-reads
-use Rattle.streams.proofs.gathered.Gathered.is_empty.Reads as is-empty-reads
 
 returns : tie.Need-returns
 returns c = let a = c .before .before .before .before .args in finished-none (a .buffer .now) (a .out .now) (a .g) (sym (c .before .is-empty .ensures) ∙ c .if1 .taken)

@@ -4,9 +4,6 @@ use borrow.Author.Needs.{needs}
 use Rattle.feeding.proofs.Following.{on-yes, on-no}
 use Rattle.feeding.proofs.goes_on.Statement.{statement}
 use Rattle.feeding.proofs.goes_on.Tie as tie
-use Rattle.feeding.proofs.goes_on.Reads as reads
-use Rattle.feeding.proofs.goes_on.Lts as lts
-use Rattle.lent.proofs.room.Reads as room-reads
 
 returns : tie.Need-returns
 returns c = let a = c .before .before .args in on-yes (a .i) (a .n) (a .total) (a .used) _ (c .before .if1 .taken) (c .room .ensures)

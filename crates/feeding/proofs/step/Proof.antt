@@ -4,11 +4,6 @@ use borrow.Author.Needs.{needs}
 use Rattle.feeding.proofs.Following.{step-end, step-goes}
 use Rattle.feeding.proofs.step.Statement.{statement}
 use Rattle.feeding.proofs.step.Tie as tie
-use Rattle.feeding.proofs.step.Reads as reads
-use Rattle.feeding.proofs.step.Lts as lts
-use Rattle.feeding.proofs.answer.Reads as answer-reads
-use Rattle.streams.proofs.gathered.Gathered.new.Reads as new-reads
-use Rattle.streams.proofs.gather.Reads as gather-reads
 
 returns : tie.Need-returns
 returns c = let a = c .before .before .before .before .before .before .before .before .before .before .before .before .before .before .before .args in step-end (a .chunk .now) (a .buffer .now) (a .out .now) (a .f) _ _ (c .before .before .before .before .before .before .before .before .before .before .gather .ensures) _ _ _ (c .before .before .before .before .before .before .if1 .taken) (c .new .ensures) (c .before .before .before .answer .ensures)

@@ -5,10 +5,6 @@ use borrow.Author.Needs.{needs}
 use Rattle.feeding.proofs.Statements.{taken-whole}
 use Rattle.line.proofs.pour.Statement.{statement}
 use Rattle.line.proofs.pour.Tie as tie
-use Rattle.line.proofs.pour.Reads as reads
-use Rattle.line.proofs.pour.Lts as lts
-use Rattle.feeding.proofs.feed.Reads as feed-reads
-use Rattle.line.proofs.write_sheet.Reads as write-sheet-reads
 
 returns : tie.Need-returns
 returns c =

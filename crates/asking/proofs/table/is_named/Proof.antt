@@ -11,9 +11,6 @@ use Rattle.asking.proofs.Filled.{name-at}
 use Rattle.asking.proofs.Named.{Comparing, comparing-turn, comparing-other, comparing-done, same-longer, name-plain, name-short}
 use Rattle.asking.proofs.table.is_named.Statement.{statement}
 use Rattle.asking.proofs.table.is_named.Tie as tie
-use Rattle.asking.proofs.table.is_named.Reads as reads
-use Rattle.asking.proofs.table.is_named.Lts as lts
-use Rattle.asking.proofs.table.byte_at.Reads as byte-at-reads
 
 abbrev Inv-loop : tie.InvT-loop
 Inv-loop word row i₀ i = (Comparing word (rowAt row .name) i) × (length word ≤ 15)

@@ -5,9 +5,6 @@ use borrow.Author.Needs.{needs}
 use Rattle.asking.proofs.Filled.{letter-at}
 use Rattle.asking.proofs.table.kind_of.Statement.{statement}
 use Rattle.asking.proofs.table.kind_of.Tie as tie
-use Rattle.asking.proofs.table.kind_of.Reads as reads
-use Rattle.asking.proofs.table.kind_of.Lts as lts
-use Rattle.asking.proofs.table.byte_at.Reads as byte-at-reads
 
 returns : tie.Need-returns
 returns c = c .byte-at .ensures ∙ letter-at _ _ (c .before .pre .0) (c .before .pre .1)

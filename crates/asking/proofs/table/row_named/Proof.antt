@@ -7,9 +7,6 @@ use borrow.Author.Needs.{needs}
 use Rattle.asking.proofs.Named.{Seeking, seeking-found, seeking-turn, seeking-none}
 use Rattle.asking.proofs.table.row_named.Statement.{statement}
 use Rattle.asking.proofs.table.row_named.Tie as tie
-use Rattle.asking.proofs.table.row_named.Reads as reads
-use Rattle.asking.proofs.table.row_named.Lts as lts
-use Rattle.asking.proofs.table.is_named.Reads as is-named-reads
 
 abbrev Inv-loop : tie.InvT-loop
 Inv-loop word i₀ i = Seeking word i

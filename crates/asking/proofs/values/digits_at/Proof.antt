@@ -7,11 +7,6 @@ use Rattle.digits.proofs.Runs.{run-count}
 use Rattle.asking.proofs.Numbers.{digits-none, digits-within, part-digits, digits-some}
 use Rattle.asking.proofs.values.digits_at.Statement.{statement}
 use Rattle.asking.proofs.values.digits_at.Tie as tie
-use Rattle.asking.proofs.values.digits_at.Reads as reads
-use Rattle.asking.proofs.values.digits_at.Lts as lts
-use Rattle.asking.proofs.values.magnitude.Reads as magnitude-reads
-use Rattle.asking.proofs.values.signed.Reads as signed-reads
-use Rattle.digits.proofs.run_at.Reads as run-at-reads
 
 returns : tie.Need-returns
 returns c = digits-none _ _ _ (ap (λ z. z .count) (c .before .run-at .ensures) ∙ run-count _) _ (c .if1 .taken)

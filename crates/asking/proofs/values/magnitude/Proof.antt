@@ -6,9 +6,6 @@ use borrow.Author.Needs.{needs}
 use Rattle.asking.proofs.Numbers.{Valuing, valuing-start, valuing-turn, valuing-done, here}
 use Rattle.asking.proofs.values.magnitude.Statement.{statement}
 use Rattle.asking.proofs.values.magnitude.Tie as tie
-use Rattle.asking.proofs.values.magnitude.Reads as reads
-use Rattle.asking.proofs.values.magnitude.Lts as lts
-use Rattle.asking.proofs.values.push.Reads as push-reads
 
 abbrev Inv-loop : tie.InvT-loop
 Inv-loop d m₀ i₀ m i = Valuing d m i

@@ -8,10 +8,6 @@ use borrow.Author.Needs.{needs}
 use Rattle.asking.proofs.Numbers.{stands-within, number-none, number-minus, number-plain}
 use Rattle.asking.proofs.values.number.Statement.{statement}
 use Rattle.asking.proofs.values.number.Tie as tie
-use Rattle.asking.proofs.values.number.Reads as reads
-use Rattle.asking.proofs.values.number.Lts as lts
-use Rattle.asking.proofs.values.digits_at.Reads as digits-at-reads
-use Rattle.asking.proofs.values.stands.Reads as stands-reads
 
 returns : tie.Need-returns
 returns c = number-none _ _ (sym (c .before .stands .ensures) ∙ not-true _ (c .if1 .taken))

@@ -6,8 +6,6 @@ use Rattle.digits.proofs.Values.{digit-bounds}
 use Rattle.asking.proofs.Numbers.{pushed-past, pushed-within}
 use Rattle.asking.proofs.values.push.Statement.{statement}
 use Rattle.asking.proofs.values.push.Tie as tie
-use Rattle.asking.proofs.values.push.Reads as reads
-use Rattle.asking.proofs.values.push.Lts as lts
 
 returns : tie.Need-returns
 returns c = pushed-past _ _ (c .if1 .taken)

@@ -8,9 +8,6 @@ use Rattle.asking.specs.declared.values.Word.the-variants.{Number}
 use Rattle.asking.proofs.Numbers.{word-least, word-most, word-within, word-past}
 use Rattle.asking.proofs.values.signed.Statement.{statement}
 use Rattle.asking.proofs.values.signed.Tie as tie
-use Rattle.asking.proofs.values.signed.Reads as reads
-use Rattle.asking.proofs.values.signed.Lts as lts
-use Rattle.numbers.proofs.with_sign.Reads as with-sign-reads
 
 returns : tie.Need-returns
 returns c = ap (λ z. Number z (c .before .before .args .next)) (toZ-ofZ (record { sfits = c .with-sign .ok }) ∙ c .with-sign .ensures ∙ fitted-in _ _ (c .before .if1 .taken)) ∙ word-within _ _ _ (c .before .if1 .taken)

@@ -4,8 +4,6 @@ use borrow.Author.Needs.{needs}
 use Rattle.asking.proofs.Numbers.{stands-here, stands-past}
 use Rattle.asking.proofs.values.stands.Statement.{statement}
 use Rattle.asking.proofs.values.stands.Tie as tie
-use Rattle.asking.proofs.values.stands.Reads as reads
-use Rattle.asking.proofs.values.stands.Lts as lts
 
 returns : tie.Need-returns
 returns c = stands-here _ _ _ (c .before .if1 .taken)

@@ -7,11 +7,6 @@ use Rattle.asking.specs.Table.{kindOf}
 use Rattle.asking.specs.Asked.{askedRest, restAt, endedAt}
 use Rattle.asking.proofs.words.ended.Statement.{statement}
 use Rattle.asking.proofs.words.ended.Tie as tie
-use Rattle.asking.proofs.words.ended.Reads as reads
-use Rattle.asking.proofs.words.ended.Lts as lts
-use Rattle.asking.proofs.table.kind_of.Reads as kind-of-reads
-use Rattle.asking.proofs.words.not_understood.Reads as not-understood-reads
-use Rattle.asking.proofs.words.rest_at.Reads as rest-at-reads
 
 -- what `rest_at` answered
 there : (c : tie.After-rest-at)

@@ -10,10 +10,6 @@ use Rattle.numbers.specs.Sign.{isNeg}
 use Rattle.asking.proofs.Taken.{allowed-place, allowed-room, allowed-any}
 use Rattle.asking.proofs.words.is_allowed.Statement.{statement}
 use Rattle.asking.proofs.words.is_allowed.Tie as tie
-use Rattle.asking.proofs.words.is_allowed.Reads as reads
-use Rattle.asking.proofs.words.is_allowed.Lts as lts
-use Rattle.asking.proofs.words.is_room.Reads as is-room-reads
-use Rattle.numbers.proofs.below_zero.Reads as below-zero-reads
 
 returns : tie.Need-returns
 returns c = ap not (c .below-zero .ensures ∙ ap isNeg (toZ-ofZ (c .before .before .fits .z))) ∙ allowed-place _ _ (c .before .if1 .taken)

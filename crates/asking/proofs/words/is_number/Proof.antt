@@ -8,9 +8,6 @@ use Rattle.asking.specs.Table.{kindOf}
 use Rattle.asking.proofs.Taken.{number-past, number-space, number-text, number-other}
 use Rattle.asking.proofs.words.is_number.Statement.{statement}
 use Rattle.asking.proofs.words.is_number.Tie as tie
-use Rattle.asking.proofs.words.is_number.Reads as reads
-use Rattle.asking.proofs.words.is_number.Lts as lts
-use Rattle.asking.proofs.table.kind_of.Reads as kind-of-reads
 
 returns : tie.Need-returns
 returns c = number-past (c .before .args .k) (kindOf (c .before .args .row) (c .before .args .k)) (c .if1 .taken)

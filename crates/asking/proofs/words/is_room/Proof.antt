@@ -8,10 +8,6 @@ use mir.Facts.{toZ-ofZ}
 use Rattle.asking.proofs.Taken.{room-below, room-not}
 use Rattle.asking.proofs.words.is_room.Statement.{statement}
 use Rattle.asking.proofs.words.is_room.Tie as tie
-use Rattle.asking.proofs.words.is_room.Reads as reads
-use Rattle.asking.proofs.words.is_room.Lts as lts
-use Rattle.numbers.proofs.below_zero.Reads as below-zero-reads
-use Rattle.numbers.proofs.magnitude.Reads as magnitude-reads
 
 returns : tie.Need-returns
 returns c = room-below (c .before .before .args .z) (sym (ap isNeg (toZ-ofZ (c .before .before .fits .z))) ∙ sym (c .before .below-zero .ensures) ∙ c .if1 .taken)

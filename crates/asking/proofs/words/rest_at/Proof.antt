@@ -4,8 +4,6 @@ use borrow.Author.Needs.{needs}
 use Rattle.asking.proofs.Taken.{rest-ended, rest-own, rest-none, rest-other, rest-text}
 use Rattle.asking.proofs.words.rest_at.Statement.{statement}
 use Rattle.asking.proofs.words.rest_at.Tie as tie
-use Rattle.asking.proofs.words.rest_at.Reads as reads
-use Rattle.asking.proofs.words.rest_at.Lts as lts
 
 returns : tie.Need-returns
 returns c = rest-ended _ _ _ (c .if1 .taken)

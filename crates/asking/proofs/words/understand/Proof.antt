@@ -8,12 +8,6 @@ use Rattle.asking.specs.Asked.{wordsFrom, noValues}
 use Rattle.asking.proofs.Taken.{word-within, word-part, part-plain, asked-known, asked-unknown}
 use Rattle.asking.proofs.words.understand.Statement.{statement}
 use Rattle.asking.proofs.words.understand.Tie as tie
-use Rattle.asking.proofs.words.understand.Reads as reads
-use Rattle.asking.proofs.words.understand.Lts as lts
-use Rattle.asking.proofs.table.row_named.Reads as row-named-reads
-use Rattle.asking.proofs.words.not_understood.Reads as not-understood-reads
-use Rattle.asking.proofs.words.word_end.Reads as word-end-reads
-use Rattle.asking.proofs.words.words.Reads as words-reads
 
 part-row-named-end : tie.Need-part-row-named-end
 part-row-named-end c = omega (arith, c .word-end .ensures, word-within (c .before .before .args .line .now))

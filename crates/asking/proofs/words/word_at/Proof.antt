@@ -8,10 +8,6 @@ use Rattle.asking.specs.Asked.{isInRange, allowed}
 use Rattle.asking.proofs.Taken.{allowed-yes, allowed-no}
 use Rattle.asking.proofs.words.word_at.Statement.{statement}
 use Rattle.asking.proofs.words.word_at.Tie as tie
-use Rattle.asking.proofs.words.word_at.Reads as reads
-use Rattle.asking.proofs.words.word_at.Lts as lts
-use Rattle.asking.proofs.values.number.Reads as number-reads
-use Rattle.asking.proofs.words.is_allowed.Reads as is-allowed-reads
 
 returns : tie.Need-returns
 returns c = sym (ap (allowed (c .before .before .before .before .args .kind)) (sym (c .before .before .number .ensures) ∙ c .enum-told .given .1))

@@ -6,8 +6,6 @@ use borrow.Author.Needs.{needs}
 use Rattle.asking.proofs.Taken.{Ending, ending-start, ending-found, ending-turn, ending-none}
 use Rattle.asking.proofs.words.word_end.Statement.{statement}
 use Rattle.asking.proofs.words.word_end.Tie as tie
-use Rattle.asking.proofs.words.word_end.Reads as reads
-use Rattle.asking.proofs.words.word_end.Lts as lts
 
 abbrev Inv-loop : tie.InvT-loop
 Inv-loop line i₀ i = Ending line i

@@ -13,13 +13,6 @@ use Rattle.asking.specs.Table.{kindOf}
 use Rattle.asking.proofs.Taken.{Going, going-start, going-within, going-none, going-turn, going-ended}
 use Rattle.asking.proofs.words.words.Statement.{statement}
 use Rattle.asking.proofs.words.words.Tie as tie
-use Rattle.asking.proofs.words.words.Reads as reads
-use Rattle.asking.proofs.words.words.Lts as lts
-use Rattle.asking.proofs.table.kind_of.Reads as kind-of-reads
-use Rattle.asking.proofs.words.ended.Reads as ended-reads
-use Rattle.asking.proofs.words.is_number.Reads as is-number-reads
-use Rattle.asking.proofs.words.not_understood.Reads as not-understood-reads
-use Rattle.asking.proofs.words.word_at.Reads as word-at-reads
 
 abbrev Inv-loop : tie.InvT-loop
 Inv-loop row line from values₀ at₀ k₀ values at k = Going row line from values at k

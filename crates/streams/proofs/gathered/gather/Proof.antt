@@ -7,9 +7,6 @@ use borrow.Author.Needs.{needs}
 use Rattle.streams.proofs.Gathering.{Running, running-start, running-end, running-turn, running-out}
 use Rattle.streams.proofs.gathered.gather.Statement.{statement}
 use Rattle.streams.proofs.gathered.gather.Tie as tie
-use Rattle.streams.proofs.gathered.gather.Reads as reads
-use Rattle.streams.proofs.gathered.gather.Lts as lts
-use Rattle.streams.proofs.gathered.take.Reads as take-reads
 
 abbrev Inv-loop : tie.InvT-loop
 Inv-loop chunk from buffer₀ h₀ i₀ buffer h i = Running chunk from buffer₀ h₀ buffer h i

@@ -5,8 +5,6 @@ use borrow.Author.Needs.{needs}
 use Rattle.streams.proofs.Gathering.{taken-room, taken-over, buffer-over}
 use Rattle.streams.proofs.gathered.take.Statement.{statement}
 use Rattle.streams.proofs.gathered.take.Tie as tie
-use Rattle.streams.proofs.gathered.take.Reads as reads
-use Rattle.streams.proofs.gathered.take.Lts as lts
 
 returns : tie.Need-returns
 returns c = let a = c .before .args in (taken-room (a .buffer .now) (a .g) (a .b) (c .if1 .taken), refl)

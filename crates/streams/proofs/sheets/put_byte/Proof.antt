@@ -7,10 +7,6 @@ use borrow.Author.Needs.{needs}
 use Rattle.streams.proofs.Putting.{put-fits, put-in, put-out}
 use Rattle.streams.proofs.sheets.put_byte.Statement.{statement}
 use Rattle.streams.proofs.sheets.put_byte.Tie as tie
-use Rattle.streams.proofs.sheets.put_byte.Reads as reads
-use Rattle.streams.proofs.sheets.put_byte.Lts as lts
-use Rattle.lent.proofs.put_byte.Reads as put-byte-reads
-use Rattle.lent.proofs.room.Reads as room-reads
 
 sub-put-byte : tie.Need-sub-put-byte
 sub-put-byte c = omega (arith, put-fits (c .before .before .before .args .out .now) (c .before .before .before .args .used) (c .before .before .before .args .b ∷ []) 1 _ refl (c .before .room .ensures) (c .if1 .taken))

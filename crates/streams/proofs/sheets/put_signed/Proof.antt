@@ -6,11 +6,6 @@ use Rattle.written.specs.Parts.{signedText}
 use Rattle.streams.proofs.Putting.{put-fits, put-in, put-out}
 use Rattle.streams.proofs.sheets.put_signed.Statement.{statement}
 use Rattle.streams.proofs.sheets.put_signed.Tie as tie
-use Rattle.streams.proofs.sheets.put_signed.Reads as reads
-use Rattle.streams.proofs.sheets.put_signed.Lts as lts
-use Rattle.lent.proofs.room.Reads as room-reads
-use Rattle.written.proofs.put_signed.Reads as put-signed-reads
-use Rattle.written.proofs.signed_length.Reads as signed-length-reads
 
 sub-put-signed : tie.Need-sub-put-signed
 sub-put-signed c = let a = c .before .before .before .before .args in omega (arith, put-fits (a .out .now) (a .used) (signedText (a .minus) (a .m)) _ _ (c .before .before .signed-length .ensures) (c .before .room .ensures) (c .if1 .taken))

@@ -6,10 +6,6 @@ use borrow.Author.Needs.{needs}
 use Rattle.streams.proofs.Putting.{put-fits, put-in, put-out}
 use Rattle.streams.proofs.sheets.put_text.Statement.{statement}
 use Rattle.streams.proofs.sheets.put_text.Tie as tie
-use Rattle.streams.proofs.sheets.put_text.Reads as reads
-use Rattle.streams.proofs.sheets.put_text.Lts as lts
-use Rattle.lent.proofs.put_text.Reads as put-text-reads
-use Rattle.lent.proofs.room.Reads as room-reads
 
 sub-put-text : tie.Need-sub-put-text
 sub-put-text c = omega (arith, put-fits (c .before .before .before .before .args .out .now) (c .before .before .before .before .args .used) (c .before .before .before .before .args .text .now) _ _ refl (c .before .room .ensures) (c .if1 .taken))

@@ -3,8 +3,6 @@
 use borrow.Author.Needs.{needs}
 use Rattle.streams.proofs.gathered.Gathered.is_empty.Statement.{statement}
 use Rattle.streams.proofs.gathered.Gathered.is_empty.Tie as tie
-use Rattle.streams.proofs.gathered.Gathered.is_empty.Reads as reads
-use Rattle.streams.proofs.gathered.Gathered.is_empty.Lts as lts
 
 returns-2 : tie.Need-returns-2
 returns-2 c = rw (c .before .if1 .left)

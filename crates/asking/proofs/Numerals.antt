@@ -1,0 +1,113 @@
+-- The number that stands at a place is the one that the grammar has there, and there is no other.
+-- Assumes nothing.
+use Prim.Native.Nat.{ℕ, suc, _+_}
+use mathlib.Core.Path.{_≡_, refl, sym, ap, subst, _∙_}
+use mathlib.Core.List.{List, [], _∷_, _++_}
+use mathlib.Core.Bool.{Bool, true, false, cond}
+use native.Mathlib.Omega.{arith}
+use lib.Dec.{eqb}
+use lib.IntN.{ℤ}
+use lib.ListN.{length, drop}
+use borrow.Author.Tests.{eqb-true, eqb-false, ne-eqb}
+use Rattle.numbers.specs.Sign.{signed}
+use Rattle.digits.specs.Digits.{isByte, IsField, valueOf, firstIs, digitFirst, span, leading}
+use Rattle.digits.proofs.Values.{digit-bounds, all-head}
+use Rattle.digits.proofs.Runs.{span-run, leading-run, leading-field, leading-length, leading-rest, span-stops}
+use Rattle.asking.specs.declared.values.Word.the-variants.{Number, Nothing}
+use Rattle.asking.specs.Numbers.{isWithin, signedWord, digitsAt, signedAt, numberAt}
+use Rattle.asking.specs.Grammar.{Numeral, plain, minus}
+
+-- ---- a number of the grammar is taken
+digits-taken : (sign : Bool) (at : ℕ) (d l : List ℕ) → IsField d → isWithin sign (valueOf d) ≡ true → digitFirst l ≡ false
+    → digitsAt sign at (d ++ l) ≡ Number (signed sign (valueOf d)) (at + length d)
+unfolding digitsAt signedWord
+digits-taken sign at d l f w s =
+    rw (leading-run d l (f .digits) s, span-run d l (f .digits) s, ne-eqb (length d) 0 (λ e. omega (arith, e, f .some)), w)
+
+no-minus : (d l : List ℕ) → IsField d → firstIs (isByte 45) (d ++ l) ≡ false
+no-minus [] l f = absurd (omega (arith, f .some))
+no-minus (b ∷ d) l f = ne-eqb b 45 (λ e. omega (arith, e, digit-bounds b (all-head b d (f .digits))))
+
+pub number-taken : {d : List ℕ} {z : ℤ} → Numeral d z → (at : ℕ) (l : List ℕ) → digitFirst l ≡ false
+    → numberAt at (32 ∷ d ++ l) ≡ Number z (at + 1 + length d)
+unfolding numberAt signedAt
+number-taken (plain {d} f w) at l s = rw (no-minus d l f) (digits-taken false (at + 1) d l f w s)
+number-taken (minus {d} f w) at l s =
+    let e : at + 1 + 1 + length d ≡ at + 1 + suc (length d) = omega arith in
+    digits-taken true (at + 1 + 1) d l f w s ∙ rw e
+
+-- ---- and what is taken is one
+pub record Taken (at : ℕ) (l : List ℕ) (z : ℤ) (next : ℕ) : Type 0 where
+  pub digits : List ℕ
+  pub rest : List ℕ
+  pub is : l ≡ 32 ∷ digits ++ rest
+  pub numeral : Numeral digits z
+  pub stops : digitFirst rest ≡ false
+  pub past : next ≡ at + 1 + length digits
+
+nothing : {z : ℤ} {next : ℕ} → Nothing ≡ Number z next → ⊥
+nothing e = let z : _≡_ {A = ℕ} 0 1 = cc in omega arith
+
+-- of digits behind a sign
+record Digits (sign : Bool) (at : ℕ) (l : List ℕ) (z : ℤ) (next : ℕ) : Type 0 where
+  some : span l ≡ 0 → ⊥
+  within : isWithin sign (valueOf (leading l)) ≡ true
+  value : z ≡ signed sign (valueOf (leading l))
+  past : next ≡ at + span l
+
+number-value : {x y : ℤ} {m n : ℕ} → Number x m ≡ Number y n → x ≡ y
+number-value e = cc
+
+number-next : {x y : ℤ} {m n : ℕ} → Number x m ≡ Number y n → m ≡ n
+number-next e = cc
+
+digits-told : (sign : Bool) (at : ℕ) (l : List ℕ) (z : ℤ) (next : ℕ) → digitsAt sign at l ≡ Number z next → Digits sign at l z next
+unfolding digitsAt signedWord
+digits-told sign at l z next e = by (eqb (span l) 0) refl (isWithin sign (valueOf (leading l))) refl e
+  where
+    by : (x : Bool) → eqb (span l) 0 ≡ x → (y : Bool) → isWithin sign (valueOf (leading l)) ≡ y
+        → cond x Nothing (cond y (Number (signed sign (valueOf (leading l))) (at + span l)) Nothing) ≡ Number z next
+        → Digits sign at l z next
+    by true p y q f = absurd (nothing f)
+    by false p true q f = record { some = eqb-false (span l) 0 p; within = q; value = sym (number-value f); past = sym (number-next f) }
+    by false p false q f = absurd (nothing f)
+
+module _ (at : ℕ) (t : List ℕ) (z : ℤ) (next : ℕ) where
+  plain-told : Digits false (at + 1) t z next → Taken at (32 ∷ t) z next
+  plain-told d = record {
+    digits = leading t;
+    rest = drop (span t) t;
+    is = ap (λ u. 32 ∷ u) (sym (leading-rest t));
+    numeral = subst (Numeral (leading t)) (sym (d .value)) (plain (leading-field t (d .some)) (d .within));
+    stops = span-stops t;
+    past = omega (arith, d .past, leading-length t);
+  }
+
+  minus-told : Digits true (at + 1 + 1) t z next → Taken at (32 ∷ 45 ∷ t) z next
+  minus-told d = record {
+    digits = 45 ∷ leading t;
+    rest = drop (span t) t;
+    is = ap (λ u. 32 ∷ 45 ∷ u) (sym (leading-rest t));
+    numeral = subst (Numeral (45 ∷ leading t)) (sym (d .value)) (minus (leading-field t (d .some)) (d .within));
+    stops = span-stops t;
+    past = omega (arith, d .past, leading-length t);
+  }
+
+signed-told : (at : ℕ) (t : List ℕ) (z : ℤ) (next : ℕ) → signedAt (at + 1) t ≡ Number z next → Taken at (32 ∷ t) z next
+unfolding signedAt
+signed-told at [] z next e = plain-told at [] z next (digits-told false (at + 1) [] z next e)
+signed-told at (c ∷ t) z next e = by (eqb c 45) refl e
+  where
+    by : (x : Bool) → eqb c 45 ≡ x → cond x (digitsAt true (at + 1 + 1) t) (digitsAt false (at + 1) (c ∷ t)) ≡ Number z next
+        → Taken at (32 ∷ c ∷ t) z next
+    by true p f = rw (eqb-true c 45 p) (minus-told at t z next (digits-told true (at + 1 + 1) t z next f))
+    by false p f = plain-told at (c ∷ t) z next (digits-told false (at + 1) (c ∷ t) z next f)
+
+pub number-told : (at : ℕ) (l : List ℕ) (z : ℤ) (next : ℕ) → numberAt at l ≡ Number z next → Taken at l z next
+unfolding numberAt
+number-told at [] z next e = absurd (nothing e)
+number-told at (b ∷ t) z next e = by (eqb b 32) refl e
+  where
+    by : (x : Bool) → eqb b 32 ≡ x → cond x (signedAt (at + 1) t) Nothing ≡ Number z next → Taken at (b ∷ t) z next
+    by true p f = rw (eqb-true b 32 p) (signed-told at t z next f)
+    by false p f = absurd (nothing f)

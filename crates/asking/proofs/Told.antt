@@ -1,0 +1,283 @@
+-- What is understood is a line of the grammar: its word is a row's, and what stands behind it is by the row's letters.
+-- Assumes nothing.
+use Prim.Native.Nat.{ℕ, zero, suc, _+_, _-_, _≤_, _<_}
+use mathlib.Core.Path.{_≡_, refl, sym, ap, subst, _∙_}
+use mathlib.Core.List.{List, [], _∷_, _++_}
+use mathlib.Core.Bool.{Bool, true, false, cond, not, _||_, and-eq-true-iff}
+use native.Mathlib.Omega.{arith}
+use lib.Dec.{eqb, ltb}
+use lib.IntN.{ℤ}
+use lib.ListN.{length, drop, set, getD, length-append, length-drop, take-append-drop}
+use lib.Seq.{drop-drop, drop-append-seam}
+use borrow.Author.Tests.{eqb-true, ltb-true, not-true}
+use Rattle.asking.specs.declared.values.Word.{Word}
+use Rattle.asking.specs.declared.values.Word.the-variants.{Number, Nothing}
+use Rattle.asking.specs.declared.words.Asked.{Asked}
+use Rattle.asking.specs.declared.words.Rest.the-variants as rest
+use Rattle.asking.specs.Numbers.{numberAt}
+use Rattle.asking.specs.Table.{Row, row, rows, rowAt, wordOf, same, rowFrom, rowNamed, kindOf}
+use Rattle.asking.specs.Asked.{isInRange, allowed, isLast, restAt, noValues, unknown, askedRest, endedAt, wordThen, wordsFrom, askedOf}
+use Rattle.asking.specs.Grammar.{Behind, ended, noText, text, own, number, Asks, asks}
+use Rattle.asking.specs.Statements.{placedFrom, IsAsked}
+use Rattle.asking.proofs.Numerals.{number-told}
+use Rattle.asking.proofs.Understanding.{numbers, isFormed, letter-here, letter-none, letters-on, words-last, words-number, row-formed, row-five}
+use Rattle.asking.proofs.Taken.{word-within, word-first}
+
+-- what is told of the words from the k-th on, which begin at a place of the line
+record Told (n : ℕ) (letters t line : List ℕ) (k : ℕ) (values : List ℤ) (a : Asked) : Type 0 where
+  zs : List ℤ
+  r : List ℕ
+  row-is : a .row ≡ n
+  behind : Behind letters t zs r
+  values-are : a .values ≡ placedFrom k values zs
+  begins : a .rest + length r ≡ length line
+
+-- no row is past the table
+past : (a : Asked) → a ≡ unknown → a .row < 25 → ⊥
+past a e h = omega (arith, h, ap (λ z. z .row) e)
+
+module _ (n : ℕ) (line : List ℕ) where
+  -- the end of the words, by their last letter
+  none-told : (at k : ℕ) (values : List ℤ) (t : List ℕ) → drop at line ≡ t → at ≤ length line → askedRest n values (restAt 32 at t) .row < 25
+      → Told n [] t line k values (askedRest n values (restAt 32 at t))
+  unfolding restAt placedFrom
+  none-told at k values [] q w h = record {
+    zs = [];
+    r = [];
+    row-is = refl;
+    behind = ended;
+    values-are = refl;
+    begins = omega (arith, ap length q, length-drop at line);
+  }
+  none-told at k values (b ∷ u) q w h = absurd (past unknown refl h)
+
+  text-told : (at k : ℕ) (values : List ℤ) (t : List ℕ) → drop at line ≡ t → at ≤ length line → askedRest n values (restAt 116 at t) .row < 25
+      → Told n (116 ∷ []) t line k values (askedRest n values (restAt 116 at t))
+  unfolding restAt placedFrom
+  text-told at k values [] q w h = record {
+    zs = [];
+    r = [];
+    row-is = refl;
+    behind = noText;
+    values-are = refl;
+    begins = omega (arith, ap length q, length-drop at line);
+  }
+  text-told at k values (b ∷ u) q w h = by (eqb b 32) refl h
+    where
+      by : (x : Bool) → eqb b 32 ≡ x → askedRest n values (cond x (rest.At (at + 1)) rest.Other) .row < 25
+          → Told n (116 ∷ []) (b ∷ u) line k values (askedRest n values (cond x (rest.At (at + 1)) rest.Other))
+      by true e g = record {
+        zs = [];
+        r = u;
+        row-is = refl;
+        behind = rw (eqb-true b 32 e) text;
+        values-are = refl;
+        begins = omega (arith, ap length q, length-drop at line);
+      }
+      by false e g = absurd (past unknown refl g)
+
+  own-told : (at k : ℕ) (values : List ℤ) (t : List ℕ) → drop at line ≡ t → at ≤ length line
+      → Told n (42 ∷ []) t line k values (askedRest n values (restAt 42 at t))
+  unfolding restAt placedFrom
+  own-told at k values [] q w = record {
+    zs = [];
+    r = [];
+    row-is = refl;
+    behind = own;
+    values-are = refl;
+    begins = omega (arith, ap length q, length-drop at line);
+  }
+  own-told at k values (b ∷ u) q w = record {
+    zs = [];
+    r = b ∷ u;
+    row-is = refl;
+    behind = own;
+    values-are = refl;
+    begins = omega (arith, ap length q, length-drop at line);
+  }
+
+  -- one of the two letters
+  last-told : (x at k : ℕ) (values : List ℤ) (t : List ℕ) → isLast x ≡ true → not (eqb x 32) ≡ true → drop at line ≡ t → at ≤ length line
+      → askedRest n values (restAt x at t) .row < 25 → Told n (x ∷ []) t line k values (askedRest n values (restAt x at t))
+  last-told x at k values t i j q w h = by (eqb x 116) refl (eqb x 42) refl (rw (not-true (eqb x 32) j) at i)
+    where
+      by : (y : Bool) → eqb x 116 ≡ y → (z : Bool) → eqb x 42 ≡ z → (eqb x 116 || eqb x 42) ≡ true
+          → Told n (x ∷ []) t line k values (askedRest n values (restAt x at t))
+      by true e z f o =
+          subst (λ u. askedRest n values (restAt u at t) .row < 25 → Told n (u ∷ []) t line k values (askedRest n values (restAt u at t)))
+          (sym (eqb-true x 116 e)) (λ g. text-told at k values t q w g) h
+      by false e true f o = rw (eqb-true x 42 f) (own-told at k values t q w)
+      by false e false f o = absurd (let y : _≡_ {A = Bool} false true = sym (rw (e, f)) ∙ o in let z : _≡_ {A = ℕ} 0 1 = cc in omega arith)
+
+  -- no letter is left
+  none-words : (m at k : ℕ) (values : List ℤ) → drop k (rowAt n .letters) ≡ [] → at ≤ length line → wordsFrom m n line at k values .row < 25
+      → Told n [] (drop at line) line k values (wordsFrom m n line at k values)
+  unfolding endedAt
+  none-words m at k values p w h =
+      let kind : kindOf n k ≡ 32 = letter-none (rowAt n .letters) k p in
+      let e : wordsFrom m n line at k values ≡ askedRest n values (restAt 32 at (drop at line)) =
+      words-last n line at k values m (ap isLast kind) ∙ ap (λ x. askedRest n values (restAt x at (drop at line))) kind in
+      rw e (none-told at k values (drop at line) refl w (rw e at h))
+
+  module _ (x : ℕ) (l : List ℕ) (at k : ℕ) (values : List ℤ) (p : drop k (rowAt n .letters) ≡ x ∷ l) (w : at ≤ length line) where
+    kind : kindOf n k ≡ x
+    kind = letter-here (rowAt n .letters) k x l p
+
+    -- the last letter: nothing is behind it
+    last-words : (m : ℕ) → l ≡ [] → not (eqb x 32) ≡ true → isLast x ≡ true → wordsFrom m n line at k values .row < 25
+        → Told n (x ∷ l) (drop at line) line k values (wordsFrom m n line at k values)
+    unfolding endedAt
+    last-words m none j i h =
+        let e : wordsFrom m n line at k values ≡ askedRest n values (restAt x at (drop at line)) =
+        words-last n line at k values m (ap isLast kind ∙ i) ∙ ap (λ y. askedRest n values (restAt y at (drop at line))) kind in
+        rw (none, e) (last-told x at k values (drop at line) i j refl w (rw e at h))
+
+    -- a number, and what is told of the words behind it
+    number-words : (m : ℕ) → isLast x ≡ false
+        → ((next : ℕ) (v : List ℤ) → next ≤ length line → wordsFrom m n line next (k + 1) v .row < 25
+        → Told n l (drop next line) line (k + 1) v (wordsFrom m n line next (k + 1) v))
+        → wordsFrom (suc m) n line at k values .row < 25
+        → Told n (x ∷ l) (drop at line) line k values (wordsFrom (suc m) n line at k values)
+    unfolding placedFrom
+    number-words m i ih h =
+        rw e (by (numberAt at (drop at line)) refl (rw e at h))
+      where
+        then : ℤ → ℕ → Asked
+        then z next = wordsFrom m n line next (k + 1) (set values k z)
+
+        e : wordsFrom (suc m) n line at k values ≡ wordThen (allowed x (numberAt at (drop at line))) then
+        e =
+            words-number n line at k values m (ap isLast kind ∙ i)
+            ∙ ap (λ y. wordThen (allowed y (numberAt at (drop at line))) then) kind
+
+        number : (z : ℤ) (next : ℕ) → numberAt at (drop at line) ≡ Number z next → isInRange x z ≡ true → then z next .row < 25
+            → Told n (x ∷ l) (drop at line) line k values (then z next)
+        number z next q g u =
+            let t = number-told at (drop at line) z next q in
+            let long : length (drop at line) ≡ suc (length (t .digits) + length (t .rest)) = ap length (t .is) ∙ ap suc (length-append (t .digits) (t .rest)) in
+            let one : 1 + length (t .digits) ≡ suc (length (t .digits)) = omega arith in
+            let place : next ≡ at + (1 + length (t .digits)) = omega (arith, t .past) in
+            let left : drop next line ≡ t .rest =
+            ap (λ y. drop y line) place
+            ∙ sym (drop-drop (1 + length (t .digits)) at line)
+            ∙ ap (drop (1 + length (t .digits))) (t .is)
+            ∙ rw one (drop-append-seam (t .digits) (t .rest)) in
+            let more = ih next (set values k z) (omega (arith, t .past, long, length-drop at line)) u in
+            record {
+              zs = z ∷ more .zs;
+              r = more .r;
+              row-is = more .row-is;
+              behind =
+                  subst (λ y. Behind (x ∷ l) y (z ∷ more .zs) (more .r)) (sym (t .is))
+                  (Behind.number i (t .numeral) g (t .stops) (subst (λ y. Behind l y (more .zs) (more .r)) left (more .behind)));
+              values-are = more .values-are;
+              begins = more .begins;
+            }
+
+        by : (y : Word) → numberAt at (drop at line) ≡ y → wordThen (allowed x y) then .row < 25
+            → Told n (x ∷ l) (drop at line) line k values (wordThen (allowed x y) then)
+        by Nothing q u = absurd (past unknown refl u)
+        by (Number z next) q u = ranged (isInRange x z) refl u
+          where
+            ranged : (b : Bool) → isInRange x z ≡ b → wordThen (cond b (Number z next) Nothing) then .row < 25
+                → Told n (x ∷ l) (drop at line) line k values (wordThen (cond b (Number z next) Nothing) then)
+            ranged true g u = number z next q g u
+            ranged false g u = absurd (past unknown refl u)
+
+  -- the last letter is the only one that is no number's
+  alone : (x : ℕ) (l : List ℕ) → isLast x ≡ true → isFormed (x ∷ l) ≡ true → (l ≡ []) × (not (eqb x 32) ≡ true)
+  unfolding isFormed
+  alone x [] i g = (refl, g)
+  alone x (y ∷ l) i g =
+      let z : _≡_ {A = Bool} true false = sym i ∙ not-true (isLast x) (and-eq-true-iff (not (isLast x)) _ .0 g .0) in
+      absurd (let u : _≡_ {A = ℕ} 0 1 = cc in omega arith)
+
+  formed-on : (x : ℕ) (l : List ℕ) → isFormed (x ∷ l) ≡ true → isLast x ≡ false → isFormed l ≡ true
+  unfolding isFormed
+  formed-on x [] g i = refl
+  formed-on x (y ∷ l) g i = and-eq-true-iff (not (isLast x)) _ .0 g .1
+
+  numbers-on : (x : ℕ) (l : List ℕ) (m : ℕ) → isLast x ≡ false → numbers (x ∷ l) ≤ m → suc (numbers l) ≤ m
+  unfolding numbers
+  numbers-on x l m i c = rw i at c
+
+  -- the words from the k-th on
+  words-told : (m at k : ℕ) (values : List ℤ) (letters : List ℕ) → drop k (rowAt n .letters) ≡ letters → isFormed letters ≡ true
+      → numbers letters ≤ m → at ≤ length line → wordsFrom m n line at k values .row < 25
+      → Told n letters (drop at line) line k values (wordsFrom m n line at k values)
+  words-told zero at k values [] p f c w h = none-words zero at k values p w h
+  words-told zero at k values (x ∷ l) p f c w h = by (isLast x) refl
+    where
+      by : (b : Bool) → isLast x ≡ b → Told n (x ∷ l) (drop at line) line k values (wordsFrom zero n line at k values)
+      by true i = let a = alone x l i f in last-words x l at k values p w zero (a .0) (a .1) i h
+      by false i = absurd (omega (arith, numbers-on x l zero i c))
+  words-told (suc m) at k values [] p f c w h = none-words (suc m) at k values p w h
+  words-told (suc m) at k values (x ∷ l) p f c w h =
+      by (isLast x) refl
+      (λ i next v w u. words-told m next (k + 1) v l (letters-on (rowAt n .letters) k x l p) (formed-on x l f i) (omega (arith, numbers-on x l (suc m) i c)) w u)
+    where
+      by : (b : Bool) → isLast x ≡ b
+          → (isLast x ≡ false → (next : ℕ) (v : List ℤ) → next ≤ length line → wordsFrom m n line next (k + 1) v .row < 25
+          → Told n l (drop next line) line (k + 1) v (wordsFrom m n line next (k + 1) v))
+          → Told n (x ∷ l) (drop at line) line k values (wordsFrom (suc m) n line at k values)
+      by true i ih = let a = alone x l i f in last-words x l at k values p w (suc m) (a .0) (a .1) i h
+      by false i ih = number-words x l at k values p w m i (ih i) h
+
+-- ---- the word
+same-is : (l m : List ℕ) → same l m ≡ true → l ≡ m
+unfolding same
+same-is [] [] e = refl
+same-is [] (b ∷ m) e = let z : _≡_ {A = ℕ} 0 1 = cc in absurd (omega arith)
+same-is (a ∷ l) [] e = let z : _≡_ {A = ℕ} 0 1 = cc in absurd (omega arith)
+same-is (a ∷ l) (b ∷ m) e =
+    let q = and-eq-true-iff (eqb a b) (same l m) .0 e in
+    ap (λ z. z ∷ l) (eqb-true a b (q .0)) ∙ ap (λ z. b ∷ z) (same-is l m (q .1))
+
+-- a row that was found has the word
+record Found (rs : List Row) (i n : ℕ) (w : List ℕ) : Type 0 where
+  from : i ≤ n
+  named : n < i + length rs → same w (getD rs (n - i) (row "" "") .name) ≡ true
+
+found : (rs : List Row) (i : ℕ) (w : List ℕ) → Found rs i (rowFrom i rs w) w
+unfolding rowFrom
+found [] i w = record { from = omega arith; named = λ h. absurd (omega arith) }
+found (r ∷ rs) i w = by (same w (r .name)) refl (found rs (suc i) w)
+  where
+    by : (b : Bool) → same w (r .name) ≡ b → Found rs (suc i) (rowFrom (suc i) rs w) w → Found (r ∷ rs) i (cond b i (rowFrom (suc i) rs w)) w
+    by true e f = let z : i - i ≡ 0 = omega arith in record { from = omega arith; named = λ h. rw z e }
+    by false e f =
+        let n = rowFrom (suc i) rs w in
+        let z : n - i ≡ suc (n - suc i) = omega (arith, f .from) in
+        record { from = omega (arith, f .from); named = λ h. rw z (f .named (omega arith)) }
+
+word-named : (w : List ℕ) → rowNamed w < 25 → w ≡ rowAt (rowNamed w) .name
+unfolding rows
+word-named w h =
+    let z : rowNamed w - 0 ≡ rowNamed w = omega arith in
+    same-is w (rowAt (rowNamed w) .name) (ap (λ k. same w (getD rows k (row "" "") .name)) (sym z) ∙ found rows 0 w .named h)
+
+pub only-understood : (line : List ℕ) → askedOf line .row < 25 → IsAsked line (askedOf line)
+unfolding askedOf
+only-understood line h = by (ltb (rowNamed (wordOf line)) 25) refl h
+  where
+    n : ℕ
+    n = rowNamed (wordOf line)
+
+    a : Asked
+    a = wordsFrom 5 n line (length (wordOf line)) 0 noValues
+
+    by : (b : Bool) → ltb n 25 ≡ b → cond b a unknown .row < 25 → IsAsked line (cond b a unknown)
+    by false e g = absurd (past unknown refl g)
+    by true e g =
+        let l : n < 25 = ltb-true n 25 e in
+        let t = words-told n line 5 (length (wordOf line)) 0 noValues (rowAt n .letters) refl (row-formed n l) (row-five n l) (word-within line) g in
+        let name : wordOf line ≡ rowAt n .name = word-named (wordOf line) l in
+        let whole : rowAt n .name ++ drop (length (wordOf line)) line ≡ line =
+        ap (λ z. z ++ drop (length (wordOf line)) line) (sym name ∙ sym (word-first line)) ∙ take-append-drop (length (wordOf line)) line in
+        record {
+          numbers = t .zs;
+          rest = t .r;
+          asks = subst (λ z. Asks line z (t .zs) (t .r)) (sym (t .row-is)) (subst (λ z. Asks z n (t .zs) (t .r)) whole (asks l (t .behind)));
+          values = t .values-are;
+          begins = t .begins;
+        }

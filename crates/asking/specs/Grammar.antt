@@ -1,0 +1,35 @@
+-- What a line of the calculator is made of (docs/ASK.md), as a grammar: no reader stands in it.
+-- Assumes nothing.
+use Prim.Native.Nat.{ℕ, _<_}
+use mathlib.Core.Path.{_≡_}
+use mathlib.Core.List.{List, [], _∷_, _++_}
+use mathlib.Core.Bool.{true, false}
+use lib.IntN.{ℤ}
+use Rattle.numbers.specs.Sign.{signed}
+use Rattle.digits.specs.Digits.{IsField, valueOf, digitFirst}
+use Rattle.asking.specs.Numbers.{isWithin}
+use Rattle.asking.specs.Table.{rowAt}
+use Rattle.asking.specs.Asked.{isInRange, isLast}
+
+-- a number: an optional `-` and one or more digits, within 64 bits signed; zeros in front are fine
+pub data Numeral : List ℕ → ℤ → Type 0 where
+  plain : {d : List ℕ} → IsField d → isWithin false (valueOf d) ≡ true → Numeral d (signed false (valueOf d))
+  minus : {d : List ℕ} → IsField d → isWithin true (valueOf d) ≡ true → Numeral (45 ∷ d) (signed true (valueOf d))
+
+-- what stands behind a command's word, by the letters of its row: the numbers, and the rest that a text or a list is
+pub data Behind : (letters text : List ℕ) → (values : List ℤ) → (rest : List ℕ) → Type 0 where
+  -- nothing
+  ended : Behind [] [] [] []
+  -- a text is the rest of the line behind one space, any bytes; where the line ends, it is empty
+  noText : Behind (116 ∷ []) [] [] []
+  text : {t : List ℕ} → Behind (116 ∷ []) (32 ∷ t) [] t
+  -- a rest that the command takes apart itself
+  own : {t : List ℕ} → Behind (42 ∷ []) t [] t
+  -- a number behind one space, allowed by its letter; no digit behind it
+  number : {kind : ℕ} {letters d l : List ℕ} {z : ℤ} {zs : List ℤ} {r : List ℕ}
+      → isLast kind ≡ false → Numeral d z → isInRange kind z ≡ true → digitFirst l ≡ false → Behind letters l zs r
+      → Behind (kind ∷ letters) (32 ∷ d ++ l) (z ∷ zs) r
+
+-- a line: the word of a row, and what stands behind it
+pub data Asks : (line : List ℕ) → (row : ℕ) → (values : List ℤ) → (rest : List ℕ) → Type 0 where
+  asks : {n : ℕ} {t r : List ℕ} {zs : List ℤ} → n < 25 → Behind (rowAt n .letters) t zs r → Asks (rowAt n .name ++ t) n zs r

@@ -1,0 +1,33 @@
+-- A line is understood as the grammar has it (docs/ASK.md), and only so. Proofs: proofs/Statements.antt.
+-- Assumes nothing.
+use Prim.Native.Nat.{ℕ, _+_, _<_}
+use mathlib.Core.Path.{_≡_}
+use mathlib.Core.List.{List, [], _∷_}
+use lib.IntN.{ℤ}
+use lib.ListN.{length, set}
+use Rattle.asking.specs.declared.words.Asked.{Asked}
+use Rattle.asking.specs.Asked.{asked, noValues, askedOf}
+use Rattle.asking.specs.Grammar.{Asks}
+
+-- the numbers in their places from the k-th on
+unfoldable pub placedFrom : (k : ℕ) (values zs : List ℤ) → List ℤ
+placedFrom k values [] = values
+placedFrom k values (z ∷ zs) = placedFrom (k + 1) (set values k z) zs
+
+-- a line that the grammar has is understood: as its row, its numbers with zeros behind them, and where its rest begins
+abbrev pub Understood : Type 0
+Understood =
+    (line : List ℕ) (n : ℕ) (zs : List ℤ) (rest : List ℕ) (begins : ℕ) → Asks line n zs rest → begins + length rest ≡ length line
+    → askedOf line ≡ asked n (placedFrom 0 noValues zs) begins
+
+-- and what is understood is such a line
+pub record IsAsked (line : List ℕ) (a : Asked) : Type 0 where
+  pub numbers : List ℤ
+  pub rest : List ℕ
+  pub asks : Asks line (a .row) numbers rest
+  pub values : a .values ≡ placedFrom 0 noValues numbers
+  pub begins : a .rest + length rest ≡ length line
+
+-- so it is with every line that is understood
+abbrev pub OnlyUnderstood : Type 0
+OnlyUnderstood = (line : List ℕ) → askedOf line .row < 25 → IsAsked line (askedOf line)
