@@ -2,18 +2,8 @@
 -- Assumes nothing.
 use mathlib.Core.Path.{sym, ap, _∙_}
 use Rattle.outcomes.specs.Outcome.{Determined}
-use Rattle.scanner.proofs.cursor.Cursor.past as past
-use Rattle.scanner.proofs.cursor.Cursor.past.Reads as past-reads
-use Rattle.scanner.proofs.cursor.Cursor.at_end as at-end
-use Rattle.scanner.proofs.cursor.Cursor.at_end.Reads as at-end-reads
 use Rattle.scanner.proofs.text.scan_text as scan-text
 use Rattle.scanner.proofs.text.scan_text.Reads as scan-text-reads
-
-pub past-determined : Determined past.ended past-reads.Asked past-reads.Learnt
-past-determined κs a asked x y p q = ap (λ z. (z, x .1)) (p ∙ sym q)
-
-pub at-end-determined : Determined at-end.ended at-end-reads.Asked at-end-reads.Learnt
-at-end-determined κs a asked x y p q = ap (λ z. (z, x .1)) (p ∙ sym q)
 
 pub scan-text-determined : Determined scan-text.ended scan-text-reads.Asked scan-text-reads.Learnt
 scan-text-determined κs a asked x y p q = ap (λ z. (z, x .1)) (p ∙ sym q)

@@ -52,7 +52,7 @@ impl Tail {
 
 impl Cursor {
     // Past the byte b, where it stands at the cursor.
-    pub fn past(self, s: &[u8], b: u8) -> Passed
+    pub(crate) fn past(self, s: &[u8], b: u8) -> Passed
         ensures answer { λ r. ⌜ r ≡ pastIf (isByte b) (self .at) (drop (self .at) (now (s .entry))) ⌝ }
     {
         let at = self.at;
@@ -66,7 +66,7 @@ impl Cursor {
     }
 
     // Is nothing left of the text?
-    pub fn at_end(self, s: &[u8]) -> bool
+    pub(crate) fn at_end(self, s: &[u8]) -> bool
         ensures answer { λ r. ⌜ r ≡ isEnd (drop (self .at) (now (s .entry))) ⌝ }
     {
         let at = self.at;
