@@ -3,39 +3,43 @@ ghost use mathlib.Core.Path.{_≡_};
 ghost use mathlib.Core.Bool.{true};
 ghost use Prim.Native.Nat.{_≤_};
 use crate::convert;
-use crate::numbered;
 use crate::read;
 use crate::sheet;
-use crate::show;
-use crate::show::Shown;
 use crate::work;
 use crate::write;
 use asking::Asked;
+use asking::Numbers;
+use asking::rows;
+use showing::Shown;
 use streams::Gathered;
+use timecodes::Timecode;
 
-// What is shown of a command that writes no line of its own.
-fn shown(a: Asked, line: &[u8]) -> Shown {
+// What is shown of a command that writes no line of its own; the rest of the line begins at a place.
+fn shown(row: usize, tc: Timecode, n: Numbers, line: &[u8], rest: usize) -> Shown {
+    match row {
+        rows::HELP => showing::only_word(b'h'),
+        rows::READ..=rows::READ_RUNTIME => read::read(row, n, line, rest),
+        rows::COUNT..=rows::REMQ => work::shown(row, tc, n),
+        rows::CONVERT => convert::convert(tc, line, rest),
+        _ => showing::only_word(b'?'),
+    }
+}
+
+// The answer to what is asked; in most commands the first two numbers are RATE COUNT.
+fn to_asked(a: Asked, line: &[u8], out: &mut [u8], used: usize) -> usize {
     let row = a.row;
     let v = a.values;
-    let n = numbered::numbers_of(v);
-    match row {
-        0 => show::said(b'h'),
-        1..=3 => read::read(row, n, line, a.rest),
-        7..=23 => work::shown(row, n),
-        24 => convert::convert(numbered::timecode(n), line, a.rest),
-        _ => show::said(b'?'),
+    let n = asking::numbers_of(v);
+    let tc = timecodes::new(n.n2, n.up1);
+    if write::writes(row) {
+        return write::written(row, tc, n, out, used);
     }
+    showing::show(out, used, shown(row, tc, n, line, a.rest))
 }
 
 // The answer to a line that was kept whole.
 fn to_line(line: &[u8], out: &mut [u8], used: usize) -> usize {
-    let a = asking::understand(line);
-    let row = a.row;
-    let v = a.values;
-    if write::writes(row) {
-        return write::written(row, numbered::numbers_of(v), out, used);
-    }
-    show::show(out, used, shown(a, line))
+    to_asked(asking::understand(line), line, out, used)
 }
 
 // The answer to what was gathered of a line, behind what is kept: one that the buffer could not hold is not understood.
@@ -45,7 +49,7 @@ pub(crate) fn answer(g: Gathered, buffer: &[u8], out: &mut [u8], used: usize) ->
     if is_whole(g, buffer.len()) {
         return to_line(&buffer[0..len], out, at);
     }
-    show::show(out, at, show::said(b'?'))
+    showing::show(out, at, showing::only_word(b'?'))
 }
 
 // Was the line kept whole? (That more is kept than the buffer holds cannot be.)

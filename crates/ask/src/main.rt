@@ -8,11 +8,8 @@ use streams::Gathered;
 
 mod answer;
 mod convert;
-mod help;
-mod numbered;
 mod read;
 mod sheet;
-mod show;
 mod work;
 mod write;
 

@@ -1,10 +1,9 @@
 // Commands that make a timecode or a number of numbers, by the row of each.
-use crate::numbered;
-use crate::numbered::Numbers;
-use crate::show;
-use crate::show::Shown;
 use answers::Counted;
 use arithmetic::Compared;
+use asking::Numbers;
+use asking::rows;
+use showing::Shown;
 use time::Ticked;
 use time::Timed;
 use timecodes::Answer;
@@ -13,40 +12,40 @@ use timecodes::Timecode;
 // M: a frame number.
 fn minute(m: u64) -> Shown {
     match minutes::minute_start(m) {
-        Counted::Count(z) => show::one(0, z),
-        Counted::Refused(e) => show::refused(e),
+        Counted::Count(z) => showing::one_number(0, z),
+        Counted::Refused(e) => showing::of_refusal(e),
     }
 }
 
 // RATE COUNT: ticks.
 fn ticks(tc: Timecode) -> Shown {
     match time::premiere_ticks(tc) {
-        Ticked::Ticks(z) => show::one(0, z),
-        Ticked::Refused(e) => show::refused(e),
+        Ticked::Ticks(z) => showing::one_number(0, z),
+        Ticked::Refused(e) => showing::of_refusal(e),
     }
 }
 
 // RATE COUNT: seconds, as `P/Q`.
 fn seconds(tc: Timecode) -> Shown {
     match time::seconds(tc) {
-        Timed::Seconds { p, q } => show::two(0, p, b'/', q),
-        Timed::Refused(e) => show::refused(e),
+        Timed::Seconds { p, q } => showing::two_numbers(0, p, b'/', q),
+        Timed::Refused(e) => showing::of_refusal(e),
     }
 }
 
 // RATE COUNT RATE COUNT: -1, 0 or 1.
 fn compared(a: Timecode, b: Timecode) -> Shown {
     match arithmetic::cmp(a, b) {
-        Compared::Order(z) => show::one(0, z),
-        Compared::Refused(e) => show::refused(e),
+        Compared::Order(z) => showing::one_number(0, z),
+        Compared::Refused(e) => showing::of_refusal(e),
     }
 }
 
 // A timecode made of other numbers: RATE COUNT, RATE TICKS or RATE P Q.
 fn made(row: usize, rate: u64, p: i64, q: u64) -> Answer {
     match row {
-        7 => time::with_frames(p, rate),
-        8 => time::with_premiere_ticks(p, rate),
+        rows::COUNT => time::with_frames(p, rate),
+        rows::FROM_TICKS => time::with_premiere_ticks(p, rate),
         _ => time::with_seconds(p, q, rate),
     }
 }
@@ -54,8 +53,8 @@ fn made(row: usize, rate: u64, p: i64, q: u64) -> Answer {
 // RATE COUNT, and for `rebase` another RATE.
 fn changed(row: usize, tc: Timecode, rate: u64) -> Answer {
     match row {
-        13 => arithmetic::neg(tc),
-        14 => arithmetic::abs(tc),
+        rows::NEG => arithmetic::neg(tc),
+        rows::ABS => arithmetic::abs(tc),
         _ => arithmetic::rebase(tc, rate),
     }
 }
@@ -63,7 +62,7 @@ fn changed(row: usize, tc: Timecode, rate: u64) -> Answer {
 // RATE COUNT RATE COUNT.
 fn joined(row: usize, a: Timecode, b: Timecode) -> Answer {
     match row {
-        16 => arithmetic::add(a, b),
+        rows::ADD => arithmetic::add(a, b),
         _ => arithmetic::sub(a, b),
     }
 }
@@ -71,31 +70,36 @@ fn joined(row: usize, a: Timecode, b: Timecode) -> Answer {
 // RATE COUNT P Q or RATE COUNT N.
 fn scaled(row: usize, tc: Timecode, p: i64, q: u64) -> Answer {
     match row {
-        19 => arithmetic::mul(tc, p, q),
-        20 => arithmetic::div(tc, p),
-        21 => arithmetic::rem(tc, p),
-        22 => arithmetic::divq(tc, p, q),
+        rows::MUL => arithmetic::mul(tc, p, q),
+        rows::DIV => arithmetic::div(tc, p),
+        rows::REM => arithmetic::rem(tc, p),
+        rows::DIVQ => arithmetic::divq(tc, p, q),
         _ => arithmetic::remq(tc, p, q),
     }
 }
 
+// RATE COUNT, the third and the fourth number.
+fn other(n: Numbers) -> Timecode {
+    timecodes::new(n.n4, n.up3)
+}
+
 // A command whose answer is a timecode.
-fn timecode_of(row: usize, n: Numbers) -> Answer {
+fn timecode_of(row: usize, tc: Timecode, n: Numbers) -> Answer {
     match row {
-        7..=9 => made(row, n.first, n.second, n.third_up),
-        13..=15 => changed(row, numbered::timecode(n), n.third_up),
-        16..=17 => joined(row, numbered::timecode(n), numbered::other(n)),
-        _ => scaled(row, numbered::timecode(n), n.third, n.fourth_up),
+        rows::COUNT..=rows::FROM_SECONDS => made(row, n.up1, n.n2, n.up3),
+        rows::NEG..=rows::REBASE => changed(row, tc, n.up3),
+        rows::ADD..=rows::SUB => joined(row, tc, other(n)),
+        _ => scaled(row, tc, n.n3, n.up4),
     }
 }
 
-// By the command's row.
-pub(crate) fn shown(row: usize, n: Numbers) -> Shown {
+// By the command's row; the first two numbers are RATE COUNT.
+pub(crate) fn shown(row: usize, tc: Timecode, n: Numbers) -> Shown {
     match row {
-        10 => minute(n.first),
-        11 => ticks(numbered::timecode(n)),
-        12 => seconds(numbered::timecode(n)),
-        18 => compared(numbered::timecode(n), numbered::other(n)),
-        _ => show::of_answer(timecode_of(row, n)),
+        rows::MINUTE => minute(n.up1),
+        rows::TICKS => ticks(tc),
+        rows::SECONDS => seconds(tc),
+        rows::CMP => compared(tc, other(n)),
+        _ => showing::of_answer(timecode_of(row, tc, n)),
     }
 }

@@ -1,9 +1,8 @@
 // Commands that write a text into a line of ROOM bytes, each `#` before, from PLACE on, and show the whole line.
 ghost use Prim.Native.Nat.{_≤_};
-use crate::numbered;
-use crate::numbered::Numbers;
-use crate::show;
-use crate::show::Shown;
+use asking::Numbers;
+use asking::rows;
+use showing::Shown;
 use timecodes::Timecode;
 use written::Written;
 
@@ -17,13 +16,12 @@ struct Task {
 
 // Is this the row of such a command?
 pub(crate) fn writes(row: usize) -> bool {
-    if row < 4 {
-        return false;
+    match row {
+        rows::LABEL..=rows::RUNTIME => true,
+        _ => false,
     }
-    row <= 6
 }
 
-// A task of its parts.
 fn asked_for(tc: Timecode, k: u64, place: u64, room: u64) -> Task {
     Task {
         tc,
@@ -34,11 +32,11 @@ fn asked_for(tc: Timecode, k: u64, place: u64, room: u64) -> Task {
 }
 
 // RATE COUNT PLACE ROOM, FORMAT RATE COUNT PLACE ROOM, RATE COUNT PRECISION PLACE ROOM.
-fn wanted(row: usize, n: Numbers) -> Task {
+fn wanted(row: usize, tc: Timecode, n: Numbers) -> Task {
     match row {
-        4 => asked_for(numbered::timecode(n), 0, n.third_up, n.fourth_up),
-        5 => asked_for(numbered::behind_format(n), n.first, n.fourth_up, n.fifth_up),
-        _ => asked_for(numbered::timecode(n), n.third_up, n.fourth_up, n.fifth_up),
+        rows::LABEL => asked_for(tc, 0, n.up3, n.up4),
+        rows::FOOTAGE => asked_for(timecodes::new(n.n3, n.up2), n.up1, n.up4, n.up5),
+        _ => asked_for(tc, n.up3, n.up4, n.up5),
     }
 }
 
@@ -46,21 +44,21 @@ fn wanted(row: usize, n: Numbers) -> Task {
 fn laid(row: usize, w: Task, line: &mut [u8]) -> Written {
     let tc = w.tc;
     match row {
-        4 => label_writer::write_label(tc, line, w.place),
-        5 => footage_writer::write_footage(tc, w.k, line, w.place),
+        rows::LABEL => label_writer::write_label(tc, line, w.place),
+        rows::FOOTAGE => footage_writer::write_footage(tc, w.k, line, w.place),
         _ => runtime_writer::write_runtime(tc, w.k, line, w.place),
     }
 }
 
 // The length, or the refusal.
 fn put_written(out: &mut [u8], used: usize, w: Written) -> usize {
-    show::put_shown(out, used, of_written(w))
+    showing::put_shown(out, used, of_written(w))
 }
 
 fn of_written(w: Written) -> Shown {
     match w {
-        Written::Length(n) => show::one(0, numbers::with_sign(false, n as u64)),
-        Written::Refused(e) => show::refused(e),
+        Written::Length(n) => showing::one_number(0, numbers::with_sign(false, n as u64)),
+        Written::Refused(e) => showing::of_refusal(e),
     }
 }
 
@@ -78,9 +76,9 @@ fn in_line(row: usize, w: Task, line: &mut [u8], out: &mut [u8], used: usize) ->
 }
 
 // The answer as a line. A room is 0 to 128. (That it is more cannot be.)
-pub(crate) fn written(row: usize, n: Numbers, out: &mut [u8], used: usize) -> usize {
+pub(crate) fn written(row: usize, tc: Timecode, n: Numbers, out: &mut [u8], used: usize) -> usize {
     let mut line = [b'#'; 128];
-    let w = wanted(row, n);
+    let w = wanted(row, tc, n);
     let k = least(w.room);
     in_line(row, w, &mut line[0..k], out, used)
 }

@@ -2,6 +2,7 @@ pub mod Filled
 pub mod Named
 pub mod Numbers
 pub mod Taken
+pub mod Listing
 pub mod Numerals
 pub mod Understanding
 pub mod Told

@@ -42,13 +42,10 @@ held-pushed v m b h k = by (ltb 922337203685477580 m) refl
         inl (⊎-elim (λ p. omega (arith, p, f)) (λ p. absurd (omega (arith, p))) h)
 
 -- ---- the loop of `magnitude`: i digits were taken
-digit-at : (d : List ℕ) → allDigits d ≡ true → (i : ℕ) → i < length d → isDigit (getD d i 0) ≡ true
+pub digit-at : (d : List ℕ) → allDigits d ≡ true → (i : ℕ) → i < length d → isDigit (getD d i 0) ≡ true
 digit-at [] a i h = absurd (omega arith)
 digit-at (b ∷ d) a zero h = all-head b d a
 digit-at (b ∷ d) a (suc i) h = digit-at d (all-tail b d a) i (omega arith)
-
-pub here : (d : List ℕ) → allDigits d ≡ true → (i : ℕ) → i < length d → isDigit (getD d i 0) ≡ true
-here = digit-at
 
 pub record Valuing (d : List ℕ) (m i : ℕ) : Type 0 where
   pub within : i ≤ length d
@@ -77,9 +74,6 @@ unfolding signedWord
 within-by minus v m next (inl e) = rw e
 within-by true v m next (inr p) = rw (lt-leb m 9223372036854775808 (p .1), lt-leb v 9223372036854775808 (p .0))
 within-by false v m next (inr p) = rw (le-ltb m 9223372036854775808 (omega (arith, p)), le-ltb v 9223372036854775808 (omega (arith, p)))
-
-pub held-word : (minus : Bool) (v m next : ℕ) → Held v m → signedWord minus m next ≡ signedWord minus v next
-held-word = within-by
 
 module _ (m next : ℕ) where
   pub word-within : (minus : Bool) → m < 9223372036854775808 → Number (signed minus m) next ≡ signedWord minus m next

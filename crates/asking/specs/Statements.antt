@@ -1,4 +1,4 @@
--- A line is understood as the grammar has it (docs/ASK.md), and only so. Proofs: proofs/Statements.antt.
+-- A line is understood as the grammar has it, and only so. Proofs: proofs/Statements.antt.
 -- Assumes nothing.
 use Prim.Native.Nat.{ℕ, _+_, _<_}
 use mathlib.Core.Path.{_≡_}
@@ -20,7 +20,7 @@ Understood =
     (line : List ℕ) (n : ℕ) (zs : List ℤ) (rest : List ℕ) (begins : ℕ) → Asks line n zs rest → begins + length rest ≡ length line
     → askedOf line ≡ asked n (placedFrom 0 noValues zs) begins
 
--- and what is understood is such a line
+-- a line of the grammar, with what is asked of it
 pub record IsAsked (line : List ℕ) (a : Asked) : Type 0 where
   pub numbers : List ℤ
   pub rest : List ℕ
@@ -28,6 +28,6 @@ pub record IsAsked (line : List ℕ) (a : Asked) : Type 0 where
   pub values : a .values ≡ placedFrom 0 noValues numbers
   pub begins : a .rest + length rest ≡ length line
 
--- so it is with every line that is understood
+-- and what is understood is a line that the grammar has
 abbrev pub OnlyUnderstood : Type 0
 OnlyUnderstood = (line : List ℕ) → askedOf line .row < 25 → IsAsked line (askedOf line)

@@ -25,6 +25,7 @@ use Rattle.streams.proofs.Statements as streams
 use Rattle.lines.proofs.Statements as lines
 use Rattle.feeding.proofs.Statements as feeding
 use Rattle.asking.proofs.Statements as asking
+use Rattle.showing.proofs.Statements as showing
 use Rattle.promises.proofs.Calls.{one-answer}
 use Rattle.promises.proofs.CallsC.{one-answer-c}
 use Rattle.promises.proofs.Ties.{ties}
@@ -184,4 +185,5 @@ promises = record {
   stopped-full = feeding.stopped-full;
   understood = asking.understood;
   only-understood = asking.only-understood;
+  shown-line = showing.shown-line;
 }

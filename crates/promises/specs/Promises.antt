@@ -24,6 +24,7 @@ use Rattle.streams.specs.Statements as streams
 use Rattle.lines.specs.Statements as lines
 use Rattle.feeding.specs.Statements as feeding
 use Rattle.asking.specs.Statements as asking
+use Rattle.showing.specs.Statements as showing
 use Rattle.promises.specs.Calls.{OneAnswer}
 use Rattle.promises.specs.CallsC.{OneAnswerC}
 use Rattle.promises.specs.Ties.{Ties}
@@ -193,3 +194,4 @@ pub record Promises : Type 0 where
   pub stopped-full : feeding.StoppedFull
   pub understood : asking.Understood
   pub only-understood : asking.OnlyUnderstood
+  pub shown-line : showing.ShownLine

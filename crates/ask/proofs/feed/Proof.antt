@@ -8,9 +8,6 @@ use borrow.Author.Needs.{needs}
 use Rattle.ask.proofs.Steps.{next-more}
 use Rattle.ask.proofs.feed.Statement.{statement}
 use Rattle.ask.proofs.feed.Tie as tie
-use Rattle.ask.proofs.feed.Reads as reads
-use Rattle.ask.proofs.feed.Lts as lts
-use Rattle.ask.proofs.step.Reads as step-reads
 
 abbrev Inv-loop : tie.InvT-loop
 Inv-loop chunk buffer₀ out₀ t₀ buffer out t = (length buffer ≡ length buffer₀) × (length out ≡ length out₀)

@@ -6,11 +6,6 @@ use lib.ListN.{length}
 use borrow.Author.Needs.{needs}
 use Rattle.ask.proofs.read_all.Statement.{statement}
 use Rattle.ask.proofs.read_all.Tie as tie
-use Rattle.ask.proofs.read_all.Reads as reads
-use Rattle.ask.proofs.read_all.Lts as lts
-use Rattle.ask.proofs.between.Reads as between-reads
-use Rattle.ask.proofs.one_read.Reads as one-read-reads
-use Rattle.streams.proofs.gathered.Gathered.new.Reads as new-reads
 
 abbrev Inv-loop : tie.InvT-loop
 Inv-loop buffer₀ out₀ s₀ turns₀ buffer out s turns = (length buffer ≡ length buffer₀) × (length out ≡ length out₀)

@@ -5,11 +5,6 @@ use borrow.Author.Needs.{needs}
 use Rattle.ask.proofs.Steps.{gone-ended, gone-goes}
 use Rattle.ask.proofs.step.Statement.{statement}
 use Rattle.ask.proofs.step.Tie as tie
-use Rattle.ask.proofs.step.Reads as reads
-use Rattle.ask.proofs.step.Lts as lts
-use Rattle.ask.proofs.answer.answer.Reads as answer-reads
-use Rattle.streams.proofs.gathered.Gathered.new.Reads as new-reads
-use Rattle.streams.proofs.gather.Reads as gather-reads
 
 returns : tie.Need-returns
 returns c =

@@ -6,8 +6,6 @@ use native.Mathlib.Omega.{arith}
 use borrow.Author.Tests.{leb-true}
 use Rattle.ask.proofs.answer.is_whole.Statement.{statement}
 use Rattle.ask.proofs.answer.is_whole.Tie as tie
-use Rattle.ask.proofs.answer.is_whole.Reads as reads
-use Rattle.ask.proofs.answer.is_whole.Lts as lts
 
 returns : tie.Need-returns
 returns c = λ e. let z : _≡_ {A = ℕ} 0 1 = cc in absurd (omega arith)

@@ -3,7 +3,7 @@
 use Prim.Native.Nat.{_-_}
 use lib.ListN.{length}
 use borrow.Author.Needs.{needs}
-use Rattle.asking.proofs.Numbers.{Valuing, valuing-start, valuing-turn, valuing-done, here}
+use Rattle.asking.proofs.Numbers.{Valuing, valuing-start, valuing-turn, valuing-done, digit-at}
 use Rattle.asking.proofs.values.magnitude.Statement.{statement}
 use Rattle.asking.proofs.values.magnitude.Tie as tie
 
@@ -17,7 +17,7 @@ loop-holds : tie.Need-loop-holds Inv-loop μ-loop
 loop-holds c = valuing-start _
 
 push-requires : tie.Need-push-requires Inv-loop μ-loop
-push-requires c κs = here _ (c .before .before .before .before .pre) _ (c .before .loop-test .taken)
+push-requires c κs = digit-at _ (c .before .before .before .before .pre) _ (c .before .loop-test .taken)
 
 loop-again : tie.Need-loop-again Inv-loop μ-loop
 loop-again c = valuing-turn _ _ _ _ (c .before .before .before .loop .inv) (c .before .before .before .before .before .pre) (c .before .before .loop-test .taken) (c .push .ensures)

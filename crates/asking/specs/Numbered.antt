@@ -1,0 +1,50 @@
+-- A command's numbers as the operations take them (docs/ASK.md), and numbers listed to the end of a line.
+-- Assumes nothing.
+use Prim.Native.Nat.{ℕ, zero, suc, _+_}
+use mathlib.Core.List.{List}
+use mathlib.Core.Bool.{cond}
+use lib.Dec.{leb}
+use lib.IntN.{ℤ, pos, natAbs}
+use lib.ListN.{length, drop, set, getD}
+use Rattle.numbers.specs.Sign.{isNeg}
+use Rattle.asking.specs.declared.values.Word.{Word}
+use Rattle.asking.specs.declared.values.Word.the-variants.{Number, Nothing}
+use Rattle.asking.specs.declared.numbered.Numbers.{Numbers}
+use Rattle.asking.specs.declared.numbered.Listed.{Listed}
+use Rattle.asking.specs.Numbers.{numberAt}
+
+-- where only numbers from 0 on have a meaning, a negative one is taken as 2^64 - 1, which no bound allows
+abbrev pub upFrom : ℤ → ℕ
+upFrom z = cond (isNeg z) 18446744073709551615 (natAbs z)
+
+-- each of the five as it is given, or so
+abbrev pub numbersOf : List ℤ → Numbers
+numbersOf v = record {
+  up1 = upFrom (getD v 0 (pos 0));
+  n2 = getD v 1 (pos 0);
+  up2 = upFrom (getD v 1 (pos 0));
+  n3 = getD v 2 (pos 0);
+  up3 = upFrom (getD v 2 (pos 0));
+  n4 = getD v 3 (pos 0);
+  up4 = upFrom (getD v 3 (pos 0));
+  up5 = upFrom (getD v 4 (pos 0));
+}
+
+-- ---- a list of numbers
+-- the list, and the answer: whether the line has ended, and how many numbers were put into the list
+pub record Listing : Type 0 where
+  pub list : List ℕ
+  pub listed : Listed
+
+abbrev pub listing : (line : List ℕ) (at n : ℕ) (list : List ℕ) → Listing
+listing line at n list = record { list = list; listed = record { all = leb (length line) at; count = n } }
+
+abbrev pub listThen : Word → (ℤ → ℕ → Listing) → Listing → Listing
+listThen (Number z next) then none = then z next
+listThen Nothing then none = none
+
+-- m more numbers at most, from the n-th on
+unfoldable pub listFrom : (m : ℕ) (line : List ℕ) (at n : ℕ) (list : List ℕ) → Listing
+listFrom zero line at n list = listing line at n list
+listFrom (suc m) line at n list =
+    listThen (numberAt at (drop at line)) (λ z next. listFrom m line next (n + 1) (set list n (upFrom z))) (listing line at n list)

@@ -1,0 +1,104 @@
+-- An answer that has room is on the sheet, as one line: part behind part.
+-- Assumes nothing.
+use Prim.Native.Nat.{ℕ, _+_, _≤_}
+use mathlib.Core.Path.{_≡_, refl, sym, ap, _∙_}
+use mathlib.Core.List.{List, [], _∷_, _++_, append-assoc, append-nil}
+use mathlib.Core.Bool.{Bool, true, false, cond}
+use native.Mathlib.Omega.{arith}
+use lib.Dec.{eqb}
+use lib.ListN.{length, length-append}
+use Rattle.written.specs.Parts.{signedText}
+use Rattle.streams.specs.Sheet.{Sheet, textOn, putOn}
+use Rattle.streams.proofs.Putting.{Laid, put-is}
+use Rattle.asking.specs.Table.{spelt}
+use Rattle.showing.specs.declared.Shown.{Shown}
+use Rattle.showing.specs.Shown.{countText, wordText, helpText, saidText, secondText, shownText, wordOn, saidOn, secondOn, firstOn, partsOn, shownOn}
+use Rattle.showing.specs.Statements.{ShownLine}
+
+-- ---- texts one behind the other
+laid-none : (s : Sheet) → Laid s s []
+laid-none s = record { more = omega arith; long = refl; is = sym (append-nil (textOn s)) }
+
+laid-two : (s s′ s″ : Sheet) (t u : List ℕ) → Laid s s′ t → Laid s′ s″ u → Laid s s″ (t ++ u)
+laid-two s s′ s″ t u a b = record {
+  more = simp length-append (omega (arith, a .more, b .more));
+  long = b .long ∙ a .long;
+  is = b .is ∙ ap (λ z. z ++ u) (a .is) ∙ append-assoc (textOn s) t u;
+}
+
+-- a text behind what was laid
+laid-put : (s s′ : Sheet) (t u : List ℕ) → Laid s s′ t → s .used + length (t ++ u) ≤ length (s .bytes) → Laid s (putOn s′ u) (t ++ u)
+laid-put s s′ t u a h =
+    laid-two s s′ (putOn s′ u) t u a (put-is s′ u (omega (arith, a .more, a .long, length-append t u)))
+
+-- a mark and another text behind two texts
+marked-laid : (s s′ : Sheet) (w x y : List ℕ) (mark : ℕ) → (s .used + length (w ++ x) ≤ length (s .bytes) → Laid s s′ (w ++ x))
+    → s .used + length (w ++ (x ++ (mark ∷ y))) ≤ length (s .bytes) → Laid s (putOn (putOn s′ (mark ∷ [])) y) (w ++ (x ++ (mark ∷ y)))
+marked-laid s s′ w x y mark first h =
+    let n : length (w ++ (x ++ (mark ∷ y))) ≡ length w + (length x + (1 + length y)) = simp length-append (omega arith) in
+    let k : length ((w ++ x) ++ (mark ∷ [])) ≡ length w + length x + 1 = simp length-append (omega arith) in
+    let l : length (((w ++ x) ++ (mark ∷ [])) ++ y) ≡ length w + length x + 1 + length y = simp length-append (omega arith) in
+    let one = first (omega (arith, n, length-append w x)) in
+    let two = laid-put s s′ (w ++ x) (mark ∷ []) one (omega (arith, n, k)) in
+    let three = laid-put s (putOn s′ (mark ∷ [])) ((w ++ x) ++ (mark ∷ [])) y two (omega (arith, n, l)) in
+    let same : ((w ++ x) ++ (mark ∷ [])) ++ y ≡ w ++ (x ++ (mark ∷ y)) = simp append-assoc in
+    rw same at three
+
+-- ---- the parts
+module _ (s : Sheet) where
+  word-laid : (word : ℕ) → s .used + length (wordText word) ≤ length (s .bytes) → Laid s (wordOn s word) (wordText word)
+  unfolding wordText wordOn
+  word-laid word = by (eqb word 108) (eqb word 102) (eqb word 114)
+    where
+      by : (x y z : Bool)
+          → s .used + length (cond x (spelt "label ") (cond y (spelt "footage ") (cond z (spelt "refused ") []))) ≤ length (s .bytes)
+          → Laid s (cond x (putOn s (spelt "label ")) (cond y (putOn s (spelt "footage ")) (cond z (putOn s (spelt "refused ")) s)))
+          (cond x (spelt "label ") (cond y (spelt "footage ") (cond z (spelt "refused ") [])))
+      by true y z h = put-is s (spelt "label ") h
+      by false true z h = put-is s (spelt "footage ") h
+      by false false true h = put-is s (spelt "refused ") h
+      by false false false h = laid-none s
+
+  said-laid : (word : ℕ) → s .used + length (saidText word) ≤ length (s .bytes) → Laid s (saidOn s word) (saidText word)
+  unfolding saidText saidOn
+  said-laid word = by (eqb word 104)
+    where
+      by : (x : Bool) → s .used + length (cond x helpText (spelt "not understood")) ≤ length (s .bytes)
+          → Laid s (cond x (putOn s helpText) (putOn s (spelt "not understood"))) (cond x helpText (spelt "not understood"))
+      by true h = put-is s helpText h
+      by false h = put-is s (spelt "not understood") h
+
+  module _ (a : Shown) where
+    first-laid : s .used + length (wordText (a .word) ++ countText (a .x)) ≤ length (s .bytes)
+        → Laid s (firstOn s a) (wordText (a .word) ++ countText (a .x))
+    first-laid h =
+        laid-put s (wordOn s (a .word)) (wordText (a .word)) (countText (a .x))
+        (word-laid (a .word) (omega (arith, h, length-append (wordText (a .word)) (countText (a .x))))) h
+
+    second-laid : (let t = wordText (a .word) ++ (countText (a .x) ++ secondText (a .mark) (a .y)) in
+        s .used + length t ≤ length (s .bytes) → Laid s (secondOn (firstOn s a) (a .mark) (a .y)) t)
+    unfolding secondOn
+    second-laid h = marked-laid s (firstOn s a) (wordText (a .word)) (countText (a .x)) (signedText false (a .y)) (a .mark) first-laid h
+
+    body : List ℕ
+    body =
+        cond (eqb (a .count) 0) (saidText (a .word))
+        (cond (eqb (a .count) 1) (wordText (a .word) ++ countText (a .x))
+        (wordText (a .word) ++ (countText (a .x) ++ secondText (a .mark) (a .y))))
+
+    parts-laid : s .used + length body ≤ length (s .bytes) → Laid s (partsOn s a) body
+    unfolding partsOn body
+    parts-laid = by (eqb (a .count) 0) (eqb (a .count) 1)
+      where
+        by : (x y : Bool)
+            → (let t = cond x (saidText (a .word)) (cond y (wordText (a .word) ++ countText (a .x)) (wordText (a .word) ++ (countText (a .x) ++ secondText (a .mark) (a .y)))) in
+            s .used + length t ≤ length (s .bytes)
+            → Laid s (cond x (saidOn s (a .word)) (cond y (firstOn s a) (secondOn (firstOn s a) (a .mark) (a .y)))) t)
+        by true y h = said-laid (a .word) h
+        by false true h = first-laid h
+        by false false h = second-laid h
+
+pub shown-line : ShownLine
+unfolding shownText shownOn body
+shown-line s a h =
+    laid-put s (partsOn s a) (body s a) (10 ∷ []) (parts-laid s a (omega (arith, h, length-append (body s a) (10 ∷ [])))) h .is

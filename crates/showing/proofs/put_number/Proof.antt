@@ -1,0 +1,27 @@
+-- `showing::put_number` meets its contract: sign and magnitude are the number's.
+-- Assumes nothing.
+use Prim.Native.Nat.{ℕ}
+use mathlib.Core.Bool.{Bool}
+use mathlib.Core.Path.{_≡_, ap, _∙_}
+use lib.IntN.{natAbs}
+use borrow.Author.Needs.{needs}
+use mir.Facts.{toZ-ofZ}
+use Rattle.numbers.specs.Sign.{isNeg}
+use Rattle.written.specs.Parts.{signedText}
+use Rattle.streams.specs.Sheet.{sheet, putOn}
+use Rattle.showing.proofs.Putting.{leaves-same}
+use Rattle.showing.proofs.put_number.Statement.{statement}
+use Rattle.showing.proofs.put_number.Tie as tie
+
+returns : tie.Need-returns
+returns c =
+    let a = c .before .before .before .before .before .before .before .args in
+    let s = sheet (a .out .now) (a .used) in
+    let minus : c .before .before .before .before .below-zero .result ≡ isNeg (a .x) = c .before .before .before .before .below-zero .ensures ∙ ap isNeg (toZ-ofZ (c .before .before .before .before .before .before .before .fits .x)) in
+    let m : c .before .before .before .magnitude .result ≡ natAbs (a .x) = c .before .before .before .magnitude .ensures ∙ ap natAbs (toZ-ofZ (c .before .before .before .before .before .before .before .fits .x)) in
+    leaves-same _ _ _ _ (ap (λ (z : Bool). putOn s (signedText z (c .before .before .before .magnitude .result))) minus ∙ ap (λ (z : ℕ). putOn s (signedText (isNeg (a .x)) z)) m) (c .before .before .put-signed .ensures)
+
+pub put-number-spec : {M : Type 1} → statement M
+put-number-spec =
+    tie.close
+    (tie.spec (λ c κs. search needs) (λ c κs. search needs) (λ c κs. search needs) (λ c. search needs) returns)

@@ -1,0 +1,111 @@
+-- How the calculator shows an answer (docs/ASK.md): its text, and what is put on a sheet.
+-- Assumes nothing.
+use Prim.Native.Nat.{ℕ}
+use mathlib.Core.List.{List, [], _∷_, _++_}
+use mathlib.Core.Bool.{false, cond}
+use lib.Dec.{eqb}
+use lib.IntN.{ℤ, pos, natAbs}
+use Rattle.numbers.specs.Sign.{isNeg}
+use Rattle.answers.specs.declared.Refusal.{Refusal}
+use Rattle.timecodes.specs.declared.Answer.{Answer}
+use Rattle.timecodes.specs.declared.Answer.the-variants.{At, Refused}
+use Rattle.written.specs.Parts.{signedText}
+use Rattle.streams.specs.Sheet.{Sheet, putOn}
+use Rattle.asking.specs.Table.{spelt}
+use Rattle.showing.specs.declared.Shown.{Shown}
+
+-- ---- what is shown of an answer
+abbrev pub onlyWord : (word : ℕ) → Shown
+onlyWord word = record { word = word; count = 0; x = pos 0; mark = 0; y = 0 }
+
+abbrev pub oneNumber : (word : ℕ) → ℤ → Shown
+oneNumber word x = record { word = word; count = 1; x = x; mark = 0; y = 0 }
+
+abbrev pub twoNumbers : (word : ℕ) → ℤ → (mark y : ℕ) → Shown
+twoNumbers word x mark y = record { word = word; count = 2; x = x; mark = mark; y = y }
+
+-- a refusal is `refused` and its number
+abbrev pub ofRefusal : Refusal → Shown
+ofRefusal e = oneNumber 114 (pos (e .number))
+
+-- of a timecode the count
+abbrev pub ofAnswer : Answer → Shown
+ofAnswer (At tc) = oneNumber 0 (tc .count)
+ofAnswer (Refused e) = ofRefusal e
+
+-- ---- its text
+abbrev pub countText : ℤ → List ℕ
+countText x = signedText (isNeg x) (natAbs x)
+
+-- the word before numbers
+unfoldable pub wordText : (word : ℕ) → List ℕ
+wordText word =
+    cond (eqb word 108) (spelt "label ")
+    (cond (eqb word 102) (spelt "footage ")
+    (cond (eqb word 114) (spelt "refused ")
+    []))
+
+-- the commands in short, each line but the last with its end
+unfoldable pub helpText : List ℕ
+helpText =
+    spelt "read RATE TEXT: label COUNT or footage COUNT FORMAT" ++ (10
+    ∷ spelt "read_as FORMAT RATE TEXT: footage COUNT FORMAT" ++ (10
+    ∷ spelt "read_runtime RATE TEXT: COUNT" ++ (10
+    ∷ spelt "label RATE COUNT PLACE ROOM: LENGTH LINE" ++ (10
+    ∷ spelt "footage FORMAT RATE COUNT PLACE ROOM: LENGTH LINE" ++ (10
+    ∷ spelt "runtime RATE COUNT PRECISION PLACE ROOM: LENGTH LINE" ++ (10
+    ∷ spelt "count RATE COUNT: COUNT" ++ (10
+    ∷ spelt "from_ticks RATE TICKS: COUNT" ++ (10
+    ∷ spelt "from_seconds RATE P Q: COUNT" ++ (10
+    ∷ spelt "ticks RATE COUNT: TICKS" ++ (10
+    ∷ spelt "seconds RATE COUNT: P/Q" ++ (10
+    ∷ spelt "minute M: FRAME" ++ (10
+    ∷ spelt "add, sub RATE COUNT RATE COUNT: COUNT" ++ (10
+    ∷ spelt "cmp RATE COUNT RATE COUNT: -1, 0 or 1" ++ (10
+    ∷ spelt "mul, divq, remq RATE COUNT P Q: COUNT" ++ (10
+    ∷ spelt "div, rem RATE COUNT N: COUNT" ++ (10
+    ∷ spelt "neg, abs RATE COUNT: COUNT" ++ (10
+    ∷ spelt "rebase RATE COUNT RATE: COUNT" ++ (10
+    ∷ spelt "convert RATE COUNT RATE ..: COUNT RATE" ++ (10
+    ∷ spelt "A refusal is: refused N")))))))))))))))))))
+
+-- a word alone
+unfoldable pub saidText : (word : ℕ) → List ℕ
+saidText word = cond (eqb word 104) helpText (spelt "not understood")
+
+abbrev pub secondText : (mark y : ℕ) → List ℕ
+secondText mark y = mark ∷ signedText false y
+
+-- a word alone, or a word and one or two numbers; and the line's end
+unfoldable pub shownText : Shown → List ℕ
+shownText s =
+    cond (eqb (s .count) 0) (saidText (s .word))
+    (cond (eqb (s .count) 1) (wordText (s .word) ++ countText (s .x))
+    (wordText (s .word) ++ (countText (s .x) ++ secondText (s .mark) (s .y))))
+    ++ (10 ∷ [])
+
+-- ---- on a sheet, part by part
+unfoldable pub wordOn : Sheet → (word : ℕ) → Sheet
+wordOn s word =
+    cond (eqb word 108) (putOn s (spelt "label "))
+    (cond (eqb word 102) (putOn s (spelt "footage "))
+    (cond (eqb word 114) (putOn s (spelt "refused "))
+    s))
+
+unfoldable pub saidOn : Sheet → (word : ℕ) → Sheet
+saidOn s word = cond (eqb word 104) (putOn s helpText) (putOn s (spelt "not understood"))
+
+unfoldable pub secondOn : Sheet → (mark y : ℕ) → Sheet
+secondOn s mark y = putOn (putOn s (mark ∷ [])) (signedText false y)
+
+abbrev pub firstOn : Sheet → Shown → Sheet
+firstOn s a = putOn (wordOn s (a .word)) (countText (a .x))
+
+unfoldable pub partsOn : Sheet → Shown → Sheet
+partsOn s a =
+    cond (eqb (a .count) 0) (saidOn s (a .word))
+    (cond (eqb (a .count) 1) (firstOn s a)
+    (secondOn (firstOn s a) (a .mark) (a .y)))
+
+unfoldable pub shownOn : Sheet → Shown → Sheet
+shownOn s a = putOn (partsOn s a) (10 ∷ [])

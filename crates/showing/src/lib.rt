@@ -1,0 +1,169 @@
+// How the calculator shows an answer (docs/ASK.md): one line, put on a sheet. Refuses nothing itself: what has no room changes nothing.
+ghost use mathlib.Core.Path.{_≡_};
+ghost use Rattle.streams.specs.Sheet.{sheet, putOn};
+ghost use Rattle.showing.specs.Shown.{onlyWord, oneNumber, twoNumbers, ofRefusal, ofAnswer, countText, helpText, wordOn, saidOn, secondOn, partsOn, shownOn};
+use answers::Refusal;
+use timecodes::Answer;
+
+// What is shown: a word (`l` label, `f` footage, `r` refused, `h` the commands in short, `?` not understood, 0 none), and behind it so many
+// numbers, two of them with a mark between them.
+pub struct Shown {
+    pub word: u8,
+    pub count: u8,
+    pub x: i64,
+    pub mark: u8,
+    pub y: u64,
+}
+
+// A word alone.
+pub fn only_word(word: u8) -> Shown
+    ensures answer { λ r. ⌜ r ≡ onlyWord word ⌝ }
+{
+    Shown {
+        word,
+        count: 0,
+        x: 0,
+        mark: 0,
+        y: 0,
+    }
+}
+
+// A number, behind a word or alone.
+pub fn one_number(word: u8, x: i64) -> Shown
+    ensures answer { λ r. ⌜ r ≡ oneNumber word x ⌝ }
+{
+    Shown {
+        word,
+        count: 1,
+        x,
+        mark: 0,
+        y: 0,
+    }
+}
+
+// Two numbers and the mark between them, behind a word or alone.
+pub fn two_numbers(word: u8, x: i64, mark: u8, y: u64) -> Shown
+    ensures answer { λ r. ⌜ r ≡ twoNumbers word x mark y ⌝ }
+{
+    Shown {
+        word,
+        count: 2,
+        x,
+        mark,
+        y,
+    }
+}
+
+// A refusal: `refused` and its number.
+pub fn of_refusal(e: Refusal) -> Shown
+    ensures answer { λ r. ⌜ r ≡ ofRefusal e ⌝ }
+{
+    one_number(b'r', e.number as i64)
+}
+
+// A timecode: its count.
+pub fn of_answer(a: Answer) -> Shown
+    ensures answer { λ r. ⌜ r ≡ ofAnswer a ⌝ }
+{
+    match a {
+        Answer::At(tc) => one_number(0, tc.count),
+        Answer::Refused(e) => of_refusal(e),
+    }
+}
+
+// A signed number.
+fn put_number(out: &mut [u8], used: usize, x: i64) -> usize
+    ensures answer { λ r. ⌜ r ≡ putOn (sheet (now (out .entry)) used) (countText x) .used ⌝ }
+    ensures sheet { λ r. ⌜ now (out .exit) ≡ putOn (sheet (now (out .entry)) used) (countText x) .bytes ⌝ }
+{
+    streams::put_signed(out, used, numbers::below_zero(x), numbers::magnitude(x))
+}
+
+// A word before numbers.
+fn put_word(out: &mut [u8], used: usize, word: u8) -> usize
+    ensures answer { λ r. ⌜ r ≡ wordOn (sheet (now (out .entry)) used) word .used ⌝ }
+    ensures sheet { λ r. ⌜ now (out .exit) ≡ wordOn (sheet (now (out .entry)) used) word .bytes ⌝ }
+{
+    match word {
+        b'l' => streams::put_text(out, used, b"label "),
+        b'f' => streams::put_text(out, used, b"footage "),
+        b'r' => streams::put_text(out, used, b"refused "),
+        _ => used,
+    }
+}
+
+// The commands in short: a line for each command, or for those that are alike, without the last one's end.
+fn put_help(out: &mut [u8], used: usize) -> usize
+    ensures answer { λ r. ⌜ r ≡ putOn (sheet (now (out .entry)) used) helpText .used ⌝ }
+    ensures sheet { λ r. ⌜ now (out .exit) ≡ putOn (sheet (now (out .entry)) used) helpText .bytes ⌝ }
+{
+    streams::put_text(
+        out,
+        used,
+        b"read RATE TEXT: label COUNT or footage COUNT FORMAT
+read_as FORMAT RATE TEXT: footage COUNT FORMAT
+read_runtime RATE TEXT: COUNT
+label RATE COUNT PLACE ROOM: LENGTH LINE
+footage FORMAT RATE COUNT PLACE ROOM: LENGTH LINE
+runtime RATE COUNT PRECISION PLACE ROOM: LENGTH LINE
+count RATE COUNT: COUNT
+from_ticks RATE TICKS: COUNT
+from_seconds RATE P Q: COUNT
+ticks RATE COUNT: TICKS
+seconds RATE COUNT: P/Q
+minute M: FRAME
+add, sub RATE COUNT RATE COUNT: COUNT
+cmp RATE COUNT RATE COUNT: -1, 0 or 1
+mul, divq, remq RATE COUNT P Q: COUNT
+div, rem RATE COUNT N: COUNT
+neg, abs RATE COUNT: COUNT
+rebase RATE COUNT RATE: COUNT
+convert RATE COUNT RATE ..: COUNT RATE
+A refusal is: refused N",
+    )
+}
+
+// A word alone.
+fn put_said(out: &mut [u8], used: usize, word: u8) -> usize
+    ensures answer { λ r. ⌜ r ≡ saidOn (sheet (now (out .entry)) used) word .used ⌝ }
+    ensures sheet { λ r. ⌜ now (out .exit) ≡ saidOn (sheet (now (out .entry)) used) word .bytes ⌝ }
+{
+    if word == b'h' {
+        return put_help(out, used);
+    }
+    streams::put_text(out, used, b"not understood")
+}
+
+// A mark and a number.
+fn put_second(out: &mut [u8], used: usize, mark: u8, y: u64) -> usize
+    ensures answer { λ r. ⌜ r ≡ secondOn (sheet (now (out .entry)) used) mark y .used ⌝ }
+    ensures sheet { λ r. ⌜ now (out .exit) ≡ secondOn (sheet (now (out .entry)) used) mark y .bytes ⌝ }
+{
+    let a = streams::put_byte(out, used, mark);
+    streams::put_signed(out, a, false, y)
+}
+
+// An answer behind what the sheet has, without the line's end; and how much it has then.
+pub fn put_shown(out: &mut [u8], used: usize, s: Shown) -> usize
+    ensures answer { λ r. ⌜ r ≡ partsOn (sheet (now (out .entry)) used) s .used ⌝ }
+    ensures sheet { λ r. ⌜ now (out .exit) ≡ partsOn (sheet (now (out .entry)) used) s .bytes ⌝ }
+{
+    if s.count == 0 {
+        return put_said(out, used, s.word);
+    }
+    let a = put_word(out, used, s.word);
+    let b = put_number(out, a, s.x);
+    if s.count == 1 {
+        return b;
+    }
+    put_second(out, b, s.mark, s.y)
+}
+
+// An answer as a line behind what the sheet has; and how much it has then.
+pub fn show(out: &mut [u8], used: usize, s: Shown) -> usize
+    ensures answer { λ r. ⌜ r ≡ shownOn (sheet (now (out .entry)) used) s .used ⌝ }
+    ensures sheet { λ r. ⌜ now (out .exit) ≡ shownOn (sheet (now (out .entry)) used) s .bytes ⌝ }
+{
+    let u = put_shown(out, used, s);
+    streams::put_byte(out, u, b'\n')
+}
