@@ -1,11 +1,12 @@
 -- How long each part of an answer is, and that the columns laid down one behind the other are the answer.
 -- Assumes nothing.
 use Prim.Native.Nat.{ℕ, _+_}
-use mathlib.Core.Path.{_≡_}
+use mathlib.Core.Path.{_≡_, sym, _∙_}
 use mathlib.Core.List.{[], _∷_, _++_, append-assoc}
 use mathlib.Core.Bool.{Bool, false}
 use native.Mathlib.Omega.{arith}
 use lib.ListN.{length, length-append}
+use Rattle.answers.specs.declared.Refusal.{Refusal}
 use Rattle.answers.specs.OrderLaws.{unless-clear}
 use Rattle.timecodes.specs.declared.Timecode.{Timecode}
 use Rattle.timecodes.specs.Admitted.{Valid, admits}
@@ -46,12 +47,20 @@ pub refused-length : (number : ℕ) → length (refusedText number) ≡ length (
 unfolding refusedText
 refused-length number = omega (arith, length-append (bytesOf "refused ") (endedText false number 10), ended-length false number 10)
 
+-- sections are no refusal
+sections-apart : (s : TimecodeSections) (e : Refusal) → Sections s ≡ Refused e → ⊥
+sections-apart s e h = let clash : _≡_ {A = ℕ} 0 1 = cc in omega arith
+
 -- ---- a timecode that is admitted
 module _ (tc : Timecode) (v : Valid tc) where
   -- its label has sections
   pub sections-there : sectioned tc ≡ Sections (labelSections (tc .rate) (tc .count))
   unfolding sectioned
   sections-there = unless-clear Refused (admits tc) (Sections (labelSections (tc .rate) (tc .count))) (valid-admits tc v)
+
+  -- so they are never refused
+  pub sections-never : (e : Refusal) → sectioned tc ≡ Refused e → ⊥
+  sections-never e none = sections-apart (labelSections (tc .rate) (tc .count)) e (sym sections-there ∙ none)
 
   -- and the columns with them are its text
   pub columns-are : (s : TimecodeSections) → sectioned tc ≡ Sections s → columnsText (columnsOf tc s) ≡ timecodeText tc

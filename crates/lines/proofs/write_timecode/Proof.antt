@@ -1,13 +1,11 @@
 -- `lines::write_timecode` meets its contract: the columns of an admitted timecode are its text, and its sections are never refused.
 -- Assumes nothing.
-use Prim.Native.Nat.{ℕ}
-use native.Mathlib.Omega.{arith}
-use mathlib.Core.Path.{_≡_, sym, ap, _∙_}
+use mathlib.Core.Path.{sym, ap, _∙_}
 use borrow.Author.Needs.{needs}
 use Rattle.written.specs.Written.{Text}
 use Rattle.written.proofs.Laws.{meets-same}
 use Rattle.lines.specs.Output.{columnsText}
-use Rattle.lines.proofs.Texts.{sections-there, columns-are}
+use Rattle.lines.proofs.Texts.{sections-never, columns-are}
 use Rattle.lines.proofs.write_timecode.Statement.{statement}
 use Rattle.lines.proofs.write_timecode.Tie as tie
 
@@ -23,9 +21,7 @@ returns-2 : tie.Need-returns-2
 returns-2 c =
     let start = c .before .before .before .before .before in
     let none = sym (c .before .before .before .sections .ensures) ∙ c .before .e .given .1 in
-    let there = sections-there (start .args .tc) (start .pre) in
-    let z : _≡_ {A = ℕ} 0 1 = cc in
-    absurd (omega arith)
+    absurd (sections-never (start .args .tc) (start .pre) _ none)
 
 pub write-timecode-spec : {M : Type 1} → statement M
 write-timecode-spec =
