@@ -26,6 +26,10 @@ module _ (T : Ended) where
   abbrev pub Allowed : Tells → (κs : Times) (a : Args (T .signature) κs) → Outcome κs a → Type 0
   Allowed tells κs a x = tells κs a (x .0) (atExit T κs a (x .1))
 
+  -- every outcome that the contract allows is as is said of the arguments and of it
+  abbrev pub Gives : Tells → ((κs : Times) (a : Args (T .signature) κs) → Outcome κs a → Type 0) → Type 0
+  Gives tells says = (κs : Times) (a : Args (T .signature) κs) (x : Outcome κs a) → Allowed tells κs a x → says κs a x
+
   -- any two outcomes that the contract allows, of one call, are equal
   abbrev pub Determined : Asks → Tells → Type 0
   Determined asks tells =

@@ -1,8 +1,7 @@
 -- The promises speak of what runs: whatever the contract of a function that users call allows is what its definition says.
 -- Assumes nothing.
-use denote.Triple.Entry.{Args}
 use mathlib.Core.Path.{_≡_}
-use Rattle.outcomes.specs.Outcome.{Times, Outcome, Allowed}
+use Rattle.outcomes.specs.Outcome.{Gives}
 use Rattle.arithmetic.specs.Compare.{compareOf}
 use Rattle.arithmetic.specs.Count.{absOf, negOf, rebaseOf}
 use Rattle.arithmetic.specs.Flooring.{divqOf}
@@ -103,114 +102,50 @@ use Rattle.minutes.proofs.minute_start.Reads as minute-start-reads
 -- a is what the function is called with, x what comes of it: the answer, and the last value of each thing lent
 pub record Ties : Type 0 where
   -- reading
-  pub read-text :
-      (κs : Times read-text.ended) (a : Args (read-text.ended .signature) κs) (x : Outcome read-text.ended κs a)
-      → Allowed read-text.ended read-text-reads.Learnt κs a x → x .0 ≡ readText (a .0 .now) (a .1 .0) (a .1 .1 .0)
-  pub read-runtime :
-      (κs : Times read-runtime.ended) (a : Args (read-runtime.ended .signature) κs) (x : Outcome read-runtime.ended κs a)
-      → Allowed read-runtime.ended read-runtime-reads.Learnt κs a x → x .0 ≡ readRuntime (a .0 .now) (a .1 .0)
+  pub read-text : Gives read-text.ended read-text-reads.Learnt (λ κs a x. x .0 ≡ readText (a .0 .now) (a .1 .0) (a .1 .1 .0))
+  pub read-runtime : Gives read-runtime.ended read-runtime-reads.Learnt (λ κs a x. x .0 ≡ readRuntime (a .0 .now) (a .1 .0))
   -- writing
-  pub sections :
-      (κs : Times sections.ended) (a : Args (sections.ended .signature) κs) (x : Outcome sections.ended κs a)
-      → Allowed sections.ended sections-reads.Learnt κs a x → x .0 ≡ sectioned (a .0)
-  pub sections-length :
-      (κs : Times sections-length.ended) (a : Args (sections-length.ended .signature) κs) (x : Outcome sections-length.ended κs a)
-      → Allowed sections-length.ended sections-length-reads.Learnt κs a x → x .0 ≡ sectionsLength (a .0)
-  pub put-sections :
-      (κs : Times put-sections.ended) (a : Args (put-sections.ended .signature) κs) (x : Outcome put-sections.ended κs a)
-      → Allowed put-sections.ended put-sections-reads.Learnt κs a x → x .1 .0 ≡ laid (a .0 .now) (sectionsText (framesMark (a .1 .1 .0)) (a .1 .0))
-  pub write-label :
-      (κs : Times write-label.ended) (a : Args (write-label.ended .signature) κs) (x : Outcome write-label.ended κs a)
-      → Allowed write-label.ended write-label-reads.Learnt κs a x → (x .0 ≡ answerTo (a .1 .0 .now) (a .1 .1 .0) (labelDraft (a .0))) × (x .1 .1 .0 ≡ lineTo (a .1 .0 .now) (a .1 .1 .0) (labelDraft (a .0)))
-  pub write-footage :
-      (κs : Times write-footage.ended) (a : Args (write-footage.ended .signature) κs) (x : Outcome write-footage.ended κs a)
-      → Allowed write-footage.ended write-footage-reads.Learnt κs a x → (x .0 ≡ answerTo (a .1 .1 .0 .now) (a .1 .1 .1 .0) (footageDraft (a .0) (a .1 .0))) × (x .1 .1 .1 .0 ≡ lineTo (a .1 .1 .0 .now) (a .1 .1 .1 .0) (footageDraft (a .0) (a .1 .0)))
-  pub write-runtime :
-      (κs : Times write-runtime.ended) (a : Args (write-runtime.ended .signature) κs) (x : Outcome write-runtime.ended κs a)
-      → Allowed write-runtime.ended write-runtime-reads.Learnt κs a x → (x .0 ≡ answerTo (a .1 .1 .0 .now) (a .1 .1 .1 .0) (runtimeDraft (a .0) (a .1 .0))) × (x .1 .1 .1 .0 ≡ lineTo (a .1 .1 .0 .now) (a .1 .1 .1 .0) (runtimeDraft (a .0) (a .1 .0)))
+  pub sections : Gives sections.ended sections-reads.Learnt (λ κs a x. x .0 ≡ sectioned (a .0))
+  pub sections-length : Gives sections-length.ended sections-length-reads.Learnt (λ κs a x. x .0 ≡ sectionsLength (a .0))
+  pub put-sections : Gives put-sections.ended put-sections-reads.Learnt (λ κs a x. x .1 .0 ≡ laid (a .0 .now) (sectionsText (framesMark (a .1 .1 .0)) (a .1 .0)))
+  pub write-label : Gives write-label.ended write-label-reads.Learnt (λ κs a x.
+      (x .0 ≡ answerTo (a .1 .0 .now) (a .1 .1 .0) (labelDraft (a .0)))
+      × (x .1 .1 .0 ≡ lineTo (a .1 .0 .now) (a .1 .1 .0) (labelDraft (a .0))))
+  pub write-footage : Gives write-footage.ended write-footage-reads.Learnt (λ κs a x.
+      (x .0 ≡ answerTo (a .1 .1 .0 .now) (a .1 .1 .1 .0) (footageDraft (a .0) (a .1 .0)))
+      × (x .1 .1 .1 .0 ≡ lineTo (a .1 .1 .0 .now) (a .1 .1 .1 .0) (footageDraft (a .0) (a .1 .0))))
+  pub write-runtime : Gives write-runtime.ended write-runtime-reads.Learnt (λ κs a x.
+      (x .0 ≡ answerTo (a .1 .1 .0 .now) (a .1 .1 .1 .0) (runtimeDraft (a .0) (a .1 .0)))
+      × (x .1 .1 .1 .0 ≡ lineTo (a .1 .1 .0 .now) (a .1 .1 .1 .0) (runtimeDraft (a .0) (a .1 .0))))
   -- time
-  pub is-fraction :
-      (κs : Times is-fraction.ended) (a : Args (is-fraction.ended .signature) κs) (x : Outcome is-fraction.ended κs a)
-      → Allowed is-fraction.ended is-fraction-reads.Learnt κs a x → x .0 ≡ isFraction (a .0) (a .1 .0) (a .1 .1 .0)
-  pub with-frames :
-      (κs : Times with-frames.ended) (a : Args (with-frames.ended .signature) κs) (x : Outcome with-frames.ended κs a)
-      → Allowed with-frames.ended with-frames-reads.Learnt κs a x → x .0 ≡ framesAt (a .0) (a .1 .0)
-  pub with-premiere-ticks :
-      (κs : Times with-premiere-ticks.ended) (a : Args (with-premiere-ticks.ended .signature) κs) (x : Outcome with-premiere-ticks.ended κs a)
-      → Allowed with-premiere-ticks.ended with-premiere-ticks-reads.Learnt κs a x → x .0 ≡ ticksAt (a .0) (a .1 .0)
-  pub with-seconds :
-      (κs : Times with-seconds.ended) (a : Args (with-seconds.ended .signature) κs) (x : Outcome with-seconds.ended κs a)
-      → Allowed with-seconds.ended with-seconds-reads.Learnt κs a x → x .0 ≡ secondsAt (a .0) (a .1 .0) (a .1 .1 .0)
-  pub premiere-ticks :
-      (κs : Times premiere-ticks.ended) (a : Args (premiere-ticks.ended .signature) κs) (x : Outcome premiere-ticks.ended κs a)
-      → Allowed premiere-ticks.ended premiere-ticks-reads.Learnt κs a x → x .0 ≡ ticksOf (a .0)
-  pub seconds :
-      (κs : Times seconds.ended) (a : Args (seconds.ended .signature) κs) (x : Outcome seconds.ended κs a)
-      → Allowed seconds.ended seconds-reads.Learnt κs a x → SecondsOf (a .0) (x .0)
+  pub is-fraction : Gives is-fraction.ended is-fraction-reads.Learnt (λ κs a x. x .0 ≡ isFraction (a .0) (a .1 .0) (a .1 .1 .0))
+  pub with-frames : Gives with-frames.ended with-frames-reads.Learnt (λ κs a x. x .0 ≡ framesAt (a .0) (a .1 .0))
+  pub with-premiere-ticks : Gives with-premiere-ticks.ended with-premiere-ticks-reads.Learnt (λ κs a x. x .0 ≡ ticksAt (a .0) (a .1 .0))
+  pub with-seconds : Gives with-seconds.ended with-seconds-reads.Learnt (λ κs a x. x .0 ≡ secondsAt (a .0) (a .1 .0) (a .1 .1 .0))
+  pub premiere-ticks : Gives premiere-ticks.ended premiere-ticks-reads.Learnt (λ κs a x. x .0 ≡ ticksOf (a .0))
+  pub seconds : Gives seconds.ended seconds-reads.Learnt (λ κs a x. SecondsOf (a .0) (x .0))
   -- arithmetic
-  pub add :
-      (κs : Times add.ended) (a : Args (add.ended .signature) κs) (x : Outcome add.ended κs a)
-      → Allowed add.ended add-reads.Learnt κs a x → x .0 ≡ addOf (a .0) (a .1 .0)
-  pub sub :
-      (κs : Times sub.ended) (a : Args (sub.ended .signature) κs) (x : Outcome sub.ended κs a)
-      → Allowed sub.ended sub-reads.Learnt κs a x → x .0 ≡ subOf (a .0) (a .1 .0)
-  pub mul :
-      (κs : Times mul.ended) (a : Args (mul.ended .signature) κs) (x : Outcome mul.ended κs a)
-      → Allowed mul.ended mul-reads.Learnt κs a x → x .0 ≡ mulOf (a .0) (a .1 .0) (a .1 .1 .0)
-  pub div :
-      (κs : Times div.ended) (a : Args (div.ended .signature) κs) (x : Outcome div.ended κs a)
-      → Allowed div.ended div-reads.Learnt κs a x → x .0 ≡ divOf (a .0) (a .1 .0)
-  pub rem :
-      (κs : Times rem.ended) (a : Args (rem.ended .signature) κs) (x : Outcome rem.ended κs a)
-      → Allowed rem.ended rem-reads.Learnt κs a x → x .0 ≡ remOf (a .0) (a .1 .0)
-  pub divq :
-      (κs : Times divq.ended) (a : Args (divq.ended .signature) κs) (x : Outcome divq.ended κs a)
-      → Allowed divq.ended divq-reads.Learnt κs a x → x .0 ≡ divqOf (a .0) (a .1 .0) (a .1 .1 .0)
-  pub remq :
-      (κs : Times remq.ended) (a : Args (remq.ended .signature) κs) (x : Outcome remq.ended κs a)
-      → Allowed remq.ended remq-reads.Learnt κs a x → x .0 ≡ remqOf (a .0) (a .1 .0) (a .1 .1 .0)
-  pub cmp :
-      (κs : Times cmp.ended) (a : Args (cmp.ended .signature) κs) (x : Outcome cmp.ended κs a)
-      → Allowed cmp.ended cmp-reads.Learnt κs a x → x .0 ≡ compareOf (a .0) (a .1 .0)
-  pub neg :
-      (κs : Times neg.ended) (a : Args (neg.ended .signature) κs) (x : Outcome neg.ended κs a)
-      → Allowed neg.ended neg-reads.Learnt κs a x → x .0 ≡ negOf (a .0)
-  pub abs :
-      (κs : Times abs.ended) (a : Args (abs.ended .signature) κs) (x : Outcome abs.ended κs a)
-      → Allowed abs.ended abs-reads.Learnt κs a x → x .0 ≡ absOf (a .0)
-  pub rebase :
-      (κs : Times rebase.ended) (a : Args (rebase.ended .signature) κs) (x : Outcome rebase.ended κs a)
-      → Allowed rebase.ended rebase-reads.Learnt κs a x → x .0 ≡ rebaseOf (a .0) (a .1 .0)
+  pub add : Gives add.ended add-reads.Learnt (λ κs a x. x .0 ≡ addOf (a .0) (a .1 .0))
+  pub sub : Gives sub.ended sub-reads.Learnt (λ κs a x. x .0 ≡ subOf (a .0) (a .1 .0))
+  pub mul : Gives mul.ended mul-reads.Learnt (λ κs a x. x .0 ≡ mulOf (a .0) (a .1 .0) (a .1 .1 .0))
+  pub div : Gives div.ended div-reads.Learnt (λ κs a x. x .0 ≡ divOf (a .0) (a .1 .0))
+  pub rem : Gives rem.ended rem-reads.Learnt (λ κs a x. x .0 ≡ remOf (a .0) (a .1 .0))
+  pub divq : Gives divq.ended divq-reads.Learnt (λ κs a x. x .0 ≡ divqOf (a .0) (a .1 .0) (a .1 .1 .0))
+  pub remq : Gives remq.ended remq-reads.Learnt (λ κs a x. x .0 ≡ remqOf (a .0) (a .1 .0) (a .1 .1 .0))
+  pub cmp : Gives cmp.ended cmp-reads.Learnt (λ κs a x. x .0 ≡ compareOf (a .0) (a .1 .0))
+  pub neg : Gives neg.ended neg-reads.Learnt (λ κs a x. x .0 ≡ negOf (a .0))
+  pub abs : Gives abs.ended abs-reads.Learnt (λ κs a x. x .0 ≡ absOf (a .0))
+  pub rebase : Gives rebase.ended rebase-reads.Learnt (λ κs a x. x .0 ≡ rebaseOf (a .0) (a .1 .0))
   -- chains
-  pub convert :
-      (κs : Times convert.ended) (a : Args (convert.ended .signature) κs) (x : Outcome convert.ended κs a)
-      → Allowed convert.ended convert-reads.Learnt κs a x → x .0 ≡ convertOf (a .0) (a .1 .0 .now)
+  pub convert : Gives convert.ended convert-reads.Learnt (λ κs a x. x .0 ≡ convertOf (a .0) (a .1 .0 .now))
   -- what an answer holds
-  pub answers-number :
-      (κs : Times answers-number.ended) (a : Args (answers-number.ended .signature) κs) (x : Outcome answers-number.ended κs a)
-      → Allowed answers-number.ended answers-number-reads.Learnt κs a x → x .0 ≡ answers.numberOf (a .0)
-  pub answers-count :
-      (κs : Times answers-count.ended) (a : Args (answers-count.ended .signature) κs) (x : Outcome answers-count.ended κs a)
-      → Allowed answers-count.ended answers-count-reads.Learnt κs a x → x .0 ≡ answers.countOf (a .0)
-  pub timecodes-number :
-      (κs : Times timecodes-number.ended) (a : Args (timecodes-number.ended .signature) κs) (x : Outcome timecodes-number.ended κs a)
-      → Allowed timecodes-number.ended timecodes-number-reads.Learnt κs a x → x .0 ≡ timecodes.numberOf (a .0)
-  pub timecodes-timecode-of :
-      (κs : Times timecodes-timecode-of.ended) (a : Args (timecodes-timecode-of.ended .signature) κs) (x : Outcome timecodes-timecode-of.ended κs a)
-      → Allowed timecodes-timecode-of.ended timecodes-timecode-of-reads.Learnt κs a x → x .0 ≡ timecodes.timecodeOf (a .0)
-  pub written-number :
-      (κs : Times written-number.ended) (a : Args (written-number.ended .signature) κs) (x : Outcome written-number.ended κs a)
-      → Allowed written-number.ended written-number-reads.Learnt κs a x → x .0 ≡ written.numberOf (a .0)
-  pub written-length :
-      (κs : Times written-length.ended) (a : Args (written-length.ended .signature) κs) (x : Outcome written-length.ended κs a)
-      → Allowed written-length.ended written-length-reads.Learnt κs a x → x .0 ≡ written.lengthOf (a .0)
+  pub answers-number : Gives answers-number.ended answers-number-reads.Learnt (λ κs a x. x .0 ≡ answers.numberOf (a .0))
+  pub answers-count : Gives answers-count.ended answers-count-reads.Learnt (λ κs a x. x .0 ≡ answers.countOf (a .0))
+  pub timecodes-number : Gives timecodes-number.ended timecodes-number-reads.Learnt (λ κs a x. x .0 ≡ timecodes.numberOf (a .0))
+  pub timecodes-timecode-of : Gives timecodes-timecode-of.ended timecodes-timecode-of-reads.Learnt (λ κs a x. x .0 ≡ timecodes.timecodeOf (a .0))
+  pub written-number : Gives written-number.ended written-number-reads.Learnt (λ κs a x. x .0 ≡ written.numberOf (a .0))
+  pub written-length : Gives written-length.ended written-length-reads.Learnt (λ κs a x. x .0 ≡ written.lengthOf (a .0))
   -- the tables
-  pub framerate-at :
-      (κs : Times framerate-at.ended) (a : Args (framerate-at.ended .signature) κs) (x : Outcome framerate-at.ended κs a)
-      → Allowed framerate-at.ended framerate-at-reads.Learnt κs a x → x .0 ≡ rateAt (a .0)
-  pub format-at :
-      (κs : Times format-at.ended) (a : Args (format-at.ended .signature) κs) (x : Outcome format-at.ended κs a)
-      → Allowed format-at.ended format-at-reads.Learnt κs a x → x .0 ≡ formatAt (a .0)
-  pub minute-start :
-      (κs : Times minute-start.ended) (a : Args (minute-start.ended .signature) κs) (x : Outcome minute-start.ended κs a)
-      → Allowed minute-start.ended minute-start-reads.Learnt κs a x → x .0 ≡ minuteAt (a .0)
+  pub framerate-at : Gives framerate-at.ended framerate-at-reads.Learnt (λ κs a x. x .0 ≡ rateAt (a .0))
+  pub format-at : Gives format-at.ended format-at-reads.Learnt (λ κs a x. x .0 ≡ formatAt (a .0))
+  pub minute-start : Gives minute-start.ended minute-start-reads.Learnt (λ κs a x. x .0 ≡ minuteAt (a .0))

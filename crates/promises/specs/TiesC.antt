@@ -1,8 +1,7 @@
 -- The promises speak of what runs, from C: whatever the contract of a function for C allows is the answer of the definition, handed over.
 -- Assumes nothing.
-use denote.Triple.Entry.{Args}
 use mathlib.Core.Path.{_≡_}
-use Rattle.outcomes.specs.Outcome.{Times, Outcome, Allowed}
+use Rattle.outcomes.specs.Outcome.{Gives}
 use Rattle.arithmetic.specs.Compare.{compareOf}
 use Rattle.arithmetic.specs.Count.{absOf, negOf, rebaseOf}
 use Rattle.arithmetic.specs.Flooring.{divqOf}
@@ -85,92 +84,42 @@ use Rattle.exports.proofs.tables.tzq_minute_start.Reads as tzq-minute-start-rea
 -- a is what the function is called with, x what comes of it: the answer, and the last value of each thing lent
 pub record TiesC : Type 0 where
   -- texts read
-  pub tzq-read :
-      (κs : Times tzq-read.ended) (a : Args (tzq-read.ended .signature) κs) (x : Outcome tzq-read.ended κs a)
-      → Allowed tzq-read.ended tzq-read-reads.Learnt κs a x → x .0 ≡ handedRead (readText (a .0 .now) Nothing (a .1 .0))
-  pub tzq-read-as :
-      (κs : Times tzq-read-as.ended) (a : Args (tzq-read-as.ended .signature) κs) (x : Outcome tzq-read-as.ended κs a)
-      → Allowed tzq-read-as.ended tzq-read-as-reads.Learnt κs a x → x .0 ≡ handedRead (readText (a .0 .now) (Format (a .1 .0)) (a .1 .1 .0))
-  pub tzq-read-runtime :
-      (κs : Times tzq-read-runtime.ended) (a : Args (tzq-read-runtime.ended .signature) κs) (x : Outcome tzq-read-runtime.ended κs a)
-      → Allowed tzq-read-runtime.ended tzq-read-runtime-reads.Learnt κs a x → x .0 ≡ handedAnswer (readRuntime (a .0 .now) (a .1 .0))
+  pub tzq-read : Gives tzq-read.ended tzq-read-reads.Learnt (λ κs a x. x .0 ≡ handedRead (readText (a .0 .now) Nothing (a .1 .0)))
+  pub tzq-read-as : Gives tzq-read-as.ended tzq-read-as-reads.Learnt (λ κs a x. x .0 ≡ handedRead (readText (a .0 .now) (Format (a .1 .0)) (a .1 .1 .0)))
+  pub tzq-read-runtime : Gives tzq-read-runtime.ended tzq-read-runtime-reads.Learnt (λ κs a x. x .0 ≡ handedAnswer (readRuntime (a .0 .now) (a .1 .0)))
   -- texts written
-  pub tzq-sections :
-      (κs : Times tzq-sections.ended) (a : Args (tzq-sections.ended .signature) κs) (x : Outcome tzq-sections.ended κs a)
-      → Allowed tzq-sections.ended tzq-sections-reads.Learnt κs a x → x .0 ≡ handedSections (sectioned (timecodeFrom (a .0)))
-  pub tzq-write-label :
-      (κs : Times tzq-write-label.ended) (a : Args (tzq-write-label.ended .signature) κs) (x : Outcome tzq-write-label.ended κs a)
-      → Allowed tzq-write-label.ended tzq-write-label-reads.Learnt κs a x → (x .0 ≡ handedLength (answerTo (a .1 .0 .now) (a .1 .1 .0) (labelDraft (timecodeFrom (a .0))))) × (x .1 .1 .0 ≡ lineTo (a .1 .0 .now) (a .1 .1 .0) (labelDraft (timecodeFrom (a .0))))
-  pub tzq-write-footage :
-      (κs : Times tzq-write-footage.ended) (a : Args (tzq-write-footage.ended .signature) κs) (x : Outcome tzq-write-footage.ended κs a)
-      → Allowed tzq-write-footage.ended tzq-write-footage-reads.Learnt κs a x → (x .0 ≡ handedLength (answerTo (a .1 .1 .0 .now) (a .1 .1 .1 .0) (footageDraft (timecodeFrom (a .0)) (a .1 .0)))) × (x .1 .1 .1 .0 ≡ lineTo (a .1 .1 .0 .now) (a .1 .1 .1 .0) (footageDraft (timecodeFrom (a .0)) (a .1 .0)))
-  pub tzq-write-runtime :
-      (κs : Times tzq-write-runtime.ended) (a : Args (tzq-write-runtime.ended .signature) κs) (x : Outcome tzq-write-runtime.ended κs a)
-      → Allowed tzq-write-runtime.ended tzq-write-runtime-reads.Learnt κs a x → (x .0 ≡ handedLength (answerTo (a .1 .1 .0 .now) (a .1 .1 .1 .0) (runtimeDraft (timecodeFrom (a .0)) (a .1 .0)))) × (x .1 .1 .1 .0 ≡ lineTo (a .1 .1 .0 .now) (a .1 .1 .1 .0) (runtimeDraft (timecodeFrom (a .0)) (a .1 .0)))
+  pub tzq-sections : Gives tzq-sections.ended tzq-sections-reads.Learnt (λ κs a x. x .0 ≡ handedSections (sectioned (timecodeFrom (a .0))))
+  pub tzq-write-label : Gives tzq-write-label.ended tzq-write-label-reads.Learnt (λ κs a x.
+      (x .0 ≡ handedLength (answerTo (a .1 .0 .now) (a .1 .1 .0) (labelDraft (timecodeFrom (a .0)))))
+      × (x .1 .1 .0 ≡ lineTo (a .1 .0 .now) (a .1 .1 .0) (labelDraft (timecodeFrom (a .0)))))
+  pub tzq-write-footage : Gives tzq-write-footage.ended tzq-write-footage-reads.Learnt (λ κs a x.
+      (x .0 ≡ handedLength (answerTo (a .1 .1 .0 .now) (a .1 .1 .1 .0) (footageDraft (timecodeFrom (a .0)) (a .1 .0))))
+      × (x .1 .1 .1 .0 ≡ lineTo (a .1 .1 .0 .now) (a .1 .1 .1 .0) (footageDraft (timecodeFrom (a .0)) (a .1 .0))))
+  pub tzq-write-runtime : Gives tzq-write-runtime.ended tzq-write-runtime-reads.Learnt (λ κs a x.
+      (x .0 ≡ handedLength (answerTo (a .1 .1 .0 .now) (a .1 .1 .1 .0) (runtimeDraft (timecodeFrom (a .0)) (a .1 .0))))
+      × (x .1 .1 .1 .0 ≡ lineTo (a .1 .1 .0 .now) (a .1 .1 .1 .0) (runtimeDraft (timecodeFrom (a .0)) (a .1 .0))))
   -- time
-  pub tzq-with-frames :
-      (κs : Times tzq-with-frames.ended) (a : Args (tzq-with-frames.ended .signature) κs) (x : Outcome tzq-with-frames.ended κs a)
-      → Allowed tzq-with-frames.ended tzq-with-frames-reads.Learnt κs a x → x .0 ≡ handedAnswer (framesAt (a .0) (a .1 .0))
-  pub tzq-with-premiere-ticks :
-      (κs : Times tzq-with-premiere-ticks.ended) (a : Args (tzq-with-premiere-ticks.ended .signature) κs) (x : Outcome tzq-with-premiere-ticks.ended κs a)
-      → Allowed tzq-with-premiere-ticks.ended tzq-with-premiere-ticks-reads.Learnt κs a x → x .0 ≡ handedAnswer (ticksAt (a .0) (a .1 .0))
-  pub tzq-with-seconds :
-      (κs : Times tzq-with-seconds.ended) (a : Args (tzq-with-seconds.ended .signature) κs) (x : Outcome tzq-with-seconds.ended κs a)
-      → Allowed tzq-with-seconds.ended tzq-with-seconds-reads.Learnt κs a x → x .0 ≡ handedAnswer (secondsAt (a .0) (a .1 .0) (a .1 .1 .0))
-  pub tzq-premiere-ticks :
-      (κs : Times tzq-premiere-ticks.ended) (a : Args (tzq-premiere-ticks.ended .signature) κs) (x : Outcome tzq-premiere-ticks.ended κs a)
-      → Allowed tzq-premiere-ticks.ended tzq-premiere-ticks-reads.Learnt κs a x → x .0 ≡ handedTicks (ticksOf (timecodeFrom (a .0)))
-  pub tzq-seconds :
-      (κs : Times tzq-seconds.ended) (a : Args (tzq-seconds.ended .signature) κs) (x : Outcome tzq-seconds.ended κs a)
-      → Allowed tzq-seconds.ended tzq-seconds-reads.Learnt κs a x → SecondsHanded (timecodeFrom (a .0)) (x .0)
+  pub tzq-with-frames : Gives tzq-with-frames.ended tzq-with-frames-reads.Learnt (λ κs a x. x .0 ≡ handedAnswer (framesAt (a .0) (a .1 .0)))
+  pub tzq-with-premiere-ticks : Gives tzq-with-premiere-ticks.ended tzq-with-premiere-ticks-reads.Learnt (λ κs a x. x .0 ≡ handedAnswer (ticksAt (a .0) (a .1 .0)))
+  pub tzq-with-seconds : Gives tzq-with-seconds.ended tzq-with-seconds-reads.Learnt (λ κs a x. x .0 ≡ handedAnswer (secondsAt (a .0) (a .1 .0) (a .1 .1 .0)))
+  pub tzq-premiere-ticks : Gives tzq-premiere-ticks.ended tzq-premiere-ticks-reads.Learnt (λ κs a x. x .0 ≡ handedTicks (ticksOf (timecodeFrom (a .0))))
+  pub tzq-seconds : Gives tzq-seconds.ended tzq-seconds-reads.Learnt (λ κs a x. SecondsHanded (timecodeFrom (a .0)) (x .0))
   -- arithmetic
-  pub tzq-add :
-      (κs : Times tzq-add.ended) (a : Args (tzq-add.ended .signature) κs) (x : Outcome tzq-add.ended κs a)
-      → Allowed tzq-add.ended tzq-add-reads.Learnt κs a x → x .0 ≡ handedAnswer (addOf (timecodeFrom (a .0)) (timecodeFrom (a .1 .0)))
-  pub tzq-sub :
-      (κs : Times tzq-sub.ended) (a : Args (tzq-sub.ended .signature) κs) (x : Outcome tzq-sub.ended κs a)
-      → Allowed tzq-sub.ended tzq-sub-reads.Learnt κs a x → x .0 ≡ handedAnswer (subOf (timecodeFrom (a .0)) (timecodeFrom (a .1 .0)))
-  pub tzq-cmp :
-      (κs : Times tzq-cmp.ended) (a : Args (tzq-cmp.ended .signature) κs) (x : Outcome tzq-cmp.ended κs a)
-      → Allowed tzq-cmp.ended tzq-cmp-reads.Learnt κs a x → x .0 ≡ handedOrder (compareOf (timecodeFrom (a .0)) (timecodeFrom (a .1 .0)))
-  pub tzq-mul :
-      (κs : Times tzq-mul.ended) (a : Args (tzq-mul.ended .signature) κs) (x : Outcome tzq-mul.ended κs a)
-      → Allowed tzq-mul.ended tzq-mul-reads.Learnt κs a x → x .0 ≡ handedAnswer (mulOf (timecodeFrom (a .0)) (a .1 .0) (a .1 .1 .0))
-  pub tzq-div :
-      (κs : Times tzq-div.ended) (a : Args (tzq-div.ended .signature) κs) (x : Outcome tzq-div.ended κs a)
-      → Allowed tzq-div.ended tzq-div-reads.Learnt κs a x → x .0 ≡ handedAnswer (divOf (timecodeFrom (a .0)) (a .1 .0))
-  pub tzq-rem :
-      (κs : Times tzq-rem.ended) (a : Args (tzq-rem.ended .signature) κs) (x : Outcome tzq-rem.ended κs a)
-      → Allowed tzq-rem.ended tzq-rem-reads.Learnt κs a x → x .0 ≡ handedAnswer (remOf (timecodeFrom (a .0)) (a .1 .0))
-  pub tzq-divq :
-      (κs : Times tzq-divq.ended) (a : Args (tzq-divq.ended .signature) κs) (x : Outcome tzq-divq.ended κs a)
-      → Allowed tzq-divq.ended tzq-divq-reads.Learnt κs a x → x .0 ≡ handedAnswer (divqOf (timecodeFrom (a .0)) (a .1 .0) (a .1 .1 .0))
-  pub tzq-remq :
-      (κs : Times tzq-remq.ended) (a : Args (tzq-remq.ended .signature) κs) (x : Outcome tzq-remq.ended κs a)
-      → Allowed tzq-remq.ended tzq-remq-reads.Learnt κs a x → x .0 ≡ handedAnswer (remqOf (timecodeFrom (a .0)) (a .1 .0) (a .1 .1 .0))
-  pub tzq-neg :
-      (κs : Times tzq-neg.ended) (a : Args (tzq-neg.ended .signature) κs) (x : Outcome tzq-neg.ended κs a)
-      → Allowed tzq-neg.ended tzq-neg-reads.Learnt κs a x → x .0 ≡ handedAnswer (negOf (timecodeFrom (a .0)))
-  pub tzq-abs :
-      (κs : Times tzq-abs.ended) (a : Args (tzq-abs.ended .signature) κs) (x : Outcome tzq-abs.ended κs a)
-      → Allowed tzq-abs.ended tzq-abs-reads.Learnt κs a x → x .0 ≡ handedAnswer (absOf (timecodeFrom (a .0)))
-  pub tzq-rebase :
-      (κs : Times tzq-rebase.ended) (a : Args (tzq-rebase.ended .signature) κs) (x : Outcome tzq-rebase.ended κs a)
-      → Allowed tzq-rebase.ended tzq-rebase-reads.Learnt κs a x → x .0 ≡ handedAnswer (rebaseOf (timecodeFrom (a .0)) (a .1 .0))
+  pub tzq-add : Gives tzq-add.ended tzq-add-reads.Learnt (λ κs a x. x .0 ≡ handedAnswer (addOf (timecodeFrom (a .0)) (timecodeFrom (a .1 .0))))
+  pub tzq-sub : Gives tzq-sub.ended tzq-sub-reads.Learnt (λ κs a x. x .0 ≡ handedAnswer (subOf (timecodeFrom (a .0)) (timecodeFrom (a .1 .0))))
+  pub tzq-cmp : Gives tzq-cmp.ended tzq-cmp-reads.Learnt (λ κs a x. x .0 ≡ handedOrder (compareOf (timecodeFrom (a .0)) (timecodeFrom (a .1 .0))))
+  pub tzq-mul : Gives tzq-mul.ended tzq-mul-reads.Learnt (λ κs a x. x .0 ≡ handedAnswer (mulOf (timecodeFrom (a .0)) (a .1 .0) (a .1 .1 .0)))
+  pub tzq-div : Gives tzq-div.ended tzq-div-reads.Learnt (λ κs a x. x .0 ≡ handedAnswer (divOf (timecodeFrom (a .0)) (a .1 .0)))
+  pub tzq-rem : Gives tzq-rem.ended tzq-rem-reads.Learnt (λ κs a x. x .0 ≡ handedAnswer (remOf (timecodeFrom (a .0)) (a .1 .0)))
+  pub tzq-divq : Gives tzq-divq.ended tzq-divq-reads.Learnt (λ κs a x. x .0 ≡ handedAnswer (divqOf (timecodeFrom (a .0)) (a .1 .0) (a .1 .1 .0)))
+  pub tzq-remq : Gives tzq-remq.ended tzq-remq-reads.Learnt (λ κs a x. x .0 ≡ handedAnswer (remqOf (timecodeFrom (a .0)) (a .1 .0) (a .1 .1 .0)))
+  pub tzq-neg : Gives tzq-neg.ended tzq-neg-reads.Learnt (λ κs a x. x .0 ≡ handedAnswer (negOf (timecodeFrom (a .0))))
+  pub tzq-abs : Gives tzq-abs.ended tzq-abs-reads.Learnt (λ κs a x. x .0 ≡ handedAnswer (absOf (timecodeFrom (a .0))))
+  pub tzq-rebase : Gives tzq-rebase.ended tzq-rebase-reads.Learnt (λ κs a x. x .0 ≡ handedAnswer (rebaseOf (timecodeFrom (a .0)) (a .1 .0)))
   -- chains
-  pub tzq-convert :
-      (κs : Times tzq-convert.ended) (a : Args (tzq-convert.ended .signature) κs) (x : Outcome tzq-convert.ended κs a)
-      → Allowed tzq-convert.ended tzq-convert-reads.Learnt κs a x → x .0 ≡ handedTimecode (convertOf (timecodeFrom (a .0)) (a .1 .0 .now))
+  pub tzq-convert : Gives tzq-convert.ended tzq-convert-reads.Learnt (λ κs a x. x .0 ≡ handedTimecode (convertOf (timecodeFrom (a .0)) (a .1 .0 .now)))
   -- the tables
-  pub tzq-rate :
-      (κs : Times tzq-rate.ended) (a : Args (tzq-rate.ended .signature) κs) (x : Outcome tzq-rate.ended κs a)
-      → Allowed tzq-rate.ended tzq-rate-reads.Learnt κs a x → x .0 ≡ handedRate (rateAt (a .0))
-  pub tzq-drop-frames-per-minute :
-      (κs : Times tzq-drop-frames-per-minute.ended) (a : Args (tzq-drop-frames-per-minute.ended .signature) κs) (x : Outcome tzq-drop-frames-per-minute.ended κs a)
-      → Allowed tzq-drop-frames-per-minute.ended tzq-drop-frames-per-minute-reads.Learnt κs a x → x .0 ≡ dropFrames (a .0)
-  pub tzq-format :
-      (κs : Times tzq-format.ended) (a : Args (tzq-format.ended .signature) κs) (x : Outcome tzq-format.ended κs a)
-      → Allowed tzq-format.ended tzq-format-reads.Learnt κs a x → x .0 ≡ handedFormat (formatAt (a .0))
-  pub tzq-minute-start :
-      (κs : Times tzq-minute-start.ended) (a : Args (tzq-minute-start.ended .signature) κs) (x : Outcome tzq-minute-start.ended κs a)
-      → Allowed tzq-minute-start.ended tzq-minute-start-reads.Learnt κs a x → x .0 ≡ handedCount (minuteAt (a .0))
+  pub tzq-rate : Gives tzq-rate.ended tzq-rate-reads.Learnt (λ κs a x. x .0 ≡ handedRate (rateAt (a .0)))
+  pub tzq-drop-frames-per-minute : Gives tzq-drop-frames-per-minute.ended tzq-drop-frames-per-minute-reads.Learnt (λ κs a x. x .0 ≡ dropFrames (a .0))
+  pub tzq-format : Gives tzq-format.ended tzq-format-reads.Learnt (λ κs a x. x .0 ≡ handedFormat (formatAt (a .0)))
+  pub tzq-minute-start : Gives tzq-minute-start.ended tzq-minute-start-reads.Learnt (λ κs a x. x .0 ≡ handedCount (minuteAt (a .0)))
