@@ -12,12 +12,6 @@ use Rattle.streams.specs.Gathering.{noByte, gatherFrom}
 use Rattle.streams.proofs.Gathering.{next-lt}
 use Rattle.ask.specs.Turns.{goneOn}
 
-pub gone-ended : (g : Gathered) (s t : Step) → g ≡ noByte → s ≡ t → s .ended ≡ true → g ≡ goneOn t
-gone-ended g s t n p e = rw (n, ← p, e)
-
-pub gone-goes : (s t : Step) → s ≡ t → s .ended ≡ false → s .gathered ≡ goneOn t
-gone-goes s t p e = rw (← p, e)
-
 -- a byte more of the chunk is taken
 pub next-more : (chunk : List ℕ) (i n : ℕ) (buffer : List ℕ) (g : Gathered) → i < length chunk
     → n ≡ gatherFrom i buffer g (drop i chunk) .step .next → i < n

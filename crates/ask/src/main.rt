@@ -1,10 +1,9 @@
 // A calculator over every public operation: reads commands, one a line, and writes an answer for each (docs/ASK.md).
 // What a line is, and what it asks, is decided by streams and asking; here are the commands, the buffers, the reads and the writes.
 ghost use mathlib.Core.Path.{_≡_};
-ghost use lib.ListN.{drop};
-ghost use Rattle.streams.specs.Gathering.{gatherFrom};
 ghost use Rattle.ask.specs.Turns.{goneOn};
 use streams::Gathered;
+use streams::Step;
 
 mod answer;
 mod convert;
@@ -13,101 +12,89 @@ mod sheet;
 mod work;
 mod write;
 
-// What is gathered of the next line, how many bytes of answers are not yet written, the place in the chunk; and whether more may come.
-struct State {
+// What is gathered of the next line, and whether more may come.
+struct Turn {
     gathered: Gathered,
-    used: usize,
-    next: usize,
     more: bool,
 }
 
-// Between two chunks.
-fn between(g: Gathered, used: usize, more: bool) -> State {
-    State {
-        gathered: g,
-        used,
-        next: 0,
-        more,
+// What is gathered of the next line behind a step: nothing yet where a line has ended there.
+fn gone_on(t: Step) -> Gathered
+    ensures gathered { λ r. ⌜ r ≡ goneOn t ⌝ }
+{
+    if t.ended {
+        return Gathered::new();
     }
+    t.gathered
 }
 
-// The bytes of a chunk up to the next newline, and the answer to the line that ends there.
-fn step(chunk: &[u8], buffer: &mut [u8], out: &mut [u8], s: State) -> State
-    ensures next { λ r. ⌜ r .next ≡ gatherFrom (s .next) (now (buffer .entry)) (s .gathered) (drop (s .next) (now (chunk .entry))) .step .next ⌝ }
-    ensures gathered { λ r. ⌜ r .gathered ≡ goneOn (gatherFrom (s .next) (now (buffer .entry)) (s .gathered) (drop (s .next) (now (chunk .entry))) .step) ⌝ }
-    ensures buffer { λ r. ⌜ now (buffer .exit) ≡ gatherFrom (s .next) (now (buffer .entry)) (s .gathered) (drop (s .next) (now (chunk .entry))) .buffer ⌝ }
-{
-    let t = streams::gather(chunk, s.next, buffer, s.gathered);
-    let g = t.gathered;
+// The answer to a line that has ended, behind those that are kept.
+fn answered(t: Step, buffer: &[u8], out: &mut [u8], used: usize) -> usize {
     if t.ended {
-        let used = answer::answer(g, buffer, out, s.used);
-        return State {
-            gathered: Gathered::new(),
-            used,
-            next: t.next,
-            more: true,
+        return answer::answer(t.gathered, buffer, out, used);
+    }
+    used
+}
+
+// A chunk of input, line by line; its answers are written before the next one is read.
+fn feed(chunk: &[u8], buffer: &mut [u8], out: &mut [u8], first: Gathered) -> Gathered {
+    let mut g = first;
+    let mut used = 0;
+    let mut next = 0;
+    while next < chunk.len() {
+        let t = streams::gather(chunk, next, buffer, g);
+        used = answered(t, buffer, out, used);
+        g = gone_on(t);
+        next = t.next;
+    }
+    sheet::write(out, used);
+    g
+}
+
+// One read, and what came of it.
+fn one_read(buffer: &mut [u8], out: &mut [u8], g: Gathered) -> Turn {
+    let mut chunk = io::large_buffer();
+    let got = libc::read(0, &mut chunk);
+    if got <= 0 {
+        return Turn {
+            gathered: g,
+            more: false,
         };
     }
-    State {
-        gathered: g,
-        used: s.used,
-        next: t.next,
+    let n = io::count(got, &chunk);
+    Turn {
+        gathered: feed(&chunk[..n], buffer, out, g),
         more: true,
     }
 }
 
-// A chunk of input, line by line.
-fn feed(chunk: &[u8], buffer: &mut [u8], out: &mut [u8], s: State) -> State {
-    let mut t = s;
-    while t.next < chunk.len() {
-        t = step(chunk, buffer, out, t);
-    }
-    t
-}
-
-// One read, and what came of it.
-fn one_read(buffer: &mut [u8], out: &mut [u8], s: State) -> State {
-    let mut chunk = io::large_buffer();
-    let got = libc::read(0, &mut chunk);
-    let g = s.gathered;
-    if got <= 0 {
-        return between(g, s.used, false);
-    }
-    let n = io::count(got, &chunk);
-    feed(&chunk[..n], buffer, out, between(g, s.used, true))
-}
-
 // A proved loop ends: the turns are counted down from a number that no run uses up.
-fn read_all(buffer: &mut [u8], out: &mut [u8]) -> State {
-    let mut s = between(Gathered::new(), 0, true);
+fn read_all(buffer: &mut [u8], out: &mut [u8]) -> Gathered {
+    let mut g = Gathered::new();
     let mut turns = u64::MAX;
     while 0 < turns {
-        s = one_read(buffer, out, s);
-        if !s.more {
-            return s;
+        let t = one_read(buffer, out, g);
+        g = t.gathered;
+        if !t.more {
+            return g;
         }
         turns -= 1;
     }
-    s
+    g
 }
 
 // A last line without its newline counts.
-fn last_answer(buffer: &[u8], out: &mut [u8], s: State) -> usize {
-    let g = s.gathered;
+fn last_answer(buffer: &[u8], out: &mut [u8], g: Gathered) {
     if g.is_empty() {
-        return s.used;
+        return;
     }
-    answer::answer(g, buffer, out, s.used)
-}
-
-fn run(buffer: &mut [u8], out: &mut [u8]) {
-    let s = read_all(buffer, out);
-    let used = last_answer(buffer, out, s);
+    let used = answer::answer(g, buffer, out, 0);
     sheet::write(out, used);
 }
 
 fn main() {
     let mut buffer = io::buffer();
     let mut out = io::large_buffer();
-    run(&mut buffer, &mut out);
+    let g = read_all(&mut buffer, &mut out);
+    last_answer(&buffer, &mut out, g);
 }

@@ -1,45 +1,9 @@
 // Commands that make a timecode or a number of numbers, by the row of each.
-use answers::Counted;
-use arithmetic::Compared;
 use asking::Numbers;
 use asking::rows;
 use showing::Shown;
-use time::Ticked;
-use time::Timed;
 use timecodes::Answer;
 use timecodes::Timecode;
-
-// M: a frame number.
-fn minute(m: u64) -> Shown {
-    match minutes::minute_start(m) {
-        Counted::Count(z) => showing::one_number(0, z),
-        Counted::Refused(e) => showing::of_refusal(e),
-    }
-}
-
-// RATE COUNT: ticks.
-fn ticks(tc: Timecode) -> Shown {
-    match time::premiere_ticks(tc) {
-        Ticked::Ticks(z) => showing::one_number(0, z),
-        Ticked::Refused(e) => showing::of_refusal(e),
-    }
-}
-
-// RATE COUNT: seconds, as `P/Q`.
-fn seconds(tc: Timecode) -> Shown {
-    match time::seconds(tc) {
-        Timed::Seconds { p, q } => showing::two_numbers(0, p, b'/', q),
-        Timed::Refused(e) => showing::of_refusal(e),
-    }
-}
-
-// RATE COUNT RATE COUNT: -1, 0 or 1.
-fn compared(a: Timecode, b: Timecode) -> Shown {
-    match arithmetic::cmp(a, b) {
-        Compared::Order(z) => showing::one_number(0, z),
-        Compared::Refused(e) => showing::of_refusal(e),
-    }
-}
 
 // A timecode made of other numbers: RATE COUNT, RATE TICKS or RATE P Q.
 fn made(row: usize, rate: u64, p: i64, q: u64) -> Answer {
@@ -96,10 +60,10 @@ fn timecode_of(row: usize, tc: Timecode, n: Numbers) -> Answer {
 // By the command's row; the first two numbers are RATE COUNT.
 pub(crate) fn shown(row: usize, tc: Timecode, n: Numbers) -> Shown {
     match row {
-        rows::MINUTE => minute(n.up1),
-        rows::TICKS => ticks(tc),
-        rows::SECONDS => seconds(tc),
-        rows::CMP => compared(tc, other(n)),
+        rows::MINUTE => showing::of_counted(minutes::minute_start(n.up1)),
+        rows::TICKS => showing::of_ticked(time::premiere_ticks(tc)),
+        rows::SECONDS => showing::of_timed(time::seconds(tc)),
+        rows::CMP => showing::of_compared(arithmetic::cmp(tc, other(n))),
         _ => showing::of_answer(timecode_of(row, tc, n)),
     }
 }

@@ -6,10 +6,11 @@ use mathlib.Core.List.{List, [], _∷_}
 use mathlib.Core.Bool.{false}
 use borrow.Author.Tests.{eq-eqb, ne-eqb}
 use Rattle.streams.specs.Sheet.{Sheet, sheet, putOn}
+use Rattle.written.specs.declared.Written.{Written}
 use Rattle.written.specs.Parts.{signedText}
 use Rattle.asking.specs.Table.{spelt}
 use Rattle.showing.specs.declared.Shown.{Shown}
-use Rattle.showing.specs.Shown.{helpText, wordOn, saidOn, secondOn, firstOn, partsOn, shownOn}
+use Rattle.showing.specs.Shown.{helpText, wordOn, saidOn, secondOn, firstOn, partsOn, shownOn, lengthOn, writtenOn}
 
 -- what a function leaves: so many bytes used, and these bytes
 abbrev pub Leaves : Sheet → ℕ → List ℕ → Type 0
@@ -71,3 +72,7 @@ shown-is s a = refl
 pub second-is : (s : Sheet) (mark y : ℕ) → putOn (putOn s (mark ∷ [])) (signedText false y) ≡ secondOn s mark y
 unfolding secondOn
 second-is s mark y = refl
+
+pub written-is : (s : Sheet) (w : Written) (line : List ℕ) → putOn (putOn (putOn (lengthOn s w) (32 ∷ [])) line) (10 ∷ []) ≡ writtenOn s w line
+unfolding writtenOn
+written-is s w line = refl

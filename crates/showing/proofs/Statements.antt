@@ -7,13 +7,16 @@ use mathlib.Core.Bool.{Bool, true, false, cond}
 use native.Mathlib.Omega.{arith}
 use lib.Dec.{eqb}
 use lib.ListN.{length, length-append}
+use Rattle.written.specs.declared.Written.{Written}
+use Rattle.written.specs.declared.Written.the-variants.{Length, Refused}
 use Rattle.written.specs.Parts.{signedText}
 use Rattle.streams.specs.Sheet.{Sheet, textOn, putOn}
 use Rattle.streams.proofs.Putting.{Laid, put-is}
 use Rattle.asking.specs.Table.{spelt}
 use Rattle.showing.specs.declared.Shown.{Shown}
-use Rattle.showing.specs.Shown.{countText, wordText, helpText, saidText, secondText, shownText, wordOn, saidOn, secondOn, firstOn, partsOn, shownOn}
-use Rattle.showing.specs.Statements.{ShownLine}
+use Rattle.showing.specs.Shown.{countText, wordText, helpText, saidText, secondText, partsText, shownText, lengthText, writtenText, wordOn, saidOn, secondOn, firstOn, partsOn, shownOn, lengthOn, writtenOn}
+use Rattle.showing.specs.Each.{ofRefusal}
+use Rattle.showing.specs.Statements.{ShownLine, WrittenLine}
 
 -- ---- texts one behind the other
 laid-none : (s : Sheet) → Laid s s []
@@ -80,14 +83,8 @@ module _ (s : Sheet) where
     unfolding secondOn
     second-laid h = marked-laid s (firstOn s a) (wordText (a .word)) (countText (a .x)) (signedText false (a .y)) (a .mark) first-laid h
 
-    body : List ℕ
-    body =
-        cond (eqb (a .count) 0) (saidText (a .word))
-        (cond (eqb (a .count) 1) (wordText (a .word) ++ countText (a .x))
-        (wordText (a .word) ++ (countText (a .x) ++ secondText (a .mark) (a .y))))
-
-    parts-laid : s .used + length body ≤ length (s .bytes) → Laid s (partsOn s a) body
-    unfolding partsOn body
+    parts-laid : s .used + length (partsText a) ≤ length (s .bytes) → Laid s (partsOn s a) (partsText a)
+    unfolding partsOn partsText
     parts-laid = by (eqb (a .count) 0) (eqb (a .count) 1)
       where
         by : (x y : Bool)
@@ -99,6 +96,23 @@ module _ (s : Sheet) where
         by false false h = second-laid h
 
 pub shown-line : ShownLine
-unfolding shownText shownOn body
+unfolding shownText shownOn
 shown-line s a h =
-    laid-put s (partsOn s a) (body s a) (10 ∷ []) (parts-laid s a (omega (arith, h, length-append (body s a) (10 ∷ [])))) h .is
+    let t = partsText a in
+    laid-put s (partsOn s a) t (10 ∷ []) (parts-laid s a (omega (arith, h, length-append t (10 ∷ [])))) h .is
+
+-- ---- a writer's answer
+length-laid : (s : Sheet) (w : Written) → s .used + length (lengthText w) ≤ length (s .bytes) → Laid s (lengthOn s w) (lengthText w)
+length-laid s (Length n) h = put-is s (signedText false n) h
+length-laid s (Refused e) h = parts-laid s (ofRefusal e) h
+
+pub written-line : WrittenLine
+unfolding writtenText writtenOn
+written-line s w line h =
+    let t = lengthText w in
+    let all : length (t ++ (32 ∷ line ++ (10 ∷ []))) ≡ length t + (1 + (length line + 1)) = simp length-append (omega arith) in
+    let one = length-laid s w (omega (arith, h, all)) in
+    let two = marked-laid s (lengthOn s w) [] t line 32 (λ k. one) (omega (arith, h, all, length-append t (32 ∷ line))) in
+    let same : (t ++ (32 ∷ line)) ++ (10 ∷ []) ≡ t ++ (32 ∷ line ++ (10 ∷ [])) = append-assoc t (32 ∷ line) (10 ∷ []) in
+    let laid = laid-put s (putOn (putOn (lengthOn s w) (32 ∷ [])) line) (t ++ (32 ∷ line)) (10 ∷ []) two (omega (arith, h, ap length same)) in
+    laid .is ∙ ap (λ z. textOn s ++ z) same

@@ -6,32 +6,13 @@ use mathlib.Core.Bool.{false, cond}
 use lib.Dec.{eqb}
 use lib.IntN.{ℤ, pos, natAbs}
 use Rattle.numbers.specs.Sign.{isNeg}
-use Rattle.answers.specs.declared.Refusal.{Refusal}
-use Rattle.timecodes.specs.declared.Answer.{Answer}
-use Rattle.timecodes.specs.declared.Answer.the-variants.{At, Refused}
+use Rattle.written.specs.declared.Written.{Written}
+use Rattle.written.specs.declared.Written.the-variants.{Length, Refused}
 use Rattle.written.specs.Parts.{signedText}
 use Rattle.streams.specs.Sheet.{Sheet, putOn}
 use Rattle.asking.specs.Table.{spelt}
 use Rattle.showing.specs.declared.Shown.{Shown}
-
--- ---- what is shown of an answer
-abbrev pub onlyWord : (word : ℕ) → Shown
-onlyWord word = record { word = word; count = 0; x = pos 0; mark = 0; y = 0 }
-
-abbrev pub oneNumber : (word : ℕ) → ℤ → Shown
-oneNumber word x = record { word = word; count = 1; x = x; mark = 0; y = 0 }
-
-abbrev pub twoNumbers : (word : ℕ) → ℤ → (mark y : ℕ) → Shown
-twoNumbers word x mark y = record { word = word; count = 2; x = x; mark = mark; y = y }
-
--- a refusal is `refused` and its number
-abbrev pub ofRefusal : Refusal → Shown
-ofRefusal e = oneNumber 114 (pos (e .number))
-
--- of a timecode the count
-abbrev pub ofAnswer : Answer → Shown
-ofAnswer (At tc) = oneNumber 0 (tc .count)
-ofAnswer (Refused e) = ofRefusal e
+use Rattle.showing.specs.Each.{ofRefusal}
 
 -- ---- its text
 abbrev pub countText : ℤ → List ℕ
@@ -76,13 +57,24 @@ saidText word = cond (eqb word 104) helpText (spelt "not understood")
 abbrev pub secondText : (mark y : ℕ) → List ℕ
 secondText mark y = mark ∷ signedText false y
 
--- a word alone, or a word and one or two numbers; and the line's end
-unfoldable pub shownText : Shown → List ℕ
-shownText s =
+-- a word alone, or a word and one or two numbers
+unfoldable pub partsText : Shown → List ℕ
+partsText s =
     cond (eqb (s .count) 0) (saidText (s .word))
     (cond (eqb (s .count) 1) (wordText (s .word) ++ countText (s .x))
     (wordText (s .word) ++ (countText (s .x) ++ secondText (s .mark) (s .y))))
-    ++ (10 ∷ [])
+
+-- and the line's end
+unfoldable pub shownText : Shown → List ℕ
+shownText s = partsText s ++ (10 ∷ [])
+
+-- of a writer the length or the refusal, behind a space the whole line, and the line's end
+abbrev pub lengthText : Written → List ℕ
+lengthText (Length n) = signedText false n
+lengthText (Refused e) = partsText (ofRefusal e)
+
+unfoldable pub writtenText : Written → (line : List ℕ) → List ℕ
+writtenText w line = lengthText w ++ (32 ∷ line ++ (10 ∷ []))
 
 -- ---- on a sheet, part by part
 unfoldable pub wordOn : Sheet → (word : ℕ) → Sheet
@@ -109,3 +101,10 @@ partsOn s a =
 
 unfoldable pub shownOn : Sheet → Shown → Sheet
 shownOn s a = putOn (partsOn s a) (10 ∷ [])
+
+abbrev pub lengthOn : Sheet → Written → Sheet
+lengthOn s (Length n) = putOn s (signedText false n)
+lengthOn s (Refused e) = partsOn s (ofRefusal e)
+
+unfoldable pub writtenOn : Sheet → Written → (line : List ℕ) → Sheet
+writtenOn s w line = putOn (putOn (putOn (lengthOn s w) (32 ∷ [])) line) (10 ∷ [])

@@ -1,9 +1,20 @@
 // How the calculator shows an answer (docs/ASK.md): one line, put on a sheet. Refuses nothing itself: what has no room changes nothing.
 ghost use mathlib.Core.Path.{_≡_};
 ghost use Rattle.streams.specs.Sheet.{sheet, putOn};
-ghost use Rattle.showing.specs.Shown.{onlyWord, oneNumber, twoNumbers, ofRefusal, ofAnswer, countText, helpText, wordOn, saidOn, secondOn, partsOn, shownOn};
-use answers::Refusal;
-use timecodes::Answer;
+ghost use Rattle.showing.specs.Each.{onlyWord, oneNumber, twoNumbers};
+ghost use Rattle.showing.specs.Shown.{countText, helpText, wordOn, saidOn, secondOn, partsOn, shownOn, lengthOn, writtenOn};
+use written::Written;
+
+mod each;
+
+pub use each::of_answer;
+pub use each::of_compared;
+pub use each::of_converted;
+pub use each::of_counted;
+pub use each::of_read;
+pub use each::of_refusal;
+pub use each::of_ticked;
+pub use each::of_timed;
 
 // What is shown: a word (`l` label, `f` footage, `r` refused, `h` the commands in short, `?` not understood, 0 none), and behind it so many
 // numbers, two of them with a mark between them.
@@ -51,23 +62,6 @@ pub fn two_numbers(word: u8, x: i64, mark: u8, y: u64) -> Shown
         x,
         mark,
         y,
-    }
-}
-
-// A refusal: `refused` and its number.
-pub fn of_refusal(e: Refusal) -> Shown
-    ensures answer { λ r. ⌜ r ≡ ofRefusal e ⌝ }
-{
-    one_number(b'r', e.number as i64)
-}
-
-// A timecode: its count.
-pub fn of_answer(a: Answer) -> Shown
-    ensures answer { λ r. ⌜ r ≡ ofAnswer a ⌝ }
-{
-    match a {
-        Answer::At(tc) => one_number(0, tc.count),
-        Answer::Refused(e) => of_refusal(e),
     }
 }
 
@@ -144,7 +138,7 @@ fn put_second(out: &mut [u8], used: usize, mark: u8, y: u64) -> usize
 }
 
 // An answer behind what the sheet has, without the line's end; and how much it has then.
-pub fn put_shown(out: &mut [u8], used: usize, s: Shown) -> usize
+fn put_shown(out: &mut [u8], used: usize, s: Shown) -> usize
     ensures answer { λ r. ⌜ r ≡ partsOn (sheet (now (out .entry)) used) s .used ⌝ }
     ensures sheet { λ r. ⌜ now (out .exit) ≡ partsOn (sheet (now (out .entry)) used) s .bytes ⌝ }
 {
@@ -166,4 +160,26 @@ pub fn show(out: &mut [u8], used: usize, s: Shown) -> usize
 {
     let u = put_shown(out, used, s);
     streams::put_byte(out, u, b'\n')
+}
+
+// The length of a text that was laid down, or why it was not.
+fn put_length(out: &mut [u8], used: usize, w: Written) -> usize
+    ensures answer { λ r. ⌜ r ≡ lengthOn (sheet (now (out .entry)) used) w .used ⌝ }
+    ensures sheet { λ r. ⌜ now (out .exit) ≡ lengthOn (sheet (now (out .entry)) used) w .bytes ⌝ }
+{
+    match w {
+        Written::Length(n) => streams::put_signed(out, used, false, n as u64),
+        Written::Refused(e) => put_shown(out, used, each::of_refusal(e)),
+    }
+}
+
+// The answer of a writer as a line behind what the sheet has, with the whole line that it wrote into; and how much it has then.
+pub fn show_written(out: &mut [u8], used: usize, w: Written, line: &[u8]) -> usize
+    ensures answer { λ r. ⌜ r ≡ writtenOn (sheet (now (out .entry)) used) w (now (line .entry)) .used ⌝ }
+    ensures sheet { λ r. ⌜ now (out .exit) ≡ writtenOn (sheet (now (out .entry)) used) w (now (line .entry)) .bytes ⌝ }
+{
+    let a = put_length(out, used, w);
+    let b = streams::put_byte(out, a, b' ');
+    let c = streams::put_text(out, b, line);
+    streams::put_byte(out, c, b'\n')
 }

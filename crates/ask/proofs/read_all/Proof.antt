@@ -8,10 +8,10 @@ use Rattle.ask.proofs.read_all.Statement.{statement}
 use Rattle.ask.proofs.read_all.Tie as tie
 
 abbrev Inv-loop : tie.InvT-loop
-Inv-loop buffer₀ out₀ s₀ turns₀ buffer out s turns = (length buffer ≡ length buffer₀) × (length out ≡ length out₀)
+Inv-loop buffer₀ out₀ g₀ turns₀ buffer out g turns = (length buffer ≡ length buffer₀) × (length out ≡ length out₀)
 
 abbrev μ-loop : tie.MeasureT-loop
-μ-loop buffer₀ out₀ s₀ turns₀ buffer out s turns = turns
+μ-loop buffer₀ out₀ g₀ turns₀ buffer out g turns = turns
 
 pub read-all-spec : {M : Type 1} → statement M
 read-all-spec =
@@ -19,7 +19,6 @@ read-all-spec =
     (tie.spec
     Inv-loop
     μ-loop
-    (λ c κs. search needs)
     (λ c κs. search needs)
     (λ c. search needs)
     (λ c κs. search needs)

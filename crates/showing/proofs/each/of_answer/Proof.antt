@@ -1,12 +1,12 @@
--- `showing::of_answer` meets its contract: case by case.
+-- `showing::each::of_answer` meets its contract: case by case.
 -- Assumes nothing.
 use mir.Syntax.{w64}
 use mir.Val.{toZ, ofZ}
 use mathlib.Core.Path.{_≡_, sym, ap, _∙_}
 use borrow.Author.Needs.{needs}
-use Rattle.showing.specs.Shown.{oneNumber, ofAnswer}
-use Rattle.showing.proofs.of_answer.Statement.{statement}
-use Rattle.showing.proofs.of_answer.Tie as tie
+use Rattle.showing.specs.Each.{oneNumber, ofAnswer}
+use Rattle.showing.proofs.each.of_answer.Statement.{statement}
+use Rattle.showing.proofs.each.of_answer.Tie as tie
 
 back : (c : tie.After-struct-told) → toZ w64 (ofZ w64 (c .before .before .a .given .0 .0 .count)) ≡ c .before .before .a .given .0 .0 .count
 back c = search needs

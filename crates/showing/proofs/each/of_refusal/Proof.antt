@@ -1,4 +1,4 @@
--- `showing::of_refusal` meets its contract: a refusal's number is small.
+-- `showing::each::of_refusal` meets its contract: a refusal's number is small.
 -- Assumes nothing.
 use mathlib.Core.Path.{_≡_, ap, _∙_}
 use lib.IntN.{pos}
@@ -6,9 +6,9 @@ use borrow.Author.Needs.{needs}
 use mir.Syntax.{w64}
 use mir.Val.{SFits, toZ}
 use mir.Facts.{toZ-ofZ}
-use Rattle.showing.specs.Shown.{oneNumber}
-use Rattle.showing.proofs.of_refusal.Statement.{statement}
-use Rattle.showing.proofs.of_refusal.Tie as tie
+use Rattle.showing.specs.Each.{oneNumber}
+use Rattle.showing.proofs.each.of_refusal.Statement.{statement}
+use Rattle.showing.proofs.each.of_refusal.Tie as tie
 
 small : (c : tie.After-one-number) → toZ w64 (c .before .before .args .e .number) ≡ pos (c .before .before .args .e .number)
 small c =

@@ -1,0 +1,67 @@
+-- What is shown of each kind of answer (docs/ASK.md): a word, and its numbers; or the refusal.
+-- Assumes nothing.
+use Prim.Native.Nat.{ℕ}
+use lib.IntN.{ℤ, pos}
+use Rattle.answers.specs.declared.Refusal.{Refusal}
+use Rattle.answers.specs.declared.Counted.{Counted}
+use Rattle.answers.specs.declared.Counted.the-variants as counted
+use Rattle.timecodes.specs.declared.Answer.{Answer}
+use Rattle.timecodes.specs.declared.Answer.the-variants as answer
+use Rattle.film.specs.Film.{formatNumber}
+use Rattle.reading.specs.declared.Read.{Read}
+use Rattle.reading.specs.declared.Read.the-variants as read
+use Rattle.time.specs.declared.Ticked.{Ticked}
+use Rattle.time.specs.declared.Ticked.the-variants as ticked
+use Rattle.time.specs.declared.Timed.{Timed}
+use Rattle.time.specs.declared.Timed.the-variants as timed
+use Rattle.arithmetic.specs.declared.Compared.{Compared}
+use Rattle.arithmetic.specs.declared.Compared.the-variants as compared
+use Rattle.showing.specs.declared.Shown.{Shown}
+
+-- ---- what may be shown
+abbrev pub onlyWord : (word : ℕ) → Shown
+onlyWord word = record { word = word; count = 0; x = pos 0; mark = 0; y = 0 }
+
+abbrev pub oneNumber : (word : ℕ) → ℤ → Shown
+oneNumber word x = record { word = word; count = 1; x = x; mark = 0; y = 0 }
+
+abbrev pub twoNumbers : (word : ℕ) → ℤ → (mark y : ℕ) → Shown
+twoNumbers word x mark y = record { word = word; count = 2; x = x; mark = mark; y = y }
+
+-- ---- of each answer
+-- a refusal is `refused` and its number
+abbrev pub ofRefusal : Refusal → Shown
+ofRefusal e = oneNumber 114 (pos (e .number))
+
+-- of a timecode the count
+abbrev pub ofAnswer : Answer → Shown
+ofAnswer (answer.At tc) = oneNumber 0 (tc .count)
+ofAnswer (answer.Refused e) = ofRefusal e
+
+-- of one that was converted `COUNT RATE`
+abbrev pub ofConverted : Answer → Shown
+ofConverted (answer.At tc) = twoNumbers 0 (tc .count) 32 (tc .rate)
+ofConverted (answer.Refused e) = ofRefusal e
+
+abbrev pub ofCounted : Counted → Shown
+ofCounted (counted.Count z) = oneNumber 0 z
+ofCounted (counted.Refused e) = ofRefusal e
+
+abbrev pub ofTicked : Ticked → Shown
+ofTicked (ticked.Ticks z) = oneNumber 0 z
+ofTicked (ticked.Refused e) = ofRefusal e
+
+-- seconds are `P/Q`
+abbrev pub ofTimed : Timed → Shown
+ofTimed (timed.Seconds p q) = twoNumbers 0 p 47 q
+ofTimed (timed.Refused e) = ofRefusal e
+
+abbrev pub ofCompared : Compared → Shown
+ofCompared (compared.Order z) = oneNumber 0 z
+ofCompared (compared.Refused e) = ofRefusal e
+
+-- a text is `label COUNT` or `footage COUNT FORMAT`
+abbrev pub ofRead : Read → Shown
+ofRead (read.Label tc) = oneNumber 108 (tc .count)
+ofRead (read.Footage tc format) = twoNumbers 102 (tc .count) 32 (formatNumber format)
+ofRead (read.Refused e) = ofRefusal e

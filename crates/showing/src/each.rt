@@ -1,0 +1,92 @@
+// What is shown of each kind of answer: its numbers, or its refusal.
+ghost use mathlib.Core.Path.{_≡_};
+ghost use Rattle.showing.specs.Each.{ofRefusal, ofAnswer, ofConverted, ofCounted, ofTicked, ofTimed, ofCompared, ofRead};
+use crate::Shown;
+use crate::one_number;
+use crate::two_numbers;
+use answers::Counted;
+use answers::Refusal;
+use arithmetic::Compared;
+use reading::Read;
+use time::Ticked;
+use time::Timed;
+use timecodes::Answer;
+
+// A refusal: `refused` and its number.
+pub fn of_refusal(e: Refusal) -> Shown
+    ensures answer { λ r. ⌜ r ≡ ofRefusal e ⌝ }
+{
+    one_number(b'r', e.number as i64)
+}
+
+// A timecode: its count.
+pub fn of_answer(a: Answer) -> Shown
+    ensures answer { λ r. ⌜ r ≡ ofAnswer a ⌝ }
+{
+    match a {
+        Answer::At(tc) => one_number(0, tc.count),
+        Answer::Refused(e) => of_refusal(e),
+    }
+}
+
+// A timecode at the rate that it came to: `COUNT RATE`.
+pub fn of_converted(a: Answer) -> Shown
+    ensures answer { λ r. ⌜ r ≡ ofConverted a ⌝ }
+{
+    match a {
+        Answer::At(tc) => two_numbers(0, tc.count, b' ', tc.rate),
+        Answer::Refused(e) => of_refusal(e),
+    }
+}
+
+// A count.
+pub fn of_counted(a: Counted) -> Shown
+    ensures answer { λ r. ⌜ r ≡ ofCounted a ⌝ }
+{
+    match a {
+        Counted::Count(z) => one_number(0, z),
+        Counted::Refused(e) => of_refusal(e),
+    }
+}
+
+// Ticks.
+pub fn of_ticked(a: Ticked) -> Shown
+    ensures answer { λ r. ⌜ r ≡ ofTicked a ⌝ }
+{
+    match a {
+        Ticked::Ticks(z) => one_number(0, z),
+        Ticked::Refused(e) => of_refusal(e),
+    }
+}
+
+// Seconds: `P/Q`.
+pub fn of_timed(a: Timed) -> Shown
+    ensures answer { λ r. ⌜ r ≡ ofTimed a ⌝ }
+{
+    match a {
+        Timed::Seconds { p, q } => two_numbers(0, p, b'/', q),
+        Timed::Refused(e) => of_refusal(e),
+    }
+}
+
+// An order: -1, 0 or 1.
+pub fn of_compared(a: Compared) -> Shown
+    ensures answer { λ r. ⌜ r ≡ ofCompared a ⌝ }
+{
+    match a {
+        Compared::Order(z) => one_number(0, z),
+        Compared::Refused(e) => of_refusal(e),
+    }
+}
+
+// A text's timecode: `label COUNT` or `footage COUNT FORMAT`.
+pub fn of_read(a: Read) -> Shown
+    ensures answer { λ r. ⌜ r ≡ ofRead a ⌝ }
+{
+    match a {
+        Read::Label(tc) => one_number(b'l', tc.count),
+        Read::Footage(tc, format) => two_numbers(b'f', tc.count, b' ', format.number()),
+        Read::Refused(e) => of_refusal(e),
+    }
+}
+
