@@ -186,4 +186,5 @@ promises = record {
   understood = asking.understood;
   only-understood = asking.only-understood;
   shown-line = showing.shown-line;
+  written-line = showing.written-line;
 }

@@ -195,3 +195,4 @@ pub record Promises : Type 0 where
   pub understood : asking.Understood
   pub only-understood : asking.OnlyUnderstood
   pub shown-line : showing.ShownLine
+  pub written-line : showing.WrittenLine

@@ -13,7 +13,7 @@ use time::Timed;
 use timecodes::Answer;
 
 // A refusal: `refused` and its number.
-pub fn of_refusal(e: Refusal) -> Shown
+pub(crate) fn of_refusal(e: Refusal) -> Shown
     ensures answer { λ r. ⌜ r ≡ ofRefusal e ⌝ }
 {
     one_number(b'r', e.number as i64)
@@ -89,4 +89,3 @@ pub fn of_read(a: Read) -> Shown
         Read::Refused(e) => of_refusal(e),
     }
 }
-

@@ -12,7 +12,6 @@ pub use each::of_compared;
 pub use each::of_converted;
 pub use each::of_counted;
 pub use each::of_read;
-pub use each::of_refusal;
 pub use each::of_ticked;
 pub use each::of_timed;
 
@@ -40,7 +39,7 @@ pub fn only_word(word: u8) -> Shown
 }
 
 // A number, behind a word or alone.
-pub fn one_number(word: u8, x: i64) -> Shown
+pub(crate) fn one_number(word: u8, x: i64) -> Shown
     ensures answer { λ r. ⌜ r ≡ oneNumber word x ⌝ }
 {
     Shown {
@@ -53,7 +52,7 @@ pub fn one_number(word: u8, x: i64) -> Shown
 }
 
 // Two numbers and the mark between them, behind a word or alone.
-pub fn two_numbers(word: u8, x: i64, mark: u8, y: u64) -> Shown
+pub(crate) fn two_numbers(word: u8, x: i64, mark: u8, y: u64) -> Shown
     ensures answer { λ r. ⌜ r ≡ twoNumbers word x mark y ⌝ }
 {
     Shown {
