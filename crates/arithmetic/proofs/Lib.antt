@@ -1,4 +1,5 @@
-pub mod Orders
-pub mod Joined
-pub mod Statements
 pub mod Determined
+pub mod Dividing
+pub mod Orders
+pub mod Joining
+pub mod Statements

@@ -30,7 +30,7 @@ use Rattle.arithmetic.specs.Remainder.{leftOf, remqWhen, remqOf}
 use Rattle.arithmetic.specs.Compare.{orderOf, compareOf}
 use Rattle.arithmetic.specs.Statements.{SumNearest, DifferenceNearest, SumExact, DifferenceExact, ProductNearest, QuotientRemainder, QuotientFloor, RemainderNearest, Ordered, CompareIsOrder}
 use Rattle.arithmetic.proofs.Orders.{order-is}
-use Rattle.arithmetic.proofs.Joined.{joined-nearest, joined-exact}
+use Rattle.arithmetic.proofs.Joining.{joined-nearest, joined-exact}
 
 pub sum-nearest : SumNearest
 sum-nearest = joined-nearest _+ℤ_

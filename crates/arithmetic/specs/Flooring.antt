@@ -13,8 +13,7 @@ use Rattle.answers.specs.declared.Counted.the-variants as counted
 use Rattle.answers.specs.Refusals.{badCount}
 use Rattle.timecodes.specs.Timecode.{recounted}
 use Rattle.timecodes.specs.Admitted.{admits}
-use Rattle.time.specs.Bounds.{badFactor}
-use Rattle.arithmetic.specs.Divisor.{badDivisor}
+use Rattle.arithmetic.specs.Divisor.{divisorWhen}
 
 -- count x q over p, rounded down
 abbrev pub flooredOf : (count p : ℤ) (q : ℕ) → ℤ
@@ -22,7 +21,7 @@ flooredOf count p q = floorZ (count *ℤ pos q) p
 
 -- 5 of the divisor, 7, then 5 of the resulting count
 abbrev pub flooredWhen : (count p : ℤ) (q : ℕ) → List Condition
-flooredWhen count p q = badFactor p q ∷ badDivisor p ∷ badCount (flooredOf count p q) ∷ []
+flooredWhen count p q = divisorWhen p q ++ (badCount (flooredOf count p q) ∷ [])
 
 unfoldable pub flooredCounted : (count p : ℤ) (q : ℕ) → Counted
 flooredCounted count p q = unless counted.Refused (flooredWhen count p q) (counted.Count (flooredOf count p q))

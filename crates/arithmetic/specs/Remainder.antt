@@ -14,8 +14,7 @@ use Rattle.answers.specs.declared.Counted.the-variants as counted
 use Rattle.answers.specs.Refusals.{badCount}
 use Rattle.timecodes.specs.Timecode.{recounted}
 use Rattle.timecodes.specs.Admitted.{admits}
-use Rattle.time.specs.Bounds.{badFactor}
-use Rattle.arithmetic.specs.Divisor.{badDivisor}
+use Rattle.arithmetic.specs.Divisor.{divisorWhen}
 
 -- (count x q rem p)/q at the nearest, halves away from zero
 abbrev pub leftOf : (count p : ℤ) (q : ℕ) → ℤ
@@ -23,7 +22,7 @@ leftOf count p q = nearestZ (remZ (count *ℤ pos q) p) q
 
 -- 5 of the divisor, 7, then 5 of the resulting count
 abbrev pub leftWhen : (count p : ℤ) (q : ℕ) → List Condition
-leftWhen count p q = badFactor p q ∷ badDivisor p ∷ badCount (leftOf count p q) ∷ []
+leftWhen count p q = divisorWhen p q ++ (badCount (leftOf count p q) ∷ [])
 
 unfoldable pub leftCounted : (count p : ℤ) (q : ℕ) → Counted
 leftCounted count p q = unless counted.Refused (leftWhen count p q) (counted.Count (leftOf count p q))

@@ -1,6 +1,7 @@
 -- A sum or difference of two timecodes (BEHAVIOUR: Arithmetic): the exact instant, rounded at the left one's rate.
 -- Assumes nothing.
 use mathlib.Core.List.{List, [], _∷_, _++_}
+use mathlib.Core.Bool.{Bool, true, false}
 use lib.IntN.{ℤ, _+ℤ_, _-ℤ_}
 use Rattle.numbers.specs.Nearest.{nearestZ}
 use Rattle.answers.specs.Order.{Condition, unless}
@@ -23,6 +24,11 @@ joinedWhen op a b = admitsBoth a b ++ (badCount (joinedFrame op a b) ∷ [])
 
 unfoldable pub joined : (ℤ → ℤ → ℤ) → Timecode → Timecode → Answer
 joined op a b = unless Refused (joinedWhen op a b) (At (recounted a (joinedFrame op a b)))
+
+-- the sum, or where it is so said the difference
+abbrev pub sumOr : (minus : Bool) → ℤ → ℤ → ℤ
+sumOr false = _+ℤ_
+sumOr true = _-ℤ_
 
 -- the sum
 abbrev pub addOf : Timecode → Timecode → Answer

@@ -6,7 +6,7 @@ use answers::Verdict;
 use timecodes::Answer;
 use timecodes::Timecode;
 ghost use mathlib.Core.Path.{_≡_};
-ghost use Rattle.arithmetic.specs.Sum.{addOf, subOf};
+ghost use Rattle.arithmetic.specs.Sum.{sumOr, joined, addOf, subOf};
 ghost use Rattle.arithmetic.specs.Product.{mulOf};
 ghost use Rattle.arithmetic.specs.Truncating.{divOf, remOf};
 ghost use Rattle.arithmetic.specs.Flooring.{divqOf};
@@ -22,34 +22,32 @@ pub enum Compared {
     Refused(Refusal),
 }
 
+// Two timecodes joined at the left one's rate: their sum, or their difference. Refuses as `add` does.
+fn joined(a: Timecode, b: Timecode, minus: bool) -> Answer
+    ensures answer { λ r. ⌜ r ≡ joined (sumOr minus) a b ⌝ }
+{
+    match timecodes::admit_both(a, b) {
+        Verdict::Passed => {
+            let x = timecodes::instant_of(a);
+            let y = timecodes::instant_of(b);
+            timecodes::moved(a, counts::joined(x, y, minus, a.rate), a.rate)
+        }
+        Verdict::Refused(e) => Answer::Refused(e),
+    }
+}
+
 // The sum at the left one's rate (vtc's `+`). Refuses 6: no such rate; 5: a count, or the resulting count, is out of bounds.
 pub fn add(a: Timecode, b: Timecode) -> Answer
     ensures answer { λ r. ⌜ r ≡ addOf a b ⌝ }
 {
-    match timecodes::admit_both(a, b) {
-        Verdict::Passed => {
-            let sum = counts::sum(timecodes::instant_of(a), timecodes::instant_of(b), a.rate);
-            timecodes::moved(a, sum, a.rate)
-        }
-        Verdict::Refused(e) => Answer::Refused(e),
-    }
+    joined(a, b, false)
 }
 
 // The difference at the left one's rate (vtc's `-`). Refuses as `add` does.
 pub fn sub(a: Timecode, b: Timecode) -> Answer
     ensures answer { λ r. ⌜ r ≡ subOf a b ⌝ }
 {
-    match timecodes::admit_both(a, b) {
-        Verdict::Passed => {
-            let rest = counts::difference(
-                timecodes::instant_of(a),
-                timecodes::instant_of(b),
-                a.rate,
-            );
-            timecodes::moved(a, rest, a.rate)
-        }
-        Verdict::Refused(e) => Answer::Refused(e),
-    }
+    joined(a, b, true)
 }
 
 // The product with p/q (vtc's `*`); with a whole number it is that with p/1. Refuses 6: no such rate; 5: the count or the factor, or then
