@@ -37,7 +37,8 @@ returns c =
     let tc = s .args .tc in
     c .moved .ensures
     ∙ ap (movedTo tc (tc .rate)) (p .quotient-by .ensures ∙ ap₂ (λ (x y : ℤ). flooredCounted x y (s .args .q)) (count-is (p .before)) (toZ-ofZ (s .fits .p)))
-    ∙ operated (admits tc) (flooredWhen (tc .count) (s .args .p) (s .args .q)) tc (tc .rate) (flooredOf (tc .count) (s .args .p) (s .args .q)) (passed (p .before .before))
+    ∙ operated (admits tc) (flooredWhen (tc .count) (s .args .p) (s .args .q)) tc (tc .rate) (flooredOf (tc .count) (s .args .p) (s .args .q))
+    (passed (p .before .before))
 
 returns-2 : tie.Need-returns-2
 unfolding divqOf

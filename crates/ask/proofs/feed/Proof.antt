@@ -20,7 +20,8 @@ loop-less c =
     let g = c .before .before .before .before .before .before .before .before in
     let t = g .before .before in
     let s = t .before .loop in
-    omega (arith, next-more (t .before .before .before .before .before .args .chunk .now) (s .next) _ (s .buffer) (s .g) (t .loop-test .taken) (ap (λ z. z .next) (g .gather .ensures .0)))
+    let chunk = t .before .before .before .before .before .args .chunk .now in
+    omega (arith, next-more chunk (s .next) _ (s .buffer) (s .g) (t .loop-test .taken) (ap (λ z. z .next) (g .gather .ensures .0)))
 
 pub feed-spec : {M : Type 1} → statement M
 feed-spec =
