@@ -17,7 +17,10 @@ use Rattle.asking.specs.Table.{Row, row, rows, rowAt, isPlain, same, isN
 pub plain-at : (w : List ℕ) → isPlain w ≡ true → (i : ℕ) → i < length w → getD w i 0 ≡ 32 → ⊥
 unfolding isPlain
 plain-at [] p i h e = omega arith
-plain-at (b ∷ w) p zero h e = let z : _≡_ {A = Bool} true false = sym (eq-eqb b 32 e) ∙ not-true (eqb b 32) (and-eq-true-iff (not (eqb b 32)) (isPlain w) .0 p .0) in let y : _≡_ {A = ℕ} 0 1 = cc in omega arith
+plain-at (b ∷ w) p zero h e =
+    let z : _≡_ {A = Bool} true false = sym (eq-eqb b 32 e) ∙ not-true (eqb b 32) (and-eq-true-iff (not (eqb b 32)) (isPlain w) .0 p .0) in
+    let y : _≡_ {A = ℕ} 0 1 = cc in
+    omega arith
 plain-at (b ∷ w) p (suc i) h e = plain-at w (and-eq-true-iff (not (eqb b 32)) (isPlain w) .0 p .1) i (omega arith) e
 
 -- ---- the same bytes

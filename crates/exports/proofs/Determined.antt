@@ -142,7 +142,9 @@ pub tzq-write-label-determined : Determined tzq-write-label.ended tzq-write-labe
 tzq-write-label-determined κs a asked x y p q = ap (λ z. (z, x .1)) (p .0 ∙ sym (q .0)) ∙ ap (λ z. (y .0, (x .1 .0, (z, x .1 .1 .1)))) (p .1 ∙ sym (q .1))
 
 pub tzq-write-footage-determined : Determined tzq-write-footage.ended tzq-write-footage-reads.Asked tzq-write-footage-reads.Learnt
-tzq-write-footage-determined κs a asked x y p q = ap (λ z. (z, x .1)) (p .0 ∙ sym (q .0)) ∙ ap (λ z. (y .0, (x .1 .0, (x .1 .1 .0, (z, x .1 .1 .1 .1))))) (p .1 ∙ sym (q .1))
+tzq-write-footage-determined κs a asked x y p q =
+    ap (λ z. (z, x .1)) (p .0 ∙ sym (q .0)) ∙ ap (λ z. (y .0, (x .1 .0, (x .1 .1 .0, (z, x .1 .1 .1 .1))))) (p .1 ∙ sym (q .1))
 
 pub tzq-write-runtime-determined : Determined tzq-write-runtime.ended tzq-write-runtime-reads.Asked tzq-write-runtime-reads.Learnt
-tzq-write-runtime-determined κs a asked x y p q = ap (λ z. (z, x .1)) (p .0 ∙ sym (q .0)) ∙ ap (λ z. (y .0, (x .1 .0, (x .1 .1 .0, (z, x .1 .1 .1 .1))))) (p .1 ∙ sym (q .1))
+tzq-write-runtime-determined κs a asked x y p q =
+    ap (λ z. (z, x .1)) (p .0 ∙ sym (q .0)) ∙ ap (λ z. (y .0, (x .1 .0, (x .1 .1 .0, (z, x .1 .1 .1 .1))))) (p .1 ∙ sym (q .1))

@@ -241,7 +241,8 @@ module _ (chunk : List ℕ) (f : After) (l : f .eaten < length chunk) where
             (
               long .1 ∙ s .sheet-long,
               fed-line rest (f .eaten) m t
-                  ∙ ap (fedFrom (e .step .next) (lineEnded (e .step .ended) e (m .sheet))) (drop-drop (e .step .next - f .eaten) (f .eaten) chunk ∙ ap (λ k. drop k chunk) place),
+                  ∙ ap (fedFrom (e .step .next) (lineEnded (e .step .ended) e (m .sheet)))
+                  (drop-drop (e .step .next - f .eaten) (f .eaten) chunk ∙ ap (λ k. drop k chunk) place),
             ),
           )
 

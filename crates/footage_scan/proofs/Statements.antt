@@ -101,7 +101,14 @@ module _ (m : Bool) (feet frames : ℕ) (h : feet < 10 ^ 9) (k : frames < 10 ^ 9
       footage-reads (withMinus m ((d ++ 43 ∷ e) ++ pointed w)) (footageParts m d e w)
       (record {
         body = (d ++ 43 ∷ e) ++ pointed w;
-        shape = record { front = d ++ 43 ∷ e; shape = more (i .is) 43 refl (last (j .is)); enough = omega arith; digits = digits; allowed = λ z. omega arith; all = refl };
+        shape = record {
+          front = d ++ 43 ∷ e;
+          shape = more (i .is) 43 refl (last (j .is));
+          enough = omega arith;
+          digits = digits;
+          allowed = λ z. omega arith;
+          all = refl;
+        };
         text = refl;
       })
       (rw (short, not-long d i, not-long e j))
@@ -115,7 +122,8 @@ footage-text-back m feet frames h k = (
   λ perf j. let f = written-short 1 perf (omega arith) j in
       let w = decimal 1 perf in
       ap (λ (x : List ℕ). footageScan (withMinus m x))
-      (sym (append-assoc (decimal 1 feet) (43 ∷ decimal 2 frames) (46 ∷ w)) ∙ ap (λ (x : List ℕ). (decimal 1 feet ++ 43 ∷ decimal 2 frames) ++ x) (sym (point-some w (f .is .some))))
+      (sym (append-assoc (decimal 1 feet) (43 ∷ decimal 2 frames) (46 ∷ w))
+      ∙ ap (λ (x : List ℕ). (decimal 1 feet ++ 43 ∷ decimal 2 frames) ++ x) (sym (point-some w (f .is .some))))
       ∙ text-back m feet frames h k w (f .is .digits) (not-long w f)
       ∙ ap (fittingFootage m feet frames) (lt-ltb 0 (length w) (f .is .some)),
 )

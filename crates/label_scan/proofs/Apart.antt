@@ -26,7 +26,10 @@ module _ (d : List ℕ) (c : ℕ) (r : List ℕ) (is : IsField d) (digit : isDig
   other-shape n fields t =
       let body = sign-one n m (t .body) (d ++ c ∷ r) (body-begins labelGrammar (t .body) fields [] (t .shape)) (field-first d (c ∷ r) is) (t .text) .1 in
       let s = t .shape in
-      let found = sym (body-front labelGrammar (t .body) fields [] s) ∙ ap (fieldsIn ColonOrSemicolon 4) body ∙ fields-complete ColonOrSemicolon (c ∷ r) digit divider 4 d (d ∷ []) (last is) in
+      let found =
+      sym (body-front labelGrammar (t .body) fields [] s)
+      ∙ ap (fieldsIn ColonOrSemicolon 4) body
+      ∙ fields-complete ColonOrSemicolon (c ∷ r) digit divider 4 d (d ∷ []) (last is) in
       let e : [] ≡ c ∷ r =
       sym (body-behind labelGrammar (t .body) fields [] s)
       ∙ ap (drop (length (s .front))) body

@@ -30,7 +30,12 @@ has-label : (l : List ℕ) (long : Bool) → HasTextShape labelGrammar l long �
 has-label l long h =
     let p = h .parts in
     let e = no-tail (p .tail) (h .shape .shape .allowed) in
-    record { minus = p .minus; fields = p .fields; shape = as-label l p (h .shape); digits = ap (λ (x : List ℕ). someLong labelGrammar (textParts (p .minus) (p .fields) x)) e ∙ h .digits }
+    record {
+      minus = p .minus;
+      fields = p .fields;
+      shape = as-label l p (h .shape);
+      digits = ap (λ (x : List ℕ). someLong labelGrammar (textParts (p .minus) (p .fields) x)) e ∙ h .digits;
+    }
 
 -- ---- each fit
 pub label-reads : LabelReads

@@ -97,7 +97,8 @@ hours-few rate count h k =
 pub label-bounds : LabelBounds
 unfolding labelSections
 label-bounds rate count h k =
-    let wide : width (hoursIn (labelFields rate count)) ≤ 4 = width-at-most (hoursIn (labelFields rate count)) 4 (omega arith) (omega (arith, hours-few rate count h k)) in
+    let hours = hoursIn (labelFields rate count) in
+    let wide : width hours ≤ 4 = width-at-most hours 4 (omega arith) (omega (arith, hours-few rate count h k)) in
     let long = label-length rate count h in
     (omega (arith, sign-most (isNeg count)), omega (arith, sign-most (isNeg count)))
 

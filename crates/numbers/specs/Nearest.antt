@@ -1,4 +1,5 @@
--- The nearest whole number, halves away from zero (BEHAVIOUR: Time, Arithmetic): what it is, and the function that computes it. Floored: Floor.antt; truncated: Truncate.antt.
+-- The nearest whole number, halves away from zero (BEHAVIOUR: Time, Arithmetic): what it is, and the function that computes it.
+-- Floored: Floor.antt; truncated: Truncate.antt.
 -- Assumes nothing.
 use mathlib.Core.Path.{_≡_}
 use Prim.Native.Nat.{ℕ, _+_, _*_, _/_, _≤_}

@@ -1,4 +1,5 @@
--- Division that truncates, and its remainder (BEHAVIOUR: Arithmetic): what they are; lib.Signed's `quotZ` and `remZ` compute them. Nearest: Nearest.antt; floored: Floor.antt.
+-- Division that truncates, and its remainder (BEHAVIOUR: Arithmetic): what they are; lib.Signed's `quotZ` and `remZ` compute them.
+-- Nearest: Nearest.antt; floored: Floor.antt.
 -- Assumes nothing.
 use mathlib.Core.Path.{_≡_}
 use Prim.Native.Nat.{_<_}

@@ -1,6 +1,7 @@
 -- Each row of the starred cases holds by computation; where no rate is named, once the rate is taken for one.
 -- Assumes nothing.
 use mathlib.Core.Path.{refl}
+use lib.ListN.{drop}
 use Rattle.numbers.specs.Nearest.{nearestN}
 use Rattle.digits.specs.Digits.{valueFrom, span, digitsOf, widthBy, width, decimal}
 use Rattle.answers.specs.Refusals.{held}
@@ -27,7 +28,7 @@ use Rattle.arithmetic.specs.Sum.{joined}
 use Rattle.arithmetic.specs.Truncating.{divOf}
 use Rattle.arithmetic.specs.Flooring.{divqOf}
 use Rattle.chains.specs.Chain.{convertOf}
-use Rattle.promises.specs.Cases.{StarredCases}
+use Rattle.promises.specs.Cases.{All, cases, StarredCases}
 
 pub starred-cases : StarredCases
 unfolding nearestN valueFrom span digitsOf widthBy width decimal held rates isRate rateRow
@@ -35,4 +36,6 @@ unfolding nearestN valueFrom span digitsOf widthBy width decimal held rates isRa
     fieldThen byteThen signOf tailOf fieldsIn fieldsFound fieldsLong textScan labelScan footageScan labelRead footageRead readText labelFields
     labelSections clockText sectionsText labelText feetText footageText isFraction instant joined divOf divqOf convertOf
 starred-cases =
-    ((refl, refl), ((refl, refl), (refl, ((refl, refl), ((refl, refl), ((refl, refl), ((refl, refl), ((refl, refl), (refl, ((refl, λ rate r. simp r), ((refl, λ rate r. simp r), (λ rate r. simp r, (λ rate r. simp r, (refl, (refl, tt)))))))))))))))
+    let behind-labels : All (drop 9 cases) =
+    ((refl, λ rate r. simp r), ((refl, λ rate r. simp r), (λ rate r. simp r, (λ rate r. simp r, (refl, (refl, tt)))))) in
+    ((refl, refl), ((refl, refl), (refl, ((refl, refl), ((refl, refl), ((refl, refl), ((refl, refl), ((refl, refl), (refl, behind-labels)))))))))

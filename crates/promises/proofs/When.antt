@@ -67,7 +67,8 @@ second-number tc answer h = by (judged (admits tc)) refl answer h
     by (verdict.Refused r) e answer h = ap seconds.numberOf (h .refused r e) ∙ sym (judged-first (admits tc) (verdict.Refused r) e)
 
 pub refused-when : RefusedWhen
-unfolding labelDraft footageDraft runtimeDraft sectioned framesAt ticksAt secondsAt ticksOf joined compareOf mulOf divOf remOf divqOf remqOf negOf absOf rebaseOf convertOf rateAt formatAt minuteAt
+unfolding labelDraft footageDraft runtimeDraft sectioned framesAt ticksAt secondsAt ticksOf
+    joined compareOf mulOf divOf remOf divqOf remqOf negOf absOf rebaseOf convertOf rateAt formatAt minuteAt
 refused-when = record {
   write-label = λ tc line place. number-behind (labelWhen tc) line place (labelText (tc .rate) (tc .count));
   write-footage = λ tc format line place. number-behind (footageWhen tc format) line place (footageText (formatIn format) (tc .count));

@@ -53,5 +53,6 @@ module _ (l : List ℕ) (rate : ℕ) (rated : isRate rate ≡ true) where
   unfolding runtimeFrame
   gives-count z x =
       let p = x .parts in
+      let frames = signed (p .minus) (timeOf p * rateRow rate .numerator) in
       gives-held p (x .shape) (x .short)
-      ∙ sym (ap (λ (y : ℤ). placed rate (held y)) (nearest-one (signed (p .minus) (timeOf p * rateRow rate .numerator)) (1_000_000 * rateRow rate .denominator) z (step p) (x .nearest)))
+      ∙ sym (ap (λ (y : ℤ). placed rate (held y)) (nearest-one frames (1_000_000 * rateRow rate .denominator) z (step p) (x .nearest)))

@@ -104,7 +104,9 @@ module _ (d : Dividers) (most : ℕ) (text : List ℕ) (at : ℕ) (s : Scanned) 
       pub keeping-last : Other ≡ pastIf (lookedFor (left - 1) (dividerOf d)) (t .next .at) (drop (t .next .at) text) → fieldsFound d most text at ≡ t
       keeping-last e =
           after-field
-          ∙ ap (joined s) (byte-other (lookedFor (left - 1) (dividerOf d)) (oneField field) (λ rest. fieldAnd field (fieldsIn d (left - 1) rest)) (t .next .at) (drop (t .next .at) text) e)
+          ∙ ap (joined s)
+          (byte-other (lookedFor (left - 1) (dividerOf d)) (oneField field) (λ rest. fieldAnd field (fieldsIn d (left - 1) rest))
+          (t .next .at) (drop (t .next .at) text) e)
           ∙ joined-one s f field field-is
           ∙ sym kept
 
@@ -116,7 +118,9 @@ module _ (d : Dividers) (most : ℕ) (text : List ℕ) (at : ℕ) (s : Scanned) 
           rw (begins, kept) record {
             same =
                 after-field
-                ∙ ap (joined s) (byte-next (lookedFor (left - 1) (dividerOf d)) (oneField field) (λ rest. fieldAnd field (fieldsIn d (left - 1) rest)) text (t .next .at) next e)
+                ∙ ap (joined s)
+                (byte-next (lookedFor (left - 1) (dividerOf d)) (oneField field) (λ rest. fieldAnd field (fieldsIn d (left - 1) rest))
+                text (t .next .at) next e)
                 ∙ joined-and s f field field-is next (fieldsIn d (left - 1) (drop (next .at) text)) (w ∙ ap (λ (x : Scanned). cursor (x .next .at + 1)) kept);
             begins = refl;
             room = omega (arith, k .room);

@@ -88,7 +88,8 @@ module _ (s : Sheet) where
     parts-laid = by (eqb (a .count) 0) (eqb (a .count) 1)
       where
         by : (x y : Bool)
-            → (let t = cond x (saidText (a .word)) (cond y (wordText (a .word) ++ countText (a .x)) (wordText (a .word) ++ (countText (a .x) ++ secondText (a .mark) (a .y)))) in
+            → (let second = wordText (a .word) ++ (countText (a .x) ++ secondText (a .mark) (a .y)) in
+            let t = cond x (saidText (a .word)) (cond y (wordText (a .word) ++ countText (a .x)) second) in
             s .used + length t ≤ length (s .bytes)
             → Laid s (cond x (saidOn s (a .word)) (cond y (firstOn s a) (secondOn (firstOn s a) (a .mark) (a .y)))) t)
         by true y h = said-laid (a .word) h

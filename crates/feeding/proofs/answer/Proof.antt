@@ -20,7 +20,12 @@ add-result c =
     (laid-fits (a .out .now) (a .used) (answerText (take (c .before .before .before .before .before .before .least .result - 0) (a .buffer .now))))
 
 returns : tie.Need-returns
-returns c = let a = c .before .before .before .before .before .before .before .before .before .args in answer-is (a .buffer .now) (a .g) (a .out .now) (a .used) _ (c .before .before .before .before .before .before .least .ensures) _ _ _ (c .before .before .before .answer .ensures .0) (c .before .before .before .answer .ensures .1) (c .length .ensures)
+returns c =
+    let answered = c .before .before .before in
+    let kept = answered .before .before .before in
+    let a = kept .before .before .before .args in
+    answer-is (a .buffer .now) (a .g) (a .out .now) (a .used) _ (kept .least .ensures) _ _ _
+    (answered .answer .ensures .0) (answered .answer .ensures .1) (c .length .ensures)
 
 pub answer-spec : {M : Type 1} → statement M
 answer-spec =

@@ -21,19 +21,27 @@ loop-holds c = run-start _ _
 
 loop-less : tie.Need-loop-less Inv-loop μ-loop
 loop-less c =
-    let s = c .before .before .before .before .before .before .before .before .before .loop in
+    let stepped = c .before .before .before .before in
+    let tested = stepped .before .before .before in
+    let turn = tested .before .before in
+    let chunk = turn .before .before .before .before .args .chunk .now in
+    let s = turn .loop in
     let f = fedAt (s .buffer) (s .out) (s .f) in
-    let l = on-within (c .before .before .before .before .before .before .before .before .before .before .before .before .before .args .chunk .now) f _ (c .before .before .before .before .before .before .before .before .goes-on .ensures) (c .before .before .before .before .before .before .before .if1 .taken) in
-    let e = ap (λ z. z .eaten) (steps-is (c .before .before .before .before .before .before .before .before .before .before .before .before .before .args .chunk .now) (s .buffer) (s .out) (s .f) _ _ _ (c .before .before .before .before .step .ensures)) in
-    omega (arith, l, e, step-more (c .before .before .before .before .before .before .before .before .before .before .before .before .before .args .chunk .now) f l)
+    let l = on-within chunk f _ (tested .before .goes-on .ensures) (tested .if1 .taken) in
+    let e = ap (λ z. z .eaten) (steps-is chunk (s .buffer) (s .out) (s .f) _ _ _ (stepped .step .ensures)) in
+    omega (arith, l, e, step-more chunk f l)
 
 loop-again : tie.Need-loop-again Inv-loop μ-loop
 loop-again c =
-    let s = c .before .before .before .before .before .before .before .before .before .loop in
+    let stepped = c .before .before .before .before in
+    let tested = stepped .before .before .before in
+    let turn = tested .before .before in
+    let chunk = turn .before .before .before .before .args .chunk .now in
+    let s = turn .loop in
     let f = fedAt (s .buffer) (s .out) (s .f) in
-    let l = on-within (c .before .before .before .before .before .before .before .before .before .before .before .before .before .args .chunk .now) f _ (c .before .before .before .before .before .before .before .before .goes-on .ensures) (c .before .before .before .before .before .before .before .if1 .taken) in
-    let r = on-room (c .before .before .before .before .before .before .before .before .before .before .before .before .before .args .chunk .now) f _ (c .before .before .before .before .before .before .before .before .goes-on .ensures) (c .before .before .before .before .before .before .before .if1 .taken) in
-    rw (steps-is (c .before .before .before .before .before .before .before .before .before .before .before .before .before .args .chunk .now) (s .buffer) (s .out) (s .f) _ _ _ (c .before .before .before .before .step .ensures)) (run-turn (c .before .before .before .before .before .before .before .before .before .before .before .before .before .args .chunk .now) f l _ (s .inv) r)
+    let l = on-within chunk f _ (tested .before .goes-on .ensures) (tested .if1 .taken) in
+    let r = on-room chunk f _ (tested .before .goes-on .ensures) (tested .if1 .taken) in
+    rw (steps-is chunk (s .buffer) (s .out) (s .f) _ _ _ (stepped .step .ensures)) (run-turn chunk f l _ (s .inv) r)
 
 same-length : tie.Need-same-length Inv-loop μ-loop
 same-length c = c .before .before .loop .inv .buffer-long
@@ -43,8 +51,10 @@ same-length-2 c = c .before .before .loop .inv .sheet-long
 
 returns : tie.Need-returns Inv-loop μ-loop
 returns c =
-    let s = c .before .before .loop in
-    let e = run-done (c .before .before .before .before .before .before .args .chunk .now) (fedAt (s .buffer) (s .out) (s .f)) _ (c .before .goes-on .ensures) _ (s .inv) (c .if1 .left) in
+    let turn = c .before .before in
+    let chunk = turn .before .before .before .before .args .chunk .now in
+    let s = turn .loop in
+    let e = run-done chunk (fedAt (s .buffer) (s .out) (s .f)) _ (c .before .goes-on .ensures) _ (s .inv) (c .if1 .left) in
     (sym (ap fedAnswer e), (sym (ap (λ z. z .machine .buffer) e), sym (ap (λ z. z .machine .sheet .bytes) e)))
 
 pub feed-spec : {M : Type 1} → statement M

@@ -10,7 +10,10 @@ returns : tie.Need-returns
 returns c = let a = c .before .before .before .before .args in finished-none (a .buffer .now) (a .out .now) (a .g) (sym (c .before .is-empty .ensures) ∙ c .if1 .taken)
 
 returns-2 : tie.Need-returns-2
-returns-2 c = let a = c .before .before .before .before .before .before .before .before .args in finished-last (a .buffer .now) (a .out .now) (a .g) _ _ (sym (c .before .before .before .before .before .is-empty .ensures) ∙ c .before .before .before .before .if1 .left) (c .before .before .answer .ensures)
+returns-2 c =
+    let tested = c .before .before .before .before in
+    let a = tested .before .before .before .before .args in
+    finished-last (a .buffer .now) (a .out .now) (a .g) _ _ (sym (tested .before .is-empty .ensures) ∙ tested .if1 .left) (c .before .before .answer .ensures)
 
 pub finish-spec : {M : Type 1} → statement M
 finish-spec = tie.close (tie.spec (λ c κs. search needs) returns (λ c κs. search needs) (λ c. search needs) returns-2)

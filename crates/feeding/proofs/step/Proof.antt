@@ -6,10 +6,18 @@ use Rattle.feeding.proofs.step.Statement.{statement}
 use Rattle.feeding.proofs.step.Tie as tie
 
 returns : tie.Need-returns
-returns c = let a = c .before .before .before .before .before .before .before .before .before .before .before .before .before .before .before .args in step-end (a .chunk .now) (a .buffer .now) (a .out .now) (a .f) _ _ (c .before .before .before .before .before .before .before .before .before .before .gather .ensures) _ _ _ (c .before .before .before .before .before .before .if1 .taken) (c .new .ensures) (c .before .before .before .answer .ensures)
+returns c =
+    let tested = c .before .before .before .before .before .before in
+    let gathered = tested .before .before .before .before in
+    let a = gathered .before .before .before .before .before .args in
+    step-end (a .chunk .now) (a .buffer .now) (a .out .now) (a .f) _ _ (gathered .gather .ensures) _ _ _
+    (tested .if1 .taken) (c .new .ensures) (c .before .before .before .answer .ensures)
 
 returns-2 : tie.Need-returns-2
-returns-2 c = let a = c .before .before .before .before .before .before .before .before .before .args in step-goes (a .chunk .now) (a .buffer .now) (a .out .now) (a .f) _ _ (c .before .before .before .before .gather .ensures) (c .if1 .left)
+returns-2 c =
+    let gathered = c .before .before .before .before in
+    let a = gathered .before .before .before .before .before .args in
+    step-goes (a .chunk .now) (a .buffer .now) (a .out .now) (a .f) _ _ (gathered .gather .ensures) (c .if1 .left)
 
 pub step-spec : {M : Type 1} → statement M
 step-spec =

@@ -12,8 +12,9 @@ use Rattle.footage_writer.proofs.put_marker.Tie as tie
 
 returns : tie.Need-returns
 returns c =
-    let a = c .before .before .before .before .before .before .before .before .args in
-    let some = marker-some (a .format) (a .perf) (sym (c .before .before .before .before .before .before .allows-perf-field .ensures) ∙ c .before .before .before .before .before .if1 .taken) in
+    let tested = c .before .before .before .before .before in
+    let a = tested .before .before .before .args in
+    let some = marker-some (a .format) (a .perf) (sym (tested .before .allows-perf-field .ensures) ∙ tested .if1 .taken) in
     c .before .before .put-marked .ensures
     ∙ ap (laid (a .part .now)) (ap (λ d. 46 ∷ d) (decimal-wide 1 (a .perf) _ (c .before .before .before .width-of .ensures)) ∙ sym some)
 

@@ -10,9 +10,10 @@ use Rattle.footage_writer.proofs.write_footage.Tie as tie
 
 returns : tie.Need-returns
 returns c =
-    let a = c .before .before .before .before .before .before .before .before .before .args in
+    let told = c .before .before .before .before .before in
+    let a = told .before .before .before .before .args in
     meets-same (a .line .now) (a .place) (footageDraft (a .tc) (a .format)) _ _ _
-    (draft-in (a .tc) (a .format) _ (sym (c .before .before .before .before .before .before .before .format-at .ensures) ∙ c .before .before .before .before .before .chosen .given .1))
+    (draft-in (a .tc) (a .format) _ (sym (told .before .before .format-at .ensures) ∙ told .chosen .given .1))
     (c .before .before .write-in .ensures)
 
 returns-2 : tie.Need-returns-2

@@ -24,15 +24,19 @@ passed c = sym (c .before .before .admit .ensures) ∙ c .enum-told .given .1
 returns : tie.Need-returns
 unfolding footageText
 returns c =
-    let a = c .before .before .before .before .before .before .before .before .before .before .before .before .before .args in
+    let feet = c .before .before .before .before in
+    let sign = feet .before .before .before in
+    let told = sign .before .before in
+    let a = told .before .before .before .before .args in
     let tc = a .tc in
-    let valid = admits-valid tc (judged-clear (admits tc) (passed (c .before .before .before .before .before .before .before .before .before))) in
+    let valid = admits-valid tc (judged-clear (admits tc) (passed told)) in
     let back : toZ w64 (ofZ w64 (tc .count)) ≡ tc .count = search needs in
-    let minus = c .before .before .before .before .before .before .before .below-zero .ensures ∙ ap isNeg back in
-    let size = c .before .before .before .before .before .magnitude .ensures ∙ ap natAbs back in
-    let footage = c .before .before .before .before .feet-and-frames .ensures ∙ ap (footageIn (a .format)) size ∙ footageIn-in (a .format) (natAbs (tc .count)) (valid-count-le tc valid) in
+    let minus = sign .below-zero .ensures ∙ ap isNeg back in
+    let size = feet .before .magnitude .ensures ∙ ap natAbs back in
+    let few = footageIn-in (a .format) (natAbs (tc .count)) (valid-count-le tc valid) in
+    let footage = feet .feet-and-frames .ensures ∙ ap (footageIn (a .format)) size ∙ few in
     let same = ap₂ (λ m f. Text (feetText m (a .format) f)) minus footage in
-    meets-passed (a .line .now) (a .place) (admits tc) (footageText (a .format) (tc .count)) _ _ (passed (c .before .before .before .before .before .before .before .before .before))
+    meets-passed (a .line .now) (a .place) (admits tc) (footageText (a .format) (tc .count)) _ _ (passed told)
     (meets-same (a .line .now) (a .place) _ _ _ _ same (c .before .before .write-parts .ensures))
 
 returns-2 : tie.Need-returns-2

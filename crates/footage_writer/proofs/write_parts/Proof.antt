@@ -30,14 +30,16 @@ put-parts-requires c κs = let a = c .before .before .before .before .before .ar
 
 returns : tie.Need-returns
 returns c =
-    let a = c .before .before .before .before .before .before .before .before .args in
-    meets-in (a .line .now) (a .place) (feetText (a .minus) (a .format) (a .footage)) _ _ (c .before .before .before .before .before .before .parts-length .ensures) (c .before .before .before .before .before .room .ensures) _
-    (c .before .before .before .before .if1 .taken) (c .before .before .put-parts .ensures)
+    let tested = c .before .before .before .before in
+    let a = tested .before .before .before .before .args in
+    meets-in (a .line .now) (a .place) (feetText (a .minus) (a .format) (a .footage)) _ _
+    (tested .before .before .parts-length .ensures) (tested .before .room .ensures) _ (tested .if1 .taken) (c .before .before .put-parts .ensures)
 
 returns-2 : tie.Need-returns-2
 returns-2 c =
     let a = c .before .before .before .before .args in
-    meets-out (a .line .now) (a .place) (feetText (a .minus) (a .format) (a .footage)) _ _ (c .before .before .parts-length .ensures) (c .before .room .ensures) (c .if1 .left)
+    meets-out (a .line .now) (a .place) (feetText (a .minus) (a .format) (a .footage)) _ _
+    (c .before .before .parts-length .ensures) (c .before .room .ensures) (c .if1 .left)
 
 pub write-parts-spec : {M : Type 1} → statement M
 write-parts-spec =

@@ -15,7 +15,8 @@ returns c =
     let start = c .before .before .before .before .before in
     let tc = start .args .tc in
     let back : toZ w64 (ofZ w64 (tc .count)) ≡ tc .count = search needs in
-    sections-made tc _ _ _ (start .pre) (c .before .before .before .magnitude .ensures ∙ ap natAbs back) (c .below-zero .ensures ∙ ap isNeg back) (c .before .before .sections .ensures)
+    sections-made tc _ _ _ (start .pre) (c .before .before .before .magnitude .ensures ∙ ap natAbs back) (c .below-zero .ensures ∙ ap isNeg back)
+    (c .before .before .sections .ensures)
 
 pub label-sections-spec : {M : Type 1} → statement M
 label-sections-spec =

@@ -21,10 +21,16 @@ fit c =
     omega (arith, c .before .sections-length .ensures, sections-same (framesMark (a .rate)) (a .s))
 
 sub-put-field : tie.Need-sub-put-field
-sub-put-field c = omega (arith, fit (c .before .before .before .before .before), sections-length (framesMark (c .before .before .before .before .before .before .before .before .args .rate)) (c .before .before .before .before .before .before .before .before .args .s))
+sub-put-field c =
+    let tested = c .before .before .before .before .before in
+    let a = tested .before .before .before .args in
+    omega (arith, fit tested, sections-length (framesMark (a .rate)) (a .s))
 
 part-put-field-start : tie.Need-part-put-field-start
-part-put-field-start c = omega (arith, fit (c .before .before .before .before .before), sections-length (framesMark (c .before .before .before .before .before .before .before .before .args .rate)) (c .before .before .before .before .before .before .before .before .args .s))
+part-put-field-start c =
+    let tested = c .before .before .before .before .before in
+    let a = tested .before .before .before .args in
+    omega (arith, fit tested, sections-length (framesMark (a .rate)) (a .s))
 
 returns : tie.Need-returns
 unfolding sectionsText

@@ -28,7 +28,9 @@ returns-2 : tie.Need-returns-2
 unfolding sectioned
 returns-2 c =
     let tc = c .before .before .before .before .args .tc in
-    sym (judged-refused (admits tc) _ (sym (c .before .before .before .admit .ensures) ∙ c .before .e .given .1) Refused (Sections (labelSections (tc .rate) (tc .count))))
+    sym
+    (judged-refused (admits tc) _ (sym (c .before .before .before .admit .ensures) ∙ c .before .e .given .1) Refused
+    (Sections (labelSections (tc .rate) (tc .count))))
 
 pub sections-spec : {M : Type 1} → statement M
 sections-spec =

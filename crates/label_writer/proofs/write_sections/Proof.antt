@@ -34,9 +34,10 @@ part-put-sections-start c = omega (arith, fit c)
 
 returns : tie.Need-returns
 returns c =
-    let a = c .before .before .before .before .before .before .before .before .args in
-    meets-in (a .line .now) (a .place) (sectionsText (framesMark (a .rate)) (a .s)) _ _ (long (c .before .before .before .before .before .before)) (c .before .before .before .before .before .room .ensures) _
-    (c .before .before .before .before .if1 .taken) (c .before .before .put-sections .ensures)
+    let tested = c .before .before .before .before in
+    let a = tested .before .before .before .before .args in
+    meets-in (a .line .now) (a .place) (sectionsText (framesMark (a .rate)) (a .s)) _ _ (long (tested .before .before)) (tested .before .room .ensures) _
+    (tested .if1 .taken) (c .before .before .put-sections .ensures)
 
 returns-2 : tie.Need-returns-2
 returns-2 c =

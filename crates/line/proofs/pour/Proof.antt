@@ -8,9 +8,11 @@ use Rattle.line.proofs.pour.Tie as tie
 
 returns : tie.Need-returns
 returns c =
-    let a = c .before .before .before .before .before .before .before .before .before .before .before .before .before .args in
-    let e = c .before .before .before .before .before .before .before .feed .ensures in
-    (taken-whole (a .buffer .now) (a .out .now) (a .g) (a .chunk .now) (c .before .before .before .before .before .before .before .before .before .before .before .before .before .pre .1), (ap (λ z. z .gathered) (e .0), e .1 .0))
+    let fed = c .before .before .before .before .before .before .before in
+    let start = fed .before .before .before .before .before .before in
+    let a = start .args in
+    let e = fed .feed .ensures in
+    (taken-whole (a .buffer .now) (a .out .now) (a .g) (a .chunk .now) (start .pre .1), (ap (λ z. z .gathered) (e .0), e .1 .0))
 
 pub pour-spec : {M : Type 1} → statement M
 pour-spec =

@@ -25,15 +25,18 @@ write-timecode-requires c κs = subst Sound (held (c .before .before)) (line-sou
 returns : tie.Need-returns
 unfolding answerText
 returns c =
-    let a = c .before .before .before .before .before .before .before .before .before .before .args in
-    meets-same (a .out .now) (a .place) (Text (answerText (a .input .now))) _ _ _ (ap (λ x. Text (heldText x)) (sym (held (c .before .before .before .before .before)))) (c .before .before .write-timecode .ensures)
+    let told = c .before .before .before .before .before in
+    let a = told .before .before .before .before .before .args in
+    meets-same (a .out .now) (a .place) (Text (answerText (a .input .now))) _ _ _
+    (ap (λ x. Text (heldText x)) (sym (held told))) (c .before .before .write-timecode .ensures)
 
 returns-2 : tie.Need-returns-2
 unfolding answerText
 returns-2 c =
-    let a = c .before .before .before .before .before .before .before .before .before .before .before .args in
-    let same =
-    ap (λ (n : ℕ). Text (refusedText n)) (c .before .before .before .before .wide .ensures) ∙ ap (λ x. Text (heldText x)) (sym (refused (c .before .before .before .before .before .before))) in
+    let number = c .before .before .before .before in
+    let told = number .before .before in
+    let a = told .before .before .before .before .before .args in
+    let same = ap (λ (n : ℕ). Text (refusedText n)) (number .wide .ensures) ∙ ap (λ x. Text (heldText x)) (sym (refused told)) in
     meets-same (a .out .now) (a .place) (Text (answerText (a .input .now))) _ _ _ same (c .before .before .write-refused .ensures)
 
 pub answer-spec : {M : Type 1} → statement M

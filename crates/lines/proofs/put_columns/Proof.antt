@@ -28,7 +28,10 @@ add-second-2 : tie.Need-add-second-2
 add-second-2 c = record { fits = omega (arith, fit (c .before .before .before .before)) }
 
 put-ended-requires : tie.Need-put-ended-requires
-put-ended-requires c κs = let a = c .before .before .before .before .before .args .c in omega (arith, fit (c .before .before .before .before .before), ended-length (a .below) (a .count) 32)
+put-ended-requires c κs =
+    let start = c .before .before .before .before .before in
+    let a = start .args .c in
+    omega (arith, fit start, ended-length (a .below) (a .count) 32)
 
 sub-put-label : tie.Need-sub-put-label
 sub-put-label c = omega (arith, fit (c .before .before .before .before .before .before .before .before))
@@ -37,7 +40,9 @@ part-put-label-start : tie.Need-part-put-label-start
 part-put-label-start c = omega (arith, fit (c .before .before .before .before .before .before .before .before))
 
 put-label-requires : tie.Need-put-label-requires
-put-label-requires c κs = let a = c .before .before .before .before .before .before .before .before .before .args .c in omega (arith, fit (c .before .before .before .before .before .before .before .before .before), label-length a)
+put-label-requires c κs =
+    let start = c .before .before .before .before .before .before .before .before .before in
+    omega (arith, fit start, label-length (start .args .c))
 
 sub-put-ended : tie.Need-sub-put-ended
 sub-put-ended c = omega (arith, fit (c .before .before .before .before .before .before .before .before .before .before .before .before))
@@ -46,18 +51,25 @@ part-put-ended-start : tie.Need-part-put-ended-start
 part-put-ended-start c = omega (arith, fit (c .before .before .before .before .before .before .before .before .before .before .before .before))
 
 put-ended-requires-2 : tie.Need-put-ended-requires-2
-put-ended-requires-2 c κs = let a = c .before .before .before .before .before .before .before .before .before .before .before .before .before .args .c in omega (arith, fit (c .before .before .before .before .before .before .before .before .before .before .before .before .before), ended-length (a .minus) (a .ticks) 10)
+put-ended-requires-2 c κs =
+    let start = c .before .before .before .before .before .before .before .before .before .before .before .before .before in
+    let a = start .args .c in
+    omega (arith, fit start, ended-length (a .minus) (a .ticks) 10)
 
 returns : tie.Need-returns
 returns c =
-    let start = c .before .before .before .before .before .before .before .before .before .before .before .before .before .before .before .before in
+    let label = c .before .before .before .before .before .before in
+    let number = label .before .before .before .before in
+    let second = number .before .before in
+    let first = second .before in
+    let start = first .before .before .before in
     let a = start .args .c in
     laid-three (start .args .part .now) _ _ _ (endedText (a .below) (a .count) 32) (labelColumn a) (endedText (a .minus) (a .ticks) 10) _ _
     (start .pre)
-    (c .before .before .before .before .before .before .before .before .before .before .put-ended .ensures)
-    (omega (arith, c .before .before .before .before .before .before .before .before .before .before .before .before .before .signed-length .ensures, ended-length (a .below) (a .count) 32))
-    (c .before .before .before .before .before .before .put-label .ensures)
-    (omega (arith, c .before .before .before .before .before .before .before .before .before .before .before .before .sections-length .ensures, label-length a))
+    (number .put-ended .ensures)
+    (omega (arith, first .signed-length .ensures, ended-length (a .below) (a .count) 32))
+    (label .put-label .ensures)
+    (omega (arith, second .sections-length .ensures, label-length a))
     (c .before .before .put-ended2 .ensures)
 
 pub put-columns-spec : {M : Type 1} → statement M

@@ -23,10 +23,12 @@ part-put-byte-start c = omega (arith, fit (c .before .before .before .before .be
 
 returns : tie.Need-returns
 returns c =
-    let start = c .before .before .before .before .before .before .before .before .before .before in
+    let number = c .before .before .before .before .before .before in
+    let long = number .before .before in
+    let start = long .before .before in
     let a = start .args in
     laid-lent (a .part .now) _ _ (signedText (a .minus) (a .m)) (a .end ∷ []) _
-    (c .before .before .before .before .before .before .put-signed .ensures) (c .before .before .before .before .before .before .before .before .signed-length .ensures) (start .pre) (c .before .before .put-byte .ensures)
+    (number .put-signed .ensures) (long .signed-length .ensures) (start .pre) (c .before .before .put-byte .ensures)
 
 pub put-ended-spec : {M : Type 1} → statement M
 put-ended-spec =

@@ -27,9 +27,10 @@ put-columns-requires c κs = let a = c .before .before .before .before .before .
 
 returns : tie.Need-returns
 returns c =
-    let a = c .before .before .before .before .before .before .before .before .args in
-    meets-in (a .out .now) (a .place) (columnsText (a .c)) _ _ (c .before .before .before .before .before .before .columns-length .ensures) (c .before .before .before .before .before .room .ensures) _
-    (c .before .before .before .before .if1 .taken) (c .before .before .put-columns .ensures)
+    let tested = c .before .before .before .before in
+    let a = tested .before .before .before .before .args in
+    meets-in (a .out .now) (a .place) (columnsText (a .c)) _ _ (tested .before .before .columns-length .ensures) (tested .before .room .ensures) _
+    (tested .if1 .taken) (c .before .before .put-columns .ensures)
 
 returns-2 : tie.Need-returns-2
 returns-2 c =

@@ -38,8 +38,10 @@ put-refused-requires c κs = let a = c .before .before .before .before .before .
 
 returns : tie.Need-returns
 returns c =
-    let a = c .before .before .before .before .before .before .before .before .args in
-    meets-in (a .out .now) (a .place) (refusedText (a .number)) _ _ (long (c .before .before .before .before .before .before)) (c .before .before .before .before .before .room .ensures) _ (c .before .before .before .before .if1 .taken) (c .before .before .put-refused .ensures)
+    let tested = c .before .before .before .before in
+    let a = tested .before .before .before .before .args in
+    meets-in (a .out .now) (a .place) (refusedText (a .number)) _ _ (long (tested .before .before)) (tested .before .room .ensures) _
+    (tested .if1 .taken) (c .before .before .put-refused .ensures)
 
 returns-2 : tie.Need-returns-2
 returns-2 c =

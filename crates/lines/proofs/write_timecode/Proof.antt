@@ -11,10 +11,13 @@ use Rattle.lines.proofs.write_timecode.Tie as tie
 
 returns : tie.Need-returns
 returns c =
-    let start = c .before .before .before .before .before .before .before .before .before .before in
+    let columns = c .before .before .before .before in
+    let told = columns .before .before in
+    let label = told .before .before in
+    let start = label .before .before in
     let a = start .args in
-    let there = sym (c .before .before .before .before .before .before .before .before .sections .ensures) ∙ c .before .before .before .before .before .before .s .given .1 in
-    let same = ap (λ k. Text (columnsText k)) (c .before .before .before .before .columns-of .ensures) ∙ ap Text (columns-are (a .tc) (start .pre) _ there) in
+    let there = sym (label .sections .ensures) ∙ told .s .given .1 in
+    let same = ap (λ k. Text (columnsText k)) (columns .columns-of .ensures) ∙ ap Text (columns-are (a .tc) (start .pre) _ there) in
     meets-same (a .out .now) (a .place) _ _ _ _ same (c .before .before .write-columns .ensures)
 
 returns-2 : tie.Need-returns-2

@@ -39,7 +39,8 @@ nearest-frame-requires : tie.Need-nearest-frame-requires
 nearest-frame-requires c κs =
     let scanned = c .before .before .before in
     let a = scanned .before .before .before .before .args in
-    (rated (scanned .before), subst (λ (s : RuntimeScan). RuntimeBounds (s .fields) (s .millionths)) (sym (scanned .scan-runtime .ensures)) (runtime-bounded (a .text .now)))
+    let same = sym (scanned .scan-runtime .ensures) in
+    (rated (scanned .before), subst (λ (s : RuntimeScan). RuntimeBounds (s .fields) (s .millionths)) same (runtime-bounded (a .text .now)))
 
 returns-2 : tie.Need-returns-2
 returns-2 c =

@@ -45,12 +45,17 @@ write-parts-requires c κs =
 
 returns : tie.Need-returns
 returns c =
-    let a = c .before .before .before .before .before .before .before .before .before .before .before .before .args in
+    let tail = c .before .before .before .before in
+    let rounded = tail .before .before in
+    let size-of = rounded .before in
+    let sign = size-of .before .before in
+    let start = sign .before .before .before in
+    let a = start .args in
     let tc = a .tc in
-    let minus = c .before .before .before .before .before .before .before .before .before .below-zero .ensures ∙ ap isNeg (back (c .before .before .before .before .before .before .before .before .before .before .before .before)) in
-    let units = c .before .before .before .before .before .before .units-of .ensures ∙ ap (runtimeUnits (tc .rate) (a .precision)) (size (c .before .before .before .before .before .before .before)) in
+    let minus = sign .below-zero .ensures ∙ ap isNeg (back start) in
+    let units = rounded .units-of .ensures ∙ ap (runtimeUnits (tc .rate) (a .precision)) (size size-of) in
     let same =
-    ap Text (tail-runtime (tc .rate) (a .precision) (tc .count) _ _ _ _ minus units (c .before .before .before .before .before .power-of-ten .ensures) (c .before .before .before .before .shortest .ensures)) in
+    ap Text (tail-runtime (tc .rate) (a .precision) (tc .count) _ _ _ _ minus units (tail .before .power-of-ten .ensures) (tail .shortest .ensures)) in
     meets-same (a .line .now) (a .place) _ _ _ _ same (c .before .before .write-parts .ensures)
 
 pub write-time-spec : {M : Type 1} → statement M

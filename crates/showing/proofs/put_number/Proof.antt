@@ -15,11 +15,16 @@ use Rattle.showing.proofs.put_number.Tie as tie
 
 returns : tie.Need-returns
 returns c =
-    let a = c .before .before .before .before .before .before .before .args in
+    let size = c .before .before .before in
+    let sign = size .before in
+    let start = sign .before .before .before in
+    let a = start .args in
     let s = sheet (a .out .now) (a .used) in
-    let minus : c .before .before .before .before .below-zero .result ≡ isNeg (a .x) = c .before .before .before .before .below-zero .ensures ∙ ap isNeg (toZ-ofZ (c .before .before .before .before .before .before .before .fits .x)) in
-    let m : c .before .before .before .magnitude .result ≡ natAbs (a .x) = c .before .before .before .magnitude .ensures ∙ ap natAbs (toZ-ofZ (c .before .before .before .before .before .before .before .fits .x)) in
-    leaves-same _ _ _ _ (ap (λ (z : Bool). putOn s (signedText z (c .before .before .before .magnitude .result))) minus ∙ ap (λ (z : ℕ). putOn s (signedText (isNeg (a .x)) z)) m) (c .before .before .put-signed .ensures)
+    let minus : sign .below-zero .result ≡ isNeg (a .x) = sign .below-zero .ensures ∙ ap isNeg (toZ-ofZ (start .fits .x)) in
+    let m : size .magnitude .result ≡ natAbs (a .x) = size .magnitude .ensures ∙ ap natAbs (toZ-ofZ (start .fits .x)) in
+    leaves-same _ _ _ _
+    (ap (λ (z : Bool). putOn s (signedText z (size .magnitude .result))) minus ∙ ap (λ (z : ℕ). putOn s (signedText (isNeg (a .x)) z)) m)
+    (c .before .before .put-signed .ensures)
 
 pub put-number-spec : {M : Type 1} → statement M
 put-number-spec =

@@ -11,10 +11,12 @@ use Rattle.showing.proofs.put_second.Tie as tie
 
 returns : tie.Need-returns
 returns c =
-    let a = c .before .before .before .before .before .before .before .before .before .args in
+    let marked = c .before .before .before .before .before .before in
+    let a = marked .before .before .before .args in
     let s = sheet (a .out .now) (a .used) in
     leaves-same _ _ _ _ (second-is s (a .mark) (a .y))
-    (leaves-on (putOn s (a .mark ∷ [])) (λ z. putOn z (signedText false (a .y))) _ _ _ _ (c .before .before .before .before .before .before .put-byte .ensures) (c .before .before .put-signed .ensures))
+    (leaves-on (putOn s (a .mark ∷ [])) (λ z. putOn z (signedText false (a .y))) _ _ _ _
+    (marked .put-byte .ensures) (c .before .before .put-signed .ensures))
 
 pub put-second-spec : {M : Type 1} → statement M
 put-second-spec = tie.close (tie.spec (λ c κs. search needs) (λ c κs. search needs) (λ c. search needs) returns)

@@ -11,34 +11,46 @@ use Rattle.showing.proofs.put_shown.Statement.{statement}
 use Rattle.showing.proofs.put_shown.Tie as tie
 
 returns : tie.Need-returns
-returns c = let a = c .before .before .before .before .before .before .before .args in leaves-same _ _ _ _ (parts-none (sheet (a .out .now) (a .used)) (a .s) (c .before .before .before .before .if1 .taken)) (c .before .before .put-said .ensures)
+returns c =
+    let tested = c .before .before .before .before in
+    let a = tested .before .before .before .args in
+    leaves-same _ _ _ _ (parts-none (sheet (a .out .now) (a .used)) (a .s) (tested .if1 .taken)) (c .before .before .put-said .ensures)
 
 -- the number, read back
-back : (c : tie.After-put-number) → toZ w64 (ofZ w64 (c .before .before .before .before .before .before .before .before .before .before .args .s .x)) ≡ c .before .before .before .before .before .before .before .before .before .before .args .s .x
+back : (c : tie.After-put-number)
+    → let x = c .before .before .before .before .before .before .before .before .before .before .args .s .x in
+    toZ w64 (ofZ w64 x) ≡ x
 back c = search needs
 
 -- the word and the first number
 first : (c : tie.After-put-number)
-    → let a = c .before .before .before .before .before .before .before .before .before .before .args in Leaves (firstOn (sheet (a .out .now) (a .used)) (a .s)) (c .put-number .result) (c .put-number .last .0)
+    → let a = c .before .before .before .before .before .before .before .before .before .before .args in
+    Leaves (firstOn (sheet (a .out .now) (a .used)) (a .s)) (c .put-number .result) (c .put-number .last .0)
 first c =
-    let a = c .before .before .before .before .before .before .before .before .before .before .args in
+    let w = c .before .before .before .before .before in
+    let a = w .before .before .before .before .before .args in
     let s = sheet (a .out .now) (a .used) in
-    let q = subst (λ x. Leaves (putOn (sheet (c .before .before .before .before .before .put-word .last .0) (c .before .before .before .before .before .put-word .result)) (countText x)) (c .put-number .result) (c .put-number .last .0))
+    let q =
+    subst (λ x. Leaves (putOn (sheet (w .put-word .last .0) (w .put-word .result)) (countText x)) (c .put-number .result) (c .put-number .last .0))
     (back c) (c .put-number .ensures) in
-    leaves-on (wordOn s (a .s .word)) (λ z. putOn z (countText (a .s .x))) _ _ _ _ (c .before .before .before .before .before .put-word .ensures) q
+    leaves-on (wordOn s (a .s .word)) (λ z. putOn z (countText (a .s .x))) _ _ _ _ (w .put-word .ensures) q
 
 returns-2 : tie.Need-returns-2
 returns-2 c =
-    let a = c .before .before .before .before .before .before .before .before .before .before .before .before .before .before .args in
-    let s = sheet (a .out .now) (a .used) in
-    leaves-same _ _ _ _ (parts-one s (a .s) (c .before .before .before .before .before .before .before .before .before .before .before .if1 .left) (c .if2 .taken)) (first (c .before .before .before .before))
+    let one = c .before .before .before .before in
+    let tested = one .before .before .before .before .before .before .before in
+    let a = tested .before .before .before .args in
+    leaves-same _ _ _ _ (parts-one (sheet (a .out .now) (a .used)) (a .s) (tested .if1 .left) (c .if2 .taken)) (first one)
 
 returns-3 : tie.Need-returns-3
 returns-3 c =
-    let a = c .before .before .before .before .before .before .before .before .before .before .before .before .before .before .before .before .before .before .args in
+    let more = c .before .before .before .before in
+    let one = more .before .before .before .before in
+    let tested = one .before .before .before .before .before .before .before in
+    let a = tested .before .before .before .args in
     let s = sheet (a .out .now) (a .used) in
-    leaves-same _ _ _ _ (parts-two s (a .s) (c .before .before .before .before .before .before .before .before .before .before .before .before .before .before .before .if1 .left) (c .before .before .before .before .if2 .left))
-    (leaves-on (firstOn s (a .s)) (λ z. secondOn z (a .s .mark) (a .s .y)) _ _ _ _ (first (c .before .before .before .before .before .before .before .before)) (c .before .before .put-second .ensures))
+    leaves-same _ _ _ _ (parts-two s (a .s) (tested .if1 .left) (more .if2 .left))
+    (leaves-on (firstOn s (a .s)) (λ z. secondOn z (a .s .mark) (a .s .y)) _ _ _ _ (first one) (c .before .before .put-second .ensures))
 
 pub put-shown-spec : {M : Type 1} → statement M
 put-shown-spec =

@@ -8,16 +8,28 @@ use Rattle.showing.proofs.put_word.Statement.{statement}
 use Rattle.showing.proofs.put_word.Tie as tie
 
 returns : tie.Need-returns
-returns c = let a = c .before .before .before .before .before .before .before .args in leaves-same _ _ _ _ (word-label (sheet (a .out .now) (a .used)) (a .word) (c .before .before .before .before .before .match .keys1)) (c .before .before .put-text .ensures)
+returns c =
+    let word = c .before .before .before .before .before in
+    let a = word .before .before .args in
+    leaves-same _ _ _ _ (word-label (sheet (a .out .now) (a .used)) (a .word) (word .match .keys1)) (c .before .before .put-text .ensures)
 
 returns-2 : tie.Need-returns-2
-returns-2 c = let a = c .before .before .before .before .before .before .before .args in leaves-same _ _ _ _ (word-footage (sheet (a .out .now) (a .used)) (a .word) (c .before .before .before .before .before .match .keys2)) (c .before .before .put-text2 .ensures)
+returns-2 c =
+    let word = c .before .before .before .before .before in
+    let a = word .before .before .args in
+    leaves-same _ _ _ _ (word-footage (sheet (a .out .now) (a .used)) (a .word) (word .match .keys2)) (c .before .before .put-text2 .ensures)
 
 returns-3 : tie.Need-returns-3
-returns-3 c = let a = c .before .before .before .before .before .before .before .args in leaves-same _ _ _ _ (word-refused (sheet (a .out .now) (a .used)) (a .word) (c .before .before .before .before .before .match .keys3)) (c .before .before .put-text3 .ensures)
+returns-3 c =
+    let word = c .before .before .before .before .before in
+    let a = word .before .before .args in
+    leaves-same _ _ _ _ (word-refused (sheet (a .out .now) (a .used)) (a .word) (word .match .keys3)) (c .before .before .put-text3 .ensures)
 
 returns-4 : tie.Need-returns-4
-returns-4 c = let a = c .before .before .args in let s = sheet (a .out .now) (a .used) in leaves-same s _ _ _ (word-none s (a .word) (c .match .rest .0 .0 .1) (c .match .rest .0 .1) (c .match .rest .1)) (refl, refl)
+returns-4 c =
+    let a = c .before .before .args in
+    let s = sheet (a .out .now) (a .used) in
+    leaves-same s _ _ _ (word-none s (a .word) (c .match .rest .0 .0 .1) (c .match .rest .0 .1) (c .match .rest .1)) (refl, refl)
 
 pub put-word-spec : {M : Type 1} → statement M
 put-word-spec =

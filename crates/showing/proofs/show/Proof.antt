@@ -10,9 +10,11 @@ use Rattle.showing.proofs.show.Tie as tie
 
 returns : tie.Need-returns
 returns c =
-    let a = c .before .before .before .before .before .before .before .before .before .args in
+    let shown = c .before .before .before .before .before .before in
+    let a = shown .before .before .before .args in
     let s = sheet (a .out .now) (a .used) in
-    leaves-same _ _ _ _ (shown-is s (a .s)) (leaves-on (partsOn s (a .s)) (λ z. putOn z (10 ∷ [])) _ _ _ _ (c .before .before .before .before .before .before .put-shown .ensures) (c .before .before .put-byte .ensures))
+    leaves-same _ _ _ _ (shown-is s (a .s))
+    (leaves-on (partsOn s (a .s)) (λ z. putOn z (10 ∷ [])) _ _ _ _ (shown .put-shown .ensures) (c .before .before .put-byte .ensures))
 
 pub show-spec : {M : Type 1} → statement M
 show-spec = tie.close (tie.spec (λ c κs. search needs) (λ c κs. search needs) (λ c. search needs) returns)

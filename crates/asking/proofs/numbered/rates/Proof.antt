@@ -38,7 +38,12 @@ back : (c : tie.After-known-told Inv-loop μ-loop) → toZ w64 (ofZ w64 (c .befo
 back c = search needs
 
 loop-again : tie.Need-loop-again Inv-loop μ-loop
-loop-again c = lists-turn _ _ _ _ _ _ (c .before .before .before .before .before .before .loop .inv) _ _ _ (c .before .before .before .before .before .loop-test .taken) (sym (c .before .before .before .before .number .ensures) ∙ c .before .before .w .given .1) (c .up-from .ensures ∙ ap upFrom (back (c .before)))
+loop-again c =
+    let found = c .before .before in
+    let read = found .before .before in
+    let turn = read .before in
+    lists-turn _ _ _ _ _ _ (turn .before .loop .inv) _ _ _ (turn .loop-test .taken)
+    (sym (read .number .ensures) ∙ found .w .given .1) (c .up-from .ensures ∙ ap upFrom (back (c .before)))
 
 same-length-2 : tie.Need-same-length-2 Inv-loop μ-loop
 same-length-2 c = c .before .loop .inv .long

@@ -25,17 +25,28 @@ loop-holds : tie.Need-loop-holds Inv-loop μ-loop
 loop-holds c = (record { within = omega arith; same-from = refl }, omega arith)
 
 -- the row's byte
-there : (c : tie.After-byte-at Inv-loop μ-loop) → c .byte-at .result ≡ getD (rowAt (c .before .before .before .before .before .before .args .row) .name) (c .before .before .before .loop .i) 32
+there : (c : tie.After-byte-at Inv-loop μ-loop)
+    → let turn = c .before .before .before in
+    c .byte-at .result ≡ getD (rowAt (turn .before .before .before .args .row) .name) (turn .loop .i) 32
 there c = c .byte-at .ensures ∙ name-at _ _ (c .before .before .before .before .before .before .pre .1) (omega arith)
 
 returns-2 : tie.Need-returns-2 Inv-loop μ-loop
-returns-2 c = sym (comparing-other _ _ _ (c .before .before .before .before .loop .inv .0) (c .before .before .before .loop-test .taken) (λ e. c .if2 .taken (e ∙ sym (there (c .before)))))
+returns-2 c =
+    let turn = c .before .before .before in
+    sym (comparing-other _ _ _ (turn .before .loop .inv .0) (turn .loop-test .taken) (λ e. c .if2 .taken (e ∙ sym (there (c .before)))))
 
 loop-again : tie.Need-loop-again Inv-loop μ-loop
-loop-again c = (comparing-turn _ _ _ (c .before .before .before .before .loop .inv .0) (c .before .before .before .before .before .before .before .pre .0) (c .before .before .before .loop-test .taken) (c .if2 .left ∙ there (c .before)), c .before .before .before .before .loop .inv .1)
+loop-again c =
+    let turn = c .before .before .before in
+    let inv = turn .before .loop .inv in
+    (comparing-turn _ _ _ (inv .0) (turn .before .before .before .before .pre .0) (turn .loop-test .taken) (c .if2 .left ∙ there (c .before)), inv .1)
 
 returns-3 : tie.Need-returns-3 Inv-loop μ-loop
-returns-3 c = ap (λ z. eqb z 32) (c .byte-at2 .ensures ∙ name-at (c .before .before .before .before .before .args .row) (c .before .before .loop .i) (c .before .before .before .before .before .pre .1) (omega arith)) ∙ sym (comparing-done _ _ _ (c .before .before .loop .inv .0) (name-plain _ (c .before .before .before .before .before .pre .1)) (c .before .loop-test .left))
+returns-3 c =
+    let s = c .before .before in
+    let start = s .before .before .before in
+    ap (λ z. eqb z 32) (c .byte-at2 .ensures ∙ name-at (start .args .row) (s .loop .i) (start .pre .1) (omega arith))
+    ∙ sym (comparing-done _ _ _ (s .loop .inv .0) (name-plain _ (start .pre .1)) (c .before .loop-test .left))
 
 pub is-named-spec : {M : Type 1} → statement M
 is-named-spec =

@@ -12,7 +12,9 @@ returns : tie.Need-returns
 returns c = digits-none _ _ _ (ap (λ z. z .count) (c .before .run-at .ensures) ∙ run-count _) _ (c .if1 .taken)
 
 add-end : tie.Need-add-end
-add-end c = omega (arith, digits-within (c .before .before .before .args .line .now) (c .before .before .before .args .at) _ (ap (λ z. z .count) (c .before .run-at .ensures) ∙ run-count _) (c .if1 .left))
+add-end c =
+    let a = c .before .before .before .args in
+    omega (arith, digits-within (a .line .now) (a .at) _ (ap (λ z. z .count) (c .before .run-at .ensures) ∙ run-count _) (c .if1 .left))
 
 part-magnitude-end : tie.Need-part-magnitude-end
 part-magnitude-end c = digits-within _ _ _ (ap (λ z. z .count) (c .before .run-at .ensures) ∙ run-count _) (c .if1 .left)
@@ -21,7 +23,10 @@ magnitude-requires : tie.Need-magnitude-requires
 magnitude-requires c κs = part-digits _ _ _ (ap (λ z. z .count) (c .before .before .run-at .ensures) ∙ run-count _)
 
 returns-2 : tie.Need-returns-2
-returns-2 c = c .signed .ensures ∙ digits-some _ _ _ (ap (λ z. z .count) (c .before .before .before .before .run-at .ensures) ∙ run-count _) _ _ (c .before .before .before .if1 .left) (c .before .magnitude .ensures)
+returns-2 c =
+    let tested = c .before .before .before in
+    c .signed .ensures
+    ∙ digits-some _ _ _ (ap (λ z. z .count) (tested .before .run-at .ensures) ∙ run-count _) _ _ (tested .if1 .left) (c .before .magnitude .ensures)
 
 pub digits-at-spec : {M : Type 1} → statement M
 digits-at-spec =

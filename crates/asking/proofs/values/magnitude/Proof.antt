@@ -20,7 +20,9 @@ push-requires : tie.Need-push-requires Inv-loop μ-loop
 push-requires c κs = digit-at _ (c .before .before .before .before .pre) _ (c .before .loop-test .taken)
 
 loop-again : tie.Need-loop-again Inv-loop μ-loop
-loop-again c = valuing-turn _ _ _ _ (c .before .before .before .loop .inv) (c .before .before .before .before .before .pre) (c .before .before .loop-test .taken) (c .push .ensures)
+loop-again c =
+    let turn = c .before .before in
+    valuing-turn _ _ _ _ (turn .before .loop .inv) (turn .before .before .before .pre) (turn .loop-test .taken) (c .push .ensures)
 
 returns : tie.Need-returns Inv-loop μ-loop
 returns c = valuing-done _ _ _ (c .before .loop .inv) (c .loop-test .left)

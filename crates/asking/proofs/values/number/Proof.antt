@@ -13,16 +13,28 @@ returns : tie.Need-returns
 returns c = number-none _ _ (sym (c .before .stands .ensures) ∙ not-true _ (c .if1 .taken))
 
 add-from : tie.Need-add-from
-add-from c = omega (arith, stands-within (c .before .before .before .args .line .now) (c .before .before .before .args .at) 32 (sym (c .before .stands .ensures) ∙ not-false _ (c .if1 .left)))
+add-from c =
+    let a = c .before .before .before .args in
+    omega (arith, stands-within (a .line .now) (a .at) 32 (sym (c .before .stands .ensures) ∙ not-false _ (c .if1 .left)))
 
 add-digits-at : tie.Need-add-digits-at
-add-digits-at c = omega (arith, stands-within (c .before .before .before .before .before .args .line .now) (c .before .before .before .before .before .args .at + 1) 45 (sym (c .before .stands2 .ensures) ∙ c .if2 .taken))
+add-digits-at c =
+    let a = c .before .before .before .before .before .args in
+    omega (arith, stands-within (a .line .now) (a .at + 1) 45 (sym (c .before .stands2 .ensures) ∙ c .if2 .taken))
 
 returns-2 : tie.Need-returns-2
-returns-2 c = c .digits-at .ensures ∙ number-minus _ _ (sym (c .before .before .before .before .stands .ensures) ∙ not-false _ (c .before .before .before .if1 .left)) (sym (c .before .before .stands2 .ensures) ∙ c .before .if2 .taken)
+returns-2 c =
+    let tested = c .before .before .before in
+    c .digits-at .ensures
+    ∙ number-minus _ _ (sym (tested .before .stands .ensures) ∙ not-false _ (tested .if1 .left))
+    (sym (c .before .before .stands2 .ensures) ∙ c .before .if2 .taken)
 
 returns-3 : tie.Need-returns-3
-returns-3 c = c .digits-at2 .ensures ∙ number-plain _ _ (sym (c .before .before .before .before .stands .ensures) ∙ not-false _ (c .before .before .before .if1 .left)) (sym (c .before .before .stands2 .ensures) ∙ c .before .if2 .left)
+returns-3 c =
+    let tested = c .before .before .before in
+    c .digits-at2 .ensures
+    ∙ number-plain _ _ (sym (tested .before .stands .ensures) ∙ not-false _ (tested .if1 .left))
+    (sym (c .before .before .stands2 .ensures) ∙ c .before .if2 .left)
 
 pub number-spec : {M : Type 1} → statement M
 number-spec =

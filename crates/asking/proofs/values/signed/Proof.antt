@@ -10,7 +10,10 @@ use Rattle.asking.proofs.values.signed.Statement.{statement}
 use Rattle.asking.proofs.values.signed.Tie as tie
 
 returns : tie.Need-returns
-returns c = ap (λ z. Number z (c .before .before .args .next)) (toZ-ofZ (record { sfits = c .with-sign .ok }) ∙ c .with-sign .ensures ∙ fitted-in _ _ (c .before .if1 .taken)) ∙ word-within _ _ _ (c .before .if1 .taken)
+returns c =
+    let within = c .before .if1 .taken in
+    ap (λ z. Number z (c .before .before .args .next)) (toZ-ofZ (record { sfits = c .with-sign .ok }) ∙ c .with-sign .ensures ∙ fitted-in _ _ within)
+    ∙ word-within _ _ _ within
 
 returns-2 : tie.Need-returns-2
 returns-2 c = word-past _ _ _ (c .if2 .taken)

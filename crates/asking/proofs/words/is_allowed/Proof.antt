@@ -15,7 +15,10 @@ returns : tie.Need-returns
 returns c = ap not (c .below-zero .ensures ∙ ap isNeg (toZ-ofZ (c .before .before .fits .z))) ∙ allowed-place _ _ (c .before .if1 .taken)
 
 returns-2 : tie.Need-returns-2
-returns-2 c = c .is-room .ensures ∙ ap (λ z. not (isNeg z) && leb (natAbs z) 128) (toZ-ofZ (c .before .before .before .fits .z)) ∙ allowed-room _ _ (c .before .before .if1 .left) (c .before .if2 .taken)
+returns-2 c =
+    let tested = c .before .before in
+    c .is-room .ensures ∙ ap (λ z. not (isNeg z) && leb (natAbs z) 128) (toZ-ofZ (tested .before .fits .z))
+    ∙ allowed-room _ _ (tested .if1 .left) (c .before .if2 .taken)
 
 returns-3 : tie.Need-returns-3
 returns-3 c = allowed-any _ _ (c .before .if1 .left) (c .if2 .left)

@@ -16,10 +16,16 @@ returns-2 : tie.Need-returns-2
 returns-2 c = number-space (c .before .before .before .args .k) _ (sym (c .before .kind-of .ensures) ∙ c .if2 .taken)
 
 returns-3 : tie.Need-returns-3
-returns-3 c = number-text (c .before .before .before .before .args .k) _ (λ e. c .before .if2 .left (c .before .before .kind-of .ensures ∙ e)) (sym (c .before .before .kind-of .ensures) ∙ c .if3 .taken)
+returns-3 c =
+    let read = c .before .before in
+    number-text (read .before .before .args .k) _ (λ e. c .before .if2 .left (read .kind-of .ensures ∙ e)) (sym (read .kind-of .ensures) ∙ c .if3 .taken)
 
 returns-4 : tie.Need-returns-4
-returns-4 c = ap (λ z. not (eqb z 42)) (c .before .before .kind-of .ensures) ∙ number-other (c .before .before .before .before .args .k) _ (λ e. c .before .if2 .left (c .before .before .kind-of .ensures ∙ e)) (c .before .before .before .if1 .left) (λ e. c .if3 .left (c .before .before .kind-of .ensures ∙ e))
+returns-4 c =
+    let read = c .before .before in
+    let kind = read .kind-of .ensures in
+    ap (λ z. not (eqb z 42)) kind
+    ∙ number-other (read .before .before .args .k) _ (λ e. c .before .if2 .left (kind ∙ e)) (read .before .if1 .left) (λ e. c .if3 .left (kind ∙ e))
 
 pub is-number-spec : {M : Type 1} → statement M
 is-number-spec = tie.close (tie.spec returns (λ c κs. search needs) returns-2 returns-3 returns-4)

@@ -13,7 +13,11 @@ returns : tie.Need-returns
 returns c = room-below (c .before .before .args .z) (sym (ap isNeg (toZ-ofZ (c .before .before .fits .z))) ∙ sym (c .before .below-zero .ensures) ∙ c .if1 .taken)
 
 returns-2 : tie.Need-returns-2
-returns-2 c = room-not (c .before .before .before .args .z) _ (sym (ap isNeg (toZ-ofZ (c .before .before .before .fits .z))) ∙ sym (c .before .before .below-zero .ensures) ∙ c .before .if1 .left) (c .magnitude .ensures ∙ ap natAbs (toZ-ofZ (c .before .before .before .fits .z)))
+returns-2 c =
+    let start = c .before .before .before in
+    room-not (start .args .z) _
+    (sym (ap isNeg (toZ-ofZ (start .fits .z))) ∙ sym (c .before .before .below-zero .ensures) ∙ c .before .if1 .left)
+    (c .magnitude .ensures ∙ ap natAbs (toZ-ofZ (start .fits .z)))
 
 pub is-room-spec : {M : Type 1} → statement M
 is-room-spec = tie.close (tie.spec (λ c κs. search needs) returns (λ c κs. search needs) returns-2)

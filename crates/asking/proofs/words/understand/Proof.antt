@@ -16,10 +16,18 @@ row-named-requires : tie.Need-row-named-requires
 row-named-requires c κs = part-plain _ _ (c .before .word-end .ensures)
 
 returns : tie.Need-returns
-returns c = c .words .ensures ∙ ap (λ n. wordsFrom 5 (c .before .before .row-named .result) (c .before .before .before .before .before .before .args .line .now) n 0 noValues) (c .before .before .before .before .word-end .ensures) ∙ asked-known _ _ (c .before .before .row-named .ensures ∙ ap rowNamed (word-part _ _ (c .before .before .before .before .word-end .ensures))) (c .before .if1 .taken)
+returns c =
+    let named = c .before .before in
+    let ended = named .before .before in
+    c .words .ensures
+    ∙ ap (λ n. wordsFrom 5 (named .row-named .result) (ended .before .before .args .line .now) n 0 noValues) (ended .word-end .ensures)
+    ∙ asked-known _ _ (named .row-named .ensures ∙ ap rowNamed (word-part _ _ (ended .word-end .ensures))) (c .before .if1 .taken)
 
 returns-2 : tie.Need-returns-2
-returns-2 c = c .not-understood .ensures ∙ asked-unknown _ _ (c .before .before .row-named .ensures ∙ ap rowNamed (word-part _ _ (c .before .before .before .before .word-end .ensures))) (c .before .if1 .left)
+returns-2 c =
+    let named = c .before .before in
+    c .not-understood .ensures
+    ∙ asked-unknown _ _ (named .row-named .ensures ∙ ap rowNamed (word-part _ _ (named .before .before .word-end .ensures))) (c .before .if1 .left)
 
 pub understand-spec : {M : Type 1} → statement M
 understand-spec =

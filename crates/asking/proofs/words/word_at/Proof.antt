@@ -17,10 +17,22 @@ back : (c : tie.After-known-told) → toZ w64 (ofZ w64 (c .before .w .given .0 .
 back c = search needs
 
 returns-2 : tie.Need-returns-2
-returns-2 c = sym (ap (allowed (c .before .before .before .before .before .before .before .args .kind)) (sym (c .before .before .before .before .before .number .ensures) ∙ c .before .before .before .w .given .1) ∙ allowed-yes _ _ _ (sym (ap (isInRange (c .before .before .before .before .before .before .before .args .kind)) (back (c .before .before))) ∙ sym (c .before .is-allowed .ensures) ∙ c .if1 .taken))
+returns-2 c =
+    let found = c .before .before .before in
+    let read = found .before .before in
+    let kind = read .before .before .args .kind in
+    sym
+    (ap (allowed kind) (sym (read .number .ensures) ∙ found .w .given .1)
+    ∙ allowed-yes _ _ _ (sym (ap (isInRange kind) (back (c .before .before))) ∙ sym (c .before .is-allowed .ensures) ∙ c .if1 .taken))
 
 returns-3 : tie.Need-returns-3
-returns-3 c = sym (ap (allowed (c .before .before .before .before .before .before .before .args .kind)) (sym (c .before .before .before .before .before .number .ensures) ∙ c .before .before .before .w .given .1) ∙ allowed-no _ _ _ (sym (ap (isInRange (c .before .before .before .before .before .before .before .args .kind)) (back (c .before .before))) ∙ sym (c .before .is-allowed .ensures) ∙ c .if1 .left))
+returns-3 c =
+    let found = c .before .before .before in
+    let read = found .before .before in
+    let kind = read .before .before .args .kind in
+    sym
+    (ap (allowed kind) (sym (read .number .ensures) ∙ found .w .given .1)
+    ∙ allowed-no _ _ _ (sym (ap (isInRange kind) (back (c .before .before))) ∙ sym (c .before .is-allowed .ensures) ∙ c .if1 .left))
 
 pub word-at-spec : {M : Type 1} → statement M
 word-at-spec =

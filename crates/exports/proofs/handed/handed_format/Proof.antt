@@ -7,7 +7,10 @@ use Rattle.exports.proofs.handed.handed_format.Tie as tie
 
 returns : tie.Need-returns
 unfolding handedFormat
-returns c = simp (c .before .before .before .before .a .given .1, c .before .before .perfs-per-frame .ensures, c .before .perfs-per-foot .ensures, c .allows-perf-field .ensures)
+returns c =
+    let foot = c .before in
+    let frame = foot .before in
+    simp (frame .before .before .a .given .1, frame .perfs-per-frame .ensures, foot .perfs-per-foot .ensures, c .allows-perf-field .ensures)
 
 returns-2 : tie.Need-returns-2
 unfolding handedFormat

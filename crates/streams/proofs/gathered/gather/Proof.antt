@@ -24,7 +24,10 @@ returns : tie.Need-returns Inv-loop μ-loop
 returns c = running-end _ _ _ _ _ _ _ (c .before .before .before .loop .inv) (c .before .before .loop-test .taken) (c .if1 .taken)
 
 loop-again : tie.Need-loop-again Inv-loop μ-loop
-loop-again c = running-turn _ _ _ _ _ _ _ (c .before .before .before .before .before .before .before .before .loop .inv) _ _ (c .before .before .before .before .before .before .before .loop-test .taken) (c .before .before .before .before .before .if1 .left) (c .before .before .take .ensures)
+loop-again c =
+    let tested = c .before .before .before .before .before in
+    let turn = tested .before .before in
+    running-turn _ _ _ _ _ _ _ (turn .before .loop .inv) _ _ (turn .loop-test .taken) (tested .if1 .left) (c .before .before .take .ensures)
 
 same-length-2 : tie.Need-same-length-2 Inv-loop μ-loop
 same-length-2 c = c .before .loop .inv .long
