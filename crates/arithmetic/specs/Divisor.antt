@@ -16,6 +16,6 @@ isDivisor n = ltb 0 (natAbs n)
 abbrev pub badDivisor : ℤ → Condition
 badDivisor n = when zeroDivisor (not (isDivisor n))
 
--- of a divisor p/q before it 5: out of bounds
+-- a divisor p/q: 5, out of bounds, then 7
 abbrev pub divisorWhen : (p : ℤ) (q : ℕ) → List Condition
 divisorWhen p q = badFactor p q ∷ badDivisor p ∷ []

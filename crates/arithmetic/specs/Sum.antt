@@ -25,7 +25,7 @@ joinedWhen op a b = admitsBoth a b ++ (badCount (joinedFrame op a b) ∷ [])
 unfoldable pub joined : (ℤ → ℤ → ℤ) → Timecode → Timecode → Answer
 joined op a b = unless Refused (joinedWhen op a b) (At (recounted a (joinedFrame op a b)))
 
--- the sum, or where it is so said the difference
+-- the sum, or with minus the difference
 abbrev pub sumOr : (minus : Bool) → ℤ → ℤ → ℤ
 sumOr false = _+ℤ_
 sumOr true = _-ℤ_

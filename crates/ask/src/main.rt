@@ -1,7 +1,7 @@
 // A calculator over every public operation: reads commands, one a line, and writes an answer for each (docs/ASK.md).
 // What a line is, and what it asks, is decided by streams and asking; here are the commands, the buffers, the reads and the writes.
 ghost use mathlib.Core.Path.{_≡_};
-ghost use Rattle.ask.specs.Turns.{goneOn};
+ghost use Rattle.ask.specs.Turns.{waitingBehind, goneOn};
 use streams::Gathered;
 use streams::Step;
 
@@ -37,7 +37,10 @@ fn answered(t: Step, buffer: &[u8], out: &mut [u8], used: usize) -> usize {
 }
 
 // A chunk of input, line by line; its answers are written before the next one is read.
-fn feed(chunk: &[u8], buffer: &mut [u8], out: &mut [u8], first: Gathered) -> Gathered {
+fn feed(chunk: &[u8], buffer: &mut [u8], out: &mut [u8], first: Gathered) -> Gathered
+    ensures gathered { λ r. ⌜ r ≡ waitingBehind (now (buffer .entry)) first (now (chunk .entry)) .gathered ⌝ }
+    ensures buffer { λ r. ⌜ now (buffer .exit) ≡ waitingBehind (now (buffer .entry)) first (now (chunk .entry)) .buffer ⌝ }
+{
     let mut g = first;
     let mut used = 0;
     let mut next = 0;

@@ -1,16 +1,19 @@
--- `ask::feed` meets its contract: each step takes a byte of the chunk at least.
+-- `ask::feed` meets its contract: each step takes a byte of the chunk at least, and what waits stays what waits behind the whole chunk.
 -- Assumes nothing.
 use Prim.Native.Nat.{_-_}
-use mathlib.Core.Path.{_≡_, ap}
+use mathlib.Core.Path.{_≡_, sym, ap, _∙_}
 use native.Mathlib.Omega.{arith}
-use lib.ListN.{length}
+use lib.ListN.{length, drop}
 use borrow.Author.Needs.{needs}
-use Rattle.ask.proofs.Steps.{next-more}
+use Rattle.ask.specs.Turns.{waitingBehind}
+use Rattle.ask.proofs.Steps.{next-more, waiting-turn, waiting-done}
 use Rattle.ask.proofs.feed.Statement.{statement}
 use Rattle.ask.proofs.feed.Tie as tie
 
 abbrev Inv-loop : tie.InvT-loop
-Inv-loop chunk buffer₀ out₀ g₀ used₀ next₀ buffer out g used next = (length buffer ≡ length buffer₀) × (length out ≡ length out₀)
+Inv-loop chunk buffer₀ out₀ g₀ used₀ next₀ buffer out g used next =
+    (length buffer ≡ length buffer₀)
+    × ((length out ≡ length out₀) × (waitingBehind buffer₀ g₀ chunk ≡ waitingBehind buffer g (drop next chunk)))
 
 abbrev μ-loop : tie.MeasureT-loop
 μ-loop chunk buffer₀ out₀ g₀ used₀ next₀ buffer out g used next = length chunk - next
@@ -23,6 +26,22 @@ loop-less c =
     let chunk = t .before .before .before .before .before .args .chunk .now in
     omega (arith, next-more chunk (s .next) _ (s .buffer) (s .g) (t .loop-test .taken) (ap (λ z. z .next) (g .gather .ensures .0)))
 
+loop-again : tie.Need-loop-again Inv-loop μ-loop
+loop-again c =
+    let g = c .before .before .before .before .before .before .before .before in
+    let t = g .before .before in
+    let s = t .before .loop in
+    let chunk = t .before .before .before .before .before .args .chunk .now in
+    let turn = waiting-turn chunk (s .next) (s .buffer) (s .g) _ _ _ (g .gather .ensures .0) (g .gather .ensures .1) (c .gone-on .ensures) in
+    (search needs, (search needs, s .inv .1 .1 ∙ turn))
+
+returns : tie.Need-returns Inv-loop μ-loop
+returns c =
+    let s = c .before .before .before .loop in
+    let chunk = c .before .before .before .before .before .before .before .args .chunk .now in
+    let all = s .inv .1 .1 ∙ waiting-done chunk (s .next) (s .buffer) (s .g) (c .before .before .loop-test .left) in
+    (sym (ap (λ z. z .gathered) all), sym (ap (λ z. z .buffer) all))
+
 pub feed-spec : {M : Type 1} → statement M
 feed-spec =
     tie.close
@@ -34,8 +53,8 @@ feed-spec =
     (λ c κs. search needs)
     (λ c κs. search needs)
     loop-less
-    (λ c. search needs)
+    loop-again
     (λ c κs. search needs)
     (λ c. search needs)
     (λ c. search needs)
-    (λ c. search needs))
+    returns)
