@@ -28,5 +28,7 @@ if ! "${ask[@]}" < /dev/null > /dev/null; then # which also builds it
     exit 2
 fi
 
+PYTHONDONTWRITEBYTECODE=1 python3 compare/places.py "${1-full}" "${ask[@]}"
+
 judge=$(compare/judge.sh build)
 PYTHONDONTWRITEBYTECODE=1 exec python3 compare/all.py "${1-full}" "$judge" "${ask[@]}"

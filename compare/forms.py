@@ -2,9 +2,9 @@
 """A command as the program `ask` takes it, and as the judge and the model do; their answers as `ask` must give them.
 
 What is compared are `ask`'s commands. Its writers lay their text down from PLACE in a line of ROOM bytes, each `#` before,
-and answer the length and the whole line, or `refused N` and the whole line; its readers say label or footage. The judge and
-the model are asked for the text or the count alone: `for_judge` and `for_model` give what they are asked, `shown` what
-`ask` must then answer, every byte of the line included.
+and answer the length and the whole line, or `refused N` and the whole line; its readers say label or footage, and `refused N PLACE`.
+The judge and the model are asked for the text or the count alone: `for_judge` and `for_model` give what they are asked, `shown` what
+`ask` must then answer, every byte of the line included. The crate's errors have no place: it is the model's.
 
 `python3 compare/forms.py < commands` answers `ask`'s commands with the model in the program's place.
 """
@@ -14,6 +14,9 @@ import sys
 import model
 
 WRITERS = (b"label", b"footage", b"runtime")
+
+# the text reader's refusals have a place, a runtime's have none
+PLACED = (b"read", b"read_as")
 
 # what the crate's errors are called here; a text that cannot be given to the crate, a value that it has none of,
 # and a panic are nothing that `ask` can answer
@@ -46,6 +49,11 @@ def laid(text, place, room):
     return b"%d %s%s%s" % (len(text), b"#" * place, text, b"#" * rest)
 
 
+def with_place(command, answer):
+    """A refusal of the text reader, as `ask` shows it."""
+    return b"%s %d" % (answer, model.place(command, int(answer.split(b" ")[1])))
+
+
 def shown(command, answer):
     """The answer of `ask` to a command, from the judge's or the model's."""
     word, _, rest = command.partition(b" ")
@@ -56,7 +64,7 @@ def shown(command, answer):
             return answer + b" " + b"#" * int(room) if answer.startswith(b"refused") else answer
         return laid(answer, int(place), int(room))
     if refused:
-        return answer
+        return with_place(command, answer) if word in PLACED and answer.startswith(b"refused") else answer
     if word == b"read":
         if b"+" not in rest:
             return b"label " + answer

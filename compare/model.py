@@ -139,6 +139,23 @@ def right_justified(values, wanted):
     return [0] * (wanted - len(values)) + values
 
 
+# Texts that begin some label, and some footage; "fields of any length".
+LABEL_BEGUN = re.compile(rb"-?(?:[0-9]+[:;]){0,3}[0-9]*")
+FOOTAGE_BEGUN = re.compile(rb"-?(?:[0-9]+(?:\+(?:[0-9]+(?:\.[0-9]*)?)?)?)?")
+ALLOWED = {b"read": (LABEL_BEGUN, FOOTAGE_BEGUN), b"read_as": (FOOTAGE_BEGUN,)}
+
+
+def place(command, number):
+    """The place of a refusal of `read` or `read_as`. 1: "the length of the longest beginning of the text that also begins some
+    text of an allowed shape"; 2: "the first digit of the first field that is too long"; else 0."""
+    word, _, rest = command.partition(b" ")
+    text = (rest.split(b" ", TEXTS[word][1])[TEXTS[word][1] :] or [b""])[0]
+    if number == 1:
+        return max(begun.match(text).end() for begun in ALLOWED[word])
+    long = re.search(rb"[0-9]{10}", text) if number == 2 else None
+    return long.start() if long else 0
+
+
 def with_sign(sign, count):
     """The count, "negated for `-`"; "`-0` is 0"."""
     return -count if sign else count

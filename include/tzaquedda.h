@@ -11,9 +11,9 @@
  * number of threads at once. A pointer must not be null and must point at as many elements as the length behind it says (a pointer to
  * anything will do where that is 0); a line that is written must not overlap anything else that is passed.
  *
- * Each answer begins with `refused`: 0, or one of the numbers below, and then every other number of the answer is 0, a fraction 0/1,
- * and no byte of the line has changed. Of several refusals the first is given in the order 6, 5 (of an input), 7, 1, 2, 4, 3, 5 (of
- * the resulting count), 8.
+ * Each answer begins with `refused`: 0, or one of the numbers below, and then every other number of the answer is 0 (but the place in
+ * the text that tzq_read and tzq_read_as answer with 1 and 2), a fraction 0/1, and no byte of the line has changed. Of several refusals
+ * the first is given in the order 6, 5 (of an input), 7, 1, 2, 4, 3, 5 (of the resulting count), 8.
  */
 #ifndef TZAQUEDDA_H
 #define TZAQUEDDA_H
@@ -55,8 +55,8 @@ enum {
 typedef struct { int64_t count; uint64_t rate; } tzq_timecode;
 
 typedef struct { uint64_t refused; int64_t count; } tzq_count;
-typedef struct { uint64_t refused; int64_t count; uint64_t format; } tzq_read_count; /* format 0: a label; 1 to 4: a footage's */
-typedef struct { uint64_t refused; int64_t order; } tzq_order;                       /* -1, 0 or 1 */
+typedef struct { uint64_t refused; int64_t count; uint64_t format; size_t place; } tzq_read_count; /* format 0: a label; 1 to 4: a footage's */
+typedef struct { uint64_t refused; int64_t order; } tzq_order; /* -1, 0 or 1 */
 typedef struct { uint64_t refused; int64_t ticks; } tzq_ticks;
 typedef struct { uint64_t refused; int64_t numerator; uint64_t denominator; } tzq_fraction;
 typedef struct { uint64_t refused; int64_t count; uint64_t rate; } tzq_converted;
@@ -86,10 +86,13 @@ typedef struct {
 /* What the `length` bytes of text read as at a rate, with no film format stated.
  * A label: optional `-`, one to four fields of digits divided by `:` or `;`, the last is frames, then leftward seconds, minutes, hours.
  * A footage: optional `-`, feet, `+`, frames, optionally `.` and a perf field; with a perf field it is 3-perf, without 4-perf.
- * The whole text counts, nothing around it. Refuses 6: no such rate; 1, 2, 3, 5. */
+ * The whole text counts, nothing around it. Refuses 6: no such rate; 1, 2, 3, 5.
+ * `place` is the byte of the text, from 0, where it went wrong. Refused 1: the length of the longest beginning of the text that also
+ * begins some label or footage, so text[place], if the text goes that far, is the byte that none has there. Refused 2: the first digit
+ * of the first field that is too long. Else 0. */
 tzq_read_count tzq_read(const uint8_t *text, size_t length, uint64_t rate);
 
-/* The same with a stated film format, 1 to 4: then only a footage is taken.
+/* The same with a stated film format, 1 to 4: then only a footage is taken, and the place of 1 is that of footages alone.
  * Refuses 6: no such rate or film format; 1, 2; 4: a perf field with a format other than 3-perf; 5. */
 tzq_read_count tzq_read_as(const uint8_t *text, size_t length, uint64_t format, uint64_t rate);
 

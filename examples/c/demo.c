@@ -18,10 +18,10 @@ static void counted(const char *what, tzq_count a) {
         printf("%s: %" PRId64 "\n", what, a.count);
 }
 
-/* what a text reads as: a label's count, or a footage's with its film format */
+/* what a text reads as: a label's count, or a footage's with its film format; refused, the byte where it went wrong */
 static void reads(const char *text, tzq_read_count a) {
     if (a.refused)
-        printf("read %s: refused %" PRIu64 "\n", text, a.refused);
+        printf("read %s: refused %" PRIu64 " at %zu\n", text, a.refused, a.place);
     else if (a.format)
         printf("read %s: %" PRId64 " in film format %" PRIu64 "\n", text, a.count, a.format);
     else
@@ -81,9 +81,14 @@ static void texts(void) {
     read_label("5400+00", 2);
     read_label("1+00.1", 2);
     read_label("1:00", 13);
+    read_label("00:01:00;0x", 5);
+    read_label("12+3:4", 2);
+    read_label("-0000000001:00", 2);
+    read_label("1+2.0000000003", 2);
     read_footage("2+00", 4);
     read_footage("2+00.0", 4);
     read_footage("1:00", 1);
+    read_footage("1+2.", 1);
     read_footage("2+00", 5);
     read_runtime("01:00:03.6", 1);
     read_runtime("1:00:00:00", 1);

@@ -2,6 +2,8 @@
 -- Assumes nothing.
 use mathlib.Core.Path.{sym, ap, _∙_}
 use Rattle.outcomes.specs.Outcome.{Determined}
+use Rattle.answers.proofs.at_place as at-place
+use Rattle.answers.proofs.at_place.Reads as at-place-reads
 use Rattle.answers.proofs.is_count as is-count
 use Rattle.answers.proofs.is_count.Reads as is-count-reads
 use Rattle.answers.proofs.held as held
@@ -12,6 +14,9 @@ use Rattle.answers.proofs.number as number
 use Rattle.answers.proofs.number.Reads as number-reads
 use Rattle.answers.proofs.count as count
 use Rattle.answers.proofs.count.Reads as count-reads
+
+pub at-place-determined : Determined at-place.ended at-place-reads.Asked at-place-reads.Learnt
+at-place-determined κs a asked x y p q = ap (λ z. (z, x .1)) (p ∙ sym q)
 
 pub is-count-determined : Determined is-count.ended is-count-reads.Asked is-count-reads.Learnt
 is-count-determined κs a asked x y p q = ap (λ z. (z, x .1)) (p ∙ sym q)

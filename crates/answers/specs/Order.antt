@@ -26,14 +26,14 @@ abbrev pub first : List Condition → ℕ
 first [] = 0
 first (c ∷ rest) = cond (c .holds) (c .refusal .number) (first rest)
 
+-- none of the refusals has a place in a text
+abbrev pub NoPlaces : List Condition → Type 0
+NoPlaces [] = Unit {0}
+NoPlaces (c ∷ rest) = (c .refusal .place ≡ 0) × NoPlaces rest
+
 -- whether a call goes on behind these conditions, or why it is refused
 abbrev pub judged : List Condition → Verdict
 judged conditions = unless Refused conditions Passed
-
--- the number of a verdict; 0: the call goes on
-abbrev pub verdictNumber : Verdict → ℕ
-verdictNumber Passed = 0
-verdictNumber (Refused e) = e .number
 
 -- no condition holds
 abbrev pub Clear : List Condition → Type 0

@@ -8,7 +8,7 @@ use native.Mathlib.Omega.{arith}
 use Rattle.answers.specs.declared.Refusal.{Refusal}
 use Rattle.answers.specs.declared.Verdict.{Verdict}
 use Rattle.answers.specs.declared.Verdict.the-variants.{Passed, Refused}
-use Rattle.answers.specs.Order.{Condition, unless, first, judged, verdictNumber, Clear}
+use Rattle.answers.specs.Order.{Condition, unless, first, NoPlaces, judged, Clear}
 
 -- ---- the verdict, and what is answered behind it
 
@@ -84,9 +84,16 @@ unless-number numberOf refused told (c ∷ rest) answer none = by (c .holds) (un
     by true later = told (c .refusal)
     by false later = later
 
--- a verdict's number is that of the first condition
-pub judged-first : (conditions : List Condition) (v : Verdict) → judged conditions ≡ v → first conditions ≡ verdictNumber v
-judged-first conditions v h = sym (unless-number verdictNumber Refused (λ e. refl) conditions Passed refl) ∙ ap verdictNumber h
+-- ---- and its place is 0, where none of them has one
+
+pub unless-place : {A : Type 0} (placeOf : A → ℕ) (refused : Refusal → A) → ((e : Refusal) → placeOf (refused e) ≡ e .place)
+    → (conditions : List Condition) → NoPlaces conditions → (answer : A) → placeOf answer ≡ 0 → placeOf (unless refused conditions answer) ≡ 0
+unless-place placeOf refused told [] h answer none = none
+unless-place placeOf refused told (c ∷ rest) h answer none = by (c .holds) (unless-place placeOf refused told rest (h .1) answer none)
+  where
+    by : (t : Bool) → placeOf (unless refused rest answer) ≡ 0 → placeOf (cond t (refused (c .refusal)) (unless refused rest answer)) ≡ 0
+    by true later = told (c .refusal) ∙ h .0
+    by false later = later
 
 -- ---- tests and their negations
 

@@ -10,8 +10,13 @@ use Rattle.answers.specs.declared.Counted.{Counted}
 use Rattle.answers.specs.declared.Counted.the-variants.{Count, Refused}
 use Rattle.answers.specs.Order.{Condition, when, unless}
 
+-- a refusal's number, without a place in a text: its place is 0
 abbrev pub refusal : ℕ → Refusal
-refusal n = record { number = n }
+refusal n = record { number = n; place = 0 }
+
+-- the refusal of a text, with its place in it
+abbrev pub atPlace : Refusal → (place : ℕ) → Refusal
+atPlace e place = record { number = e .number; place = place }
 
 -- 1: the text has no shape
 abbrev pub noShape : Refusal

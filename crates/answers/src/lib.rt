@@ -2,36 +2,72 @@
 ghost use mathlib.Core.Path.{_≡_};
 ghost use Rattle.numbers.specs.Sign.{signed};
 ghost use Rattle.numbers.specs.Nearest.{nearestZ};
-ghost use Rattle.answers.specs.Refusals.{isCount, held, numberOf, countOf};
+ghost use Rattle.answers.specs.Refusals.{atPlace, isCount, held, numberOf, countOf};
 
-// Why a call was refused: the refusal's number. Made only by the constants below, handed on whole.
+// Why a call was refused: the refusal's number, and its place in the text that was read (0, where it has none). Made only by the
+// constants below, handed on whole.
 pub struct Refusal {
     pub number: u8,
+    pub place: usize,
 }
 
 // The text has no shape.
-pub const NO_SHAPE: Refusal = Refusal { number: 1 };
+pub const NO_SHAPE: Refusal = Refusal {
+    number: 1,
+    place: 0,
+};
 
 // The shape fits, but a field has over 9 digits or a fraction over 6.
-pub const TOO_LONG: Refusal = Refusal { number: 2 };
+pub const TOO_LONG: Refusal = Refusal {
+    number: 2,
+    place: 0,
+};
 
 // A dropped label at rate 5 or 11.
-pub const DROPPED_LABEL: Refusal = Refusal { number: 3 };
+pub const DROPPED_LABEL: Refusal = Refusal {
+    number: 3,
+    place: 0,
+};
 
 // A perf field with a stated format that has none.
-pub const NO_PERF_FIELD: Refusal = Refusal { number: 4 };
+pub const NO_PERF_FIELD: Refusal = Refusal {
+    number: 4,
+    place: 0,
+};
 
 // An input number or the resulting count is outside its bounds.
-pub const OUT_OF_BOUNDS: Refusal = Refusal { number: 5 };
+pub const OUT_OF_BOUNDS: Refusal = Refusal {
+    number: 5,
+    place: 0,
+};
 
 // No such rate or film format.
-pub const NO_SUCH: Refusal = Refusal { number: 6 };
+pub const NO_SUCH: Refusal = Refusal {
+    number: 6,
+    place: 0,
+};
 
 // The divisor is zero.
-pub const ZERO_DIVISOR: Refusal = Refusal { number: 7 };
+pub const ZERO_DIVISOR: Refusal = Refusal {
+    number: 7,
+    place: 0,
+};
 
 // Place plus text length exceeds the buffer's length.
-pub const NO_ROOM: Refusal = Refusal { number: 8 };
+pub const NO_ROOM: Refusal = Refusal {
+    number: 8,
+    place: 0,
+};
+
+// The refusal with the place that a scanner says.
+pub fn at_place(e: Refusal, place: usize) -> Refusal
+    ensures answer { λ r. ⌜ r ≡ atPlace e place ⌝ }
+{
+    Refusal {
+        number: e.number,
+        place,
+    }
+}
 
 // A count within its bounds, or why there is none.
 pub enum Counted {

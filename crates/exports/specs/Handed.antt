@@ -49,9 +49,10 @@ handedCount a = record { refused = answers.numberOf a; count = answers.countOf a
 unfoldable pub handedAnswer : Answer → TzqCount
 handedAnswer a = record { refused = timecodes.numberOf a; count = timecodes.timecodeOf a .count }
 
--- a footage answer carries the count together with the film format chosen
+-- a footage answer carries the count together with the film format chosen; a refusal of the text carries its place
 unfoldable pub handedRead : Read → TzqRead
-handedRead a = record { refused = reading.numberOf a; count = reading.timecodeOf a .count; format = reading.formatOf a }
+handedRead a =
+    record { refused = reading.numberOf a; count = reading.timecodeOf a .count; format = reading.formatOf a; place = reading.placeOf a }
 
 -- a refused comparison has order 0
 unfoldable pub handedOrder : Compared → TzqOrder

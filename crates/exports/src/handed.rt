@@ -27,12 +27,14 @@ pub struct TzqCount {
     pub count: i64,
 }
 
-// What a text reads as: its count, and a footage's film format (a label's is 0). Refused: count 0, format 0.
+// What a text reads as: its count, and a footage's film format (a label's is 0). Refused: count 0, format 0, and the place in the text
+// (0 for any other number than 1 and 2).
 #[repr(C)]
 pub struct TzqRead {
     pub refused: u64,
     pub count: i64,
     pub format: u64,
+    pub place: usize,
 }
 
 // How two timecodes compare: -1, 0 or 1. Refused: order 0.
@@ -157,16 +159,19 @@ pub(crate) fn handed_read(a: Read) -> TzqRead
             refused: 0,
             count: tc.count,
             format: 0,
+            place: 0,
         },
         Read::Footage(tc, format) => TzqRead {
             refused: 0,
             count: tc.count,
             format: format.number(),
+            place: 0,
         },
         Read::Refused(e) => TzqRead {
             refused: wide(e.number),
             count: 0,
             format: 0,
+            place: e.place,
         },
     }
 }

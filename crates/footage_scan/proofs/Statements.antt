@@ -7,17 +7,18 @@ use mathlib.Core.Bool.{Bool, true, false}
 use native.Mathlib.Omega.{arith}
 use lib.ListN.{length}
 use borrow.Author.Tests.{lt-ltb}
+use Rattle.beginnings.specs.Beginning.{LongestBeginning}
 use Rattle.digits.specs.Digits.{allDigits, decimal}
 use Rattle.digits.proofs.Width.{decimal-back}
 use Rattle.scanner.specs.declared.text.Fit.the-variants.{Fits, TooLong, NoShape}
 use Rattle.scanner.specs.Long.{isLong, fieldsLong}
-use Rattle.scanner.specs.Shapes.{last, more, pointed, TextParts, textParts, withMinus, TextShape, someLong, HasTextShape}
+use Rattle.scanner.specs.Shapes.{last, more, pointed, TextParts, textParts, withMinus, TextShape, someLong, HasTextShape, Possible}
 use Rattle.scanner.proofs.Long.{not-long, written-short}
 use Rattle.scanner.proofs.Bodies.{point-some}
-use Rattle.scanner.proofs.Statements.{one-text-shape, text-bounded, fields-count, fit-told, text-short, text-long, text-none}
+use Rattle.scanner.proofs.Statements.{one-text-shape, text-bounded, fields-count, fit-told, text-short, text-long, long-place, place-long, stop-longest, text-stops}
 use Rattle.footage_scan.specs.declared.FootageScan.{FootageScan}
-use Rattle.footage_scan.specs.Shape.{footageGrammar, footageParts, asText, hasPerf, HasFootageShape, FootageParts, FootageShape}
-use Rattle.footage_scan.specs.Footage.{fittingFootage, footageFrom, footageScan}
+use Rattle.footage_scan.specs.Shape.{footageGrammar, footageParts, asText, hasPerf, HasFootageShape, FootageParts, FootageShape, IsFootage, LongFootage}
+use Rattle.footage_scan.specs.Footage.{fittingFootage, misfitFootage, footageFrom, footageScan}
 use Rattle.footage_scan.specs.Statements.{FootageReads, FootageFits, FootageTooLong, FootageNoShape, OneFootageShape, FootageBelow, FootageTextBack}
 
 -- ---- a footage's grammar asks for two fields
@@ -57,17 +58,45 @@ footage-fits l = (
 
 pub footage-too-long : FootageTooLong
 unfolding footageScan
-footage-too-long l = (
-  λ e. has-footage l true (fit-told footageGrammar l TooLong (ap (λ (x : FootageScan). x .fit) e)),
-  λ h. ap footageFrom (text-long footageGrammar l (record { parts = asText (h .parts); shape = h .shape; digits = h .digits })),
+footage-too-long l place = (
+  λ e. fit-told footageGrammar l (TooLong place) (ap (λ (x : FootageScan). x .fit) e),
+  λ h. ap footageFrom (text-long footageGrammar l place h),
 )
+
+-- where something is too long, the first such field has a place, and back
+pub footage-long-place : (l : List ℕ) → HasFootageShape l true → (place : ℕ) × LongFootage l place
+footage-long-place l h = long-place footageGrammar l (record { parts = asText (h .parts); shape = h .shape; digits = h .digits })
+
+pub footage-place-long : (l : List ℕ) (place : ℕ) → LongFootage l place → HasFootageShape l true
+footage-place-long l place h = has-footage l true (place-long footageGrammar l place h)
+
+-- there are footages
+possible : Possible footageGrammar
+possible = record { some = omega arith; enough = omega arith }
+
+-- ---- what the fit alone tells
+pub footage-fit-long : (l : List ℕ) (place : ℕ) → footageScan l .fit ≡ TooLong place → LongFootage l place
+unfolding footageScan
+footage-fit-long l place e = fit-told footageGrammar l (TooLong place) e
+
+pub footage-fit-none : (l : List ℕ) (stop : ℕ) → footageScan l .fit ≡ NoShape stop → (p : FootageParts) → ¬ FootageShape l p
+unfolding footageScan
+footage-fit-none l stop e p = fit-told footageGrammar l (NoShape stop) e (asText p)
+
+pub footage-fit-stop : (l : List ℕ) (stop : ℕ) → footageScan l .fit ≡ NoShape stop → LongestBeginning IsFootage l stop
+unfolding footageScan
+footage-fit-stop l stop e = stop-longest footageGrammar l stop possible e
+
+-- a text that is no footage is none by the grammar
+no-text : (l : List ℕ) → ((p : FootageParts) → ¬ FootageShape l p) → (p : TextParts) → ¬ TextShape footageGrammar l p
+no-text l h p t =
+    let q = has-footage l (someLong footageGrammar p) (record { parts = p; shape = t; digits = refl }) in h (q .parts) (q .shape)
 
 pub footage-no-shape : FootageNoShape
 unfolding footageScan
-footage-no-shape l = (
-  λ e p. fit-told footageGrammar l NoShape (ap (λ (x : FootageScan). x .fit) e) (asText p),
-  λ h. ap footageFrom
-      (text-none footageGrammar l (λ p t. let q = has-footage l (someLong footageGrammar p) (record { parts = p; shape = t; digits = refl }) in h (q .parts) (q .shape))),
+footage-no-shape l stop = (
+  λ e. let fit = ap (λ (x : FootageScan). x .fit) e in (footage-fit-none l stop fit, footage-fit-stop l stop fit),
+  λ h. ap footageFrom (text-stops footageGrammar l stop possible (no-text l (h .0)) (h .1)),
 )
 
 pub one-footage-shape : OneFootageShape
@@ -127,12 +156,3 @@ footage-text-back m feet frames h k = (
       ∙ text-back m feet frames h k w (f .is .digits) (not-long w f)
       ∙ ap (fittingFootage m feet frames) (lt-ltb 0 (length w) (f .is .some)),
 )
-
--- ---- what the fit alone tells
-pub footage-fit-long : (l : List ℕ) → footageScan l .fit ≡ TooLong → HasFootageShape l true
-unfolding footageScan
-footage-fit-long l e = has-footage l true (fit-told footageGrammar l TooLong e)
-
-pub footage-fit-none : (l : List ℕ) → footageScan l .fit ≡ NoShape → (p : FootageParts) → ¬ FootageShape l p
-unfolding footageScan
-footage-fit-none l e p = fit-told footageGrammar l NoShape e (asText p)

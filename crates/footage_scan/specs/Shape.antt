@@ -8,7 +8,7 @@ use lib.Dec.{ltb}
 use lib.ListN.{length}
 use Rattle.scanner.specs.declared.fields.Dividers.the-variants.{Plus}
 use Rattle.scanner.specs.declared.text.Grammar.{Grammar}
-use Rattle.scanner.specs.Shapes.{TextParts, textParts, TextShape, someLong}
+use Rattle.scanner.specs.Shapes.{TextParts, textParts, TextShape, someLong, OfGrammar, LongText}
 
 -- two fields divided by `+`, optionally `.` and a perf field
 abbrev pub footageGrammar : Grammar
@@ -44,3 +44,11 @@ pub record HasFootageShape (l : List ℕ) (long : Bool) : Type 0 where
   pub parts : FootageParts
   pub shape : FootageShape l parts
   pub digits : footageLong parts ≡ long
+
+-- a text of the shape, fields of any length
+abbrev pub IsFootage : (l : List ℕ) → Type 0
+IsFootage l = OfGrammar footageGrammar l
+
+-- a text has the shape, and the first digit of the first field that is too long, a perf field too, stands at this place
+abbrev pub LongFootage : (l : List ℕ) (place : ℕ) → Type 0
+LongFootage l place = LongText footageGrammar l place

@@ -5,10 +5,11 @@ use mathlib.Core.Path.{_≡_}
 use mathlib.Core.Logic.{_↔_}
 use mathlib.Core.List.{List, _∷_, _++_}
 use mathlib.Core.Bool.{Bool, true, false}
+use Rattle.beginnings.specs.Beginning.{LongestBeginning}
 use Rattle.digits.specs.Digits.{valueOf, decimal}
 use Rattle.scanner.specs.declared.text.Fit.the-variants.{Fits, TooLong, NoShape}
 use Rattle.scanner.specs.Shapes.{withMinus}
-use Rattle.footage_scan.specs.Shape.{FootageParts, FootageShape, hasPerf, footageLong, HasFootageShape}
+use Rattle.footage_scan.specs.Shape.{FootageParts, FootageShape, hasPerf, footageLong, HasFootageShape, IsFootage, LongFootage}
 use Rattle.footage_scan.specs.Footage.{fittingFootage, misfitFootage, footageScan}
 
 -- a text of the shape, no field of over 9 digits, reads as its sign, the values of its feet and frames, and whether it has a perf field
@@ -21,13 +22,15 @@ FootageReads =
 abbrev pub FootageFits : Type 0
 FootageFits = (l : List ℕ) → (footageScan l .fit ≡ Fits) ↔ HasFootageShape l false
 
--- it is too long exactly when it has the shape, but a field has over 9 digits
+-- it is too long exactly when it has the shape, but a field has over 9 digits; the first such begins at the place
 abbrev pub FootageTooLong : Type 0
-FootageTooLong = (l : List ℕ) → (footageScan l ≡ misfitFootage TooLong) ↔ HasFootageShape l true
+FootageTooLong = (l : List ℕ) (place : ℕ) → (footageScan l ≡ misfitFootage (TooLong place)) ↔ LongFootage l place
 
--- it has no shape exactly when it has not this one
+-- it has no shape exactly when it has not this one; where the scan stopped is the length of the longest beginning that also begins a footage
 abbrev pub FootageNoShape : Type 0
-FootageNoShape = (l : List ℕ) → (footageScan l ≡ misfitFootage NoShape) ↔ ((p : FootageParts) → ¬ FootageShape l p)
+FootageNoShape =
+    (l : List ℕ) (stop : ℕ)
+    → (footageScan l ≡ misfitFootage (NoShape stop)) ↔ (((p : FootageParts) → ¬ FootageShape l p) × LongestBeginning IsFootage l stop)
 
 -- a text has the shape in one way only
 abbrev pub OneFootageShape : Type 0

@@ -19,7 +19,7 @@ use Rattle.scanner.proofs.Signed.{body-begins}
 use Rattle.scanner.proofs.OneShape.{body-front, body-behind, sign-one}
 use Rattle.label_scan.specs.Shape.{labelGrammar, LabelShape}
 use Rattle.label_scan.specs.Label.{misfitLabel, labelScan}
-use Rattle.label_scan.proofs.Statements.{label-no-shape}
+use Rattle.label_scan.proofs.Statements.{label-none-fit}
 
 module _ (d : List ℕ) (c : ℕ) (r : List ℕ) (is : IsField d) (digit : isDigit c ≡ false) (divider : isDivider c ≡ false) (m : Bool) where
   other-shape : (n : Bool) (fields : List (List ℕ)) → ¬ LabelShape (withMinus m (d ++ c ∷ r)) n fields
@@ -38,5 +38,5 @@ module _ (d : List ℕ) (c : ℕ) (r : List ℕ) (is : IsField d) (digit : isDig
       let z : _≡_ {A = ℕ} 0 1 = cc in
       omega arith
 
-  pub no-label : labelScan (withMinus m (d ++ c ∷ r)) ≡ misfitLabel NoShape
-  no-label = label-no-shape (withMinus m (d ++ c ∷ r)) .1 other-shape
+  pub no-label : (stop : ℕ) × (labelScan (withMinus m (d ++ c ∷ r)) ≡ misfitLabel (NoShape stop))
+  no-label = label-none-fit (withMinus m (d ++ c ∷ r)) other-shape

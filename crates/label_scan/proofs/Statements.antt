@@ -6,16 +6,17 @@ use mathlib.Core.List.{List, [], _∷_, _++_, append-nil}
 use mathlib.Core.Bool.{Bool, true, false}
 use native.Mathlib.Omega.{arith}
 use lib.ListN.{length}
+use Rattle.beginnings.specs.Beginning.{LongestBeginning}
 use Rattle.digits.specs.Digits.{allDigits, decimal}
 use Rattle.digits.proofs.Width.{decimal-back}
 use Rattle.scanner.specs.declared.text.Fit.the-variants.{Fits, TooLong, NoShape}
 use Rattle.scanner.specs.Long.{fieldsLong, ShortField}
-use Rattle.scanner.specs.Shapes.{last, more, TextParts, textParts, withMinus, TextShape, someLong, HasTextShape}
+use Rattle.scanner.specs.Shapes.{last, more, TextParts, textParts, withMinus, TextShape, someLong, HasTextShape, Possible}
 use Rattle.scanner.proofs.Long.{not-long, written-short}
-use Rattle.scanner.proofs.Statements.{one-text-shape, fit-told, text-short, text-long, text-none}
+use Rattle.scanner.proofs.Statements.{one-text-shape, fit-told, text-short, text-long, long-place, place-long, text-none, stop-longest, text-stops}
 use Rattle.label_scan.specs.declared.LabelScan.{LabelScan}
-use Rattle.label_scan.specs.Shape.{labelGrammar, LabelShape, HasLabelShape}
-use Rattle.label_scan.specs.Label.{labelFrom, labelScan}
+use Rattle.label_scan.specs.Shape.{labelGrammar, LabelShape, HasLabelShape, IsLabel, LongLabel}
+use Rattle.label_scan.specs.Label.{misfitLabel, labelFrom, labelScan}
 use Rattle.label_scan.specs.Statements.{LabelReads, LabelFits, LabelTooLong, LabelNoShape, OneLabelShape, LabelBack}
 
 -- ---- a label's grammar allows no tail
@@ -51,16 +52,45 @@ label-fits l = (
 
 pub label-too-long : LabelTooLong
 unfolding labelScan
-label-too-long l = (
-  λ e. has-label l true (fit-told labelGrammar l TooLong (ap (λ (x : LabelScan). x .fit) e)),
-  λ h. ap labelFrom (text-long labelGrammar l (record { parts = textParts (h .minus) (h .fields) []; shape = h .shape; digits = h .digits })),
+label-too-long l place = (
+  λ e. fit-told labelGrammar l (TooLong place) (ap (λ (x : LabelScan). x .fit) e),
+  λ h. ap labelFrom (text-long labelGrammar l place h),
 )
+
+-- where something is too long, the first such field has a place, and back
+pub label-long-place : (l : List ℕ) → HasLabelShape l true → (place : ℕ) × LongLabel l place
+label-long-place l h = long-place labelGrammar l (record { parts = textParts (h .minus) (h .fields) []; shape = h .shape; digits = h .digits })
+
+pub label-place-long : (l : List ℕ) (place : ℕ) → LongLabel l place → HasLabelShape l true
+label-place-long l place h = has-label l true (place-long labelGrammar l place h)
+
+-- there are labels
+possible : Possible labelGrammar
+possible = record { some = omega arith; enough = omega arith }
+
+-- ---- what the fit alone tells
+pub label-fit-long : (l : List ℕ) (place : ℕ) → labelScan l .fit ≡ TooLong place → LongLabel l place
+unfolding labelScan
+label-fit-long l place e = fit-told labelGrammar l (TooLong place) e
+
+pub label-fit-none : (l : List ℕ) (stop : ℕ) → labelScan l .fit ≡ NoShape stop → (m : Bool) (fields : List (List ℕ)) → ¬ LabelShape l m fields
+unfolding labelScan
+label-fit-none l stop e m fields = fit-told labelGrammar l (NoShape stop) e (textParts m fields [])
+
+pub label-fit-stop : (l : List ℕ) (stop : ℕ) → labelScan l .fit ≡ NoShape stop → LongestBeginning IsLabel l stop
+unfolding labelScan
+label-fit-stop l stop e = stop-longest labelGrammar l stop possible e
+
+-- a text without the shape is scanned up to some place
+pub label-none-fit : (l : List ℕ) → ((m : Bool) (fields : List (List ℕ)) → ¬ LabelShape l m fields) → (stop : ℕ) × (labelScan l ≡ misfitLabel (NoShape stop))
+unfolding labelScan
+label-none-fit l h = (_, ap labelFrom (text-none labelGrammar l (λ p shape. h (p .minus) (p .fields) (as-label l p shape))))
 
 pub label-no-shape : LabelNoShape
 unfolding labelScan
-label-no-shape l = (
-  λ e m fields. fit-told labelGrammar l NoShape (ap (λ (x : LabelScan). x .fit) e) (textParts m fields []),
-  λ h. ap labelFrom (text-none labelGrammar l (λ p shape. h (p .minus) (p .fields) (as-label l p shape))),
+label-no-shape l stop = (
+  λ e. let fit = ap (λ (x : LabelScan). x .fit) e in (label-fit-none l stop fit, label-fit-stop l stop fit),
+  λ h. ap labelFrom (text-stops labelGrammar l stop possible (λ p shape. h .0 (p .minus) (p .fields) (as-label l p shape)) (h .1)),
 )
 
 pub one-label-shape : OneLabelShape
@@ -90,12 +120,3 @@ label-back sign h m s f a b c i j k l p q r =
     })
     (rw (not-long (decimal 2 h) hours, not-long (decimal 2 m) minutes, not-long (decimal 2 s) seconds, not-long (decimal 2 f) frames))
     ∙ rw (decimal-back 2 h, decimal-back 2 m, decimal-back 2 s, decimal-back 2 f)
-
--- ---- what the fit alone tells
-pub label-fit-long : (l : List ℕ) → labelScan l .fit ≡ TooLong → HasLabelShape l true
-unfolding labelScan
-label-fit-long l e = has-label l true (fit-told labelGrammar l TooLong e)
-
-pub label-fit-none : (l : List ℕ) → labelScan l .fit ≡ NoShape → (m : Bool) (fields : List (List ℕ)) → ¬ LabelShape l m fields
-unfolding labelScan
-label-fit-none l e m fields = fit-told labelGrammar l NoShape e (textParts m fields [])

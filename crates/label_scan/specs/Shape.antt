@@ -7,7 +7,7 @@ use mathlib.Core.Bool.{Bool}
 use Rattle.scanner.specs.declared.fields.Dividers.the-variants.{ColonOrSemicolon}
 use Rattle.scanner.specs.declared.text.Grammar.{Grammar}
 use Rattle.scanner.specs.Long.{fieldsLong}
-use Rattle.scanner.specs.Shapes.{textParts, TextShape}
+use Rattle.scanner.specs.Shapes.{textParts, TextShape, OfGrammar, LongText}
 
 -- one to four fields, each two divided by `:` or `;`
 abbrev pub labelGrammar : Grammar
@@ -23,3 +23,11 @@ pub record HasLabelShape (l : List ℕ) (long : Bool) : Type 0 where
   pub fields : List (List ℕ)
   pub shape : LabelShape l minus fields
   pub digits : fieldsLong fields ≡ long
+
+-- a text of the shape, fields of any length
+abbrev pub IsLabel : (l : List ℕ) → Type 0
+IsLabel l = OfGrammar labelGrammar l
+
+-- a text has the shape, and the first digit of the first field that is too long stands at this place
+abbrev pub LongLabel : (l : List ℕ) (place : ℕ) → Type 0
+LongLabel l place = LongText labelGrammar l place

@@ -5,13 +5,14 @@ use mathlib.Core.Path.{_≡_}
 use mathlib.Core.Logic.{_↔_}
 use mathlib.Core.List.{List, [], _∷_, _++_, map}
 use mathlib.Core.Bool.{Bool, true, false}
+use Rattle.beginnings.specs.Beginning.{LongestBeginning}
 use Rattle.digits.specs.Digits.{valueOf, decimal}
 use Rattle.scanner.specs.declared.text.Fit.the-variants.{Fits, TooLong, NoShape}
 use Rattle.scanner.specs.Long.{fieldsLong}
 use Rattle.scanner.specs.Justified.{justified}
 use Rattle.scanner.specs.Scan.{isDivider}
 use Rattle.scanner.specs.Shapes.{withMinus}
-use Rattle.label_scan.specs.Shape.{LabelShape, HasLabelShape}
+use Rattle.label_scan.specs.Shape.{LabelShape, HasLabelShape, IsLabel, LongLabel}
 use Rattle.label_scan.specs.Label.{fittingLabel, misfitLabel, labelScan}
 
 -- a text of the shape, no field of over 9 digits, reads as its sign and the values of its fields, right-justified, absent ones zero
@@ -24,13 +25,16 @@ LabelReads =
 abbrev pub LabelFits : Type 0
 LabelFits = (l : List ℕ) → (labelScan l .fit ≡ Fits) ↔ HasLabelShape l false
 
--- it is too long exactly when it has the shape, but a field has over 9 digits
+-- it is too long exactly when it has the shape, but a field has over 9 digits; the first such begins at the place
 abbrev pub LabelTooLong : Type 0
-LabelTooLong = (l : List ℕ) → (labelScan l ≡ misfitLabel TooLong) ↔ HasLabelShape l true
+LabelTooLong = (l : List ℕ) (place : ℕ) → (labelScan l ≡ misfitLabel (TooLong place)) ↔ LongLabel l place
 
--- it has no shape exactly when it has not this one
+-- it has no shape exactly when it has not this one; where the scan stopped is the length of the longest beginning that also begins a label
 abbrev pub LabelNoShape : Type 0
-LabelNoShape = (l : List ℕ) → (labelScan l ≡ misfitLabel NoShape) ↔ ((minus : Bool) (fields : List (List ℕ)) → ¬ LabelShape l minus fields)
+LabelNoShape =
+    (l : List ℕ) (stop : ℕ)
+    → (labelScan l ≡ misfitLabel (NoShape stop))
+    ↔ (((minus : Bool) (fields : List (List ℕ)) → ¬ LabelShape l minus fields) × LongestBeginning IsLabel l stop)
 
 -- a text has the shape in one way only
 abbrev pub OneLabelShape : Type 0

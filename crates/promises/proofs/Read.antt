@@ -46,23 +46,23 @@ module _ (rate : ℕ) (text : List ℕ) (r : isRate rate ≡ true) where
       → readText text Nothing rate ≡ labelRead rate minus fields
   read-label minus fields e =
       read-shaped text Nothing rate r refl
-      ∙ ap (λ (s : LabelScan). readShaped rate Nothing (labelOr (footageShaped (footageScan text)) s)) e
+      ∙ ap (λ (s : LabelScan). readShaped rate Nothing (labelOr (λ stop. footageShaped stop (footageScan text)) s)) e
 
   module _ (minus : Bool) (feet frames : ℕ) (perf : Bool) (e : footageScan text ≡ fittingFootage minus feet frames perf) where
     -- a footage that is no label, no film format stated
-    pub read-unstated : labelScan text ≡ misfitLabel NoShape
+    pub read-unstated : (stop : ℕ) → labelScan text ≡ misfitLabel (NoShape stop)
         → readText text Nothing rate ≡ footageRead rate (formatFor Nothing perf) minus feet frames perf
-    read-unstated none =
+    read-unstated stop none =
         read-shaped text Nothing rate r refl
-        ∙ ap (λ (s : LabelScan). readShaped rate Nothing (labelOr (footageShaped (footageScan text)) s)) none
-        ∙ ap (λ (s : FootageScan). readShaped rate Nothing (footageShaped s)) e
+        ∙ ap (λ (s : LabelScan). readShaped rate Nothing (labelOr (λ stop. footageShaped stop (footageScan text)) s)) none
+        ∙ ap (λ (s : FootageScan). readShaped rate Nothing (footageShaped stop s)) e
 
     -- a footage in a stated film format
     pub read-stated : (format : FilmFormat) → readText text (Format (formatNumber format)) rate ≡ footageRead rate format minus feet frames perf
     unfolding isFormat
     read-stated format =
         read-shaped text (Format (formatNumber format)) rate r (numbered format)
-        ∙ ap (λ (s : FootageScan). readShaped rate (Format (formatNumber format)) (footageShaped s)) e
+        ∙ ap (λ (s : FootageScan). readShaped rate (Format (formatNumber format)) (footageShaped 0 s)) e
         ∙ ap (λ (f : Filmed). footageRead rate (formatFrom f) minus feet frames perf) (at-number format)
       where
         numbered : (f : FilmFormat) → isFormat (formatNumber f) ≡ true

@@ -142,12 +142,12 @@ module _ (format : FilmFormat) (rate : ℕ) (count : ℤ) (r : isRate rate ≡ t
       takes FF16mm = refl
 
   -- it is no label: `+` is no divider
-  not-label : labelScan (footageText format count) ≡ misfitLabel NoShape
+  not-label : (stop : ℕ) × (labelScan (footageText format count) ≡ misfitLabel (NoShape stop))
   unfolding footageText
   not-label =
-      ap labelScan (feet-parts (isNeg count) format written ∙ sign-is (isNeg count) _)
-      ∙ no-label (decimal 1 (written .feet)) 43 (decimal 2 (written .frames) ++ perfText format (written .perf))
-      (decimal-field 1 (written .feet)) refl refl (isNeg count)
+      let none = no-label (decimal 1 (written .feet)) 43 (decimal 2 (written .frames) ++ perfText format (written .perf))
+      (decimal-field 1 (written .feet)) refl refl (isNeg count) in
+      (none .0, ap labelScan (feet-parts (isNeg count) format written ∙ sign-is (isNeg count) _) ∙ none .1)
 
 pub footage-read-back : FootageReadBack
 footage-read-back format rate count r c =
@@ -162,8 +162,9 @@ unstated-read-back rate count r c = (back FF35mm4perf refl, back FF35mm3perf ref
         → readText (footageText format count) Nothing rate ≡ read.Footage (timecode count rate) format
     back format chosen =
         let x = written format rate count r c in
+        let none = not-label format rate count r c in
         read-unstated rate (footageText format count) r (isNeg count) (x .feet) (x .frames) (allowsPerfField format)
         (footage-scan format rate count r c)
-        (not-label format rate count r c)
+        (none .0) (none .1)
         ∙ ap (λ (f : FilmFormat). footageRead rate f (isNeg count) (x .feet) (x .frames) (allowsPerfField format)) chosen
         ∙ footage-read format rate count r c

@@ -1,36 +1,31 @@
 -- Demand 1, exactly when: each definition is its list of conditions before an answer, so its number is that of the first that holds.
 -- Assumes nothing.
 use Prim.Native.Nat.{ℕ}
-use mathlib.Core.Path.{_≡_, refl, sym, _∙_, ap}
+use mathlib.Core.Path.{_≡_, refl, sym, ap, subst}
 use mathlib.Core.List.{List, [], _∷_}
 use lib.IntN.{ℤ, _+ℤ_, _-ℤ_}
 use lib.ListN.{length}
+use Rattle.answers.specs.declared.Refusal.{Refusal}
 use Rattle.answers.specs.declared.Verdict.{Verdict}
 use Rattle.answers.specs.declared.Verdict.the-variants as verdict
 use Rattle.answers.specs.declared.Counted.the-variants as counted
-use Rattle.answers.specs.Order.{Condition, unless, first, judged}
-use Rattle.answers.specs.OrderLaws.{judged-first, unless-number}
-use Rattle.answers.specs.Refusals as answers
+use Rattle.answers.specs.Order.{Condition, unless, NoPlaces, judged}
+use Rattle.answers.specs.OrderLaws.{unless-number, unless-place}
 use Rattle.rates.specs.declared.Rated.the-variants as rated
 use Rattle.rates.specs.Rates.{badRate, rateAt}
-use Rattle.rates.specs.Rates as rates
 use Rattle.timecodes.specs.declared.Timecode.{Timecode}
 use Rattle.timecodes.specs.declared.Answer.the-variants.{At, Refused}
-use Rattle.timecodes.specs.Timecode.{numberOf}
 use Rattle.timecodes.specs.Instant.{instant}
 use Rattle.timecodes.specs.Admitted.{admits, admitsBoth}
 use Rattle.film.specs.declared.Filmed.the-variants as filmed
 use Rattle.film.specs.Film.{badFormat, formatIn, formatAt}
-use Rattle.film.specs.Film as film
 use Rattle.minutes.specs.Minutes.{badMinute, minuteAt}
 use Rattle.time.specs.declared.Ticked.the-variants as ticked
 use Rattle.time.specs.declared.Timed.{Timed}
 use Rattle.time.specs.declared.Timed.the-variants as timed
 use Rattle.time.specs.Frames.{framesWhen, framesAt, ticksWhen, ticksAt, secondsWhen, secondsAt}
 use Rattle.time.specs.Ticks.{ticksOf}
-use Rattle.time.specs.Ticks as ticks
 use Rattle.time.specs.Seconds.{IsSeconds, SecondsOf}
-use Rattle.time.specs.Seconds as seconds
 use Rattle.arithmetic.specs.Sum.{joinedWhen, joined}
 use Rattle.arithmetic.specs.Product.{mulWhen, mulOf}
 use Rattle.arithmetic.specs.Truncating.{divWhen, divOf, remOf}
@@ -38,61 +33,89 @@ use Rattle.arithmetic.specs.Flooring.{divqWhen, divqOf}
 use Rattle.arithmetic.specs.Remainder.{remqWhen, remqOf}
 use Rattle.arithmetic.specs.declared.Compared.the-variants as compared
 use Rattle.arithmetic.specs.Compare.{compareOf}
-use Rattle.arithmetic.specs.Compare as compare
 use Rattle.arithmetic.specs.Count.{negOf, absOf, rebaseWhen, rebaseOf}
 use Rattle.chains.specs.Chain.{convertWhen, convertOf}
-use Rattle.written.proofs.Statements.{number-behind}
+use Rattle.written.specs.declared.Written.{Written}
+use Rattle.written.specs.declared.Written.the-variants as written-is
+use Rattle.written.specs.Written.{Text, NoText, writtenWhen}
+use Rattle.written.proofs.Statements.{answer-behind}
 use Rattle.label_writer.specs.declared.Sectioned.the-variants as sectioned-is
 use Rattle.label_writer.specs.Sections.{sectioned}
-use Rattle.label_writer.specs.Sections as sections
 use Rattle.label_writer.specs.LabelText.{labelText, labelWhen, labelDraft}
 use Rattle.footage_writer.specs.FootageText.{footageText, footageWhen, footageDraft}
 use Rattle.runtime_writer.specs.RuntimeText.{runtimeText, runtimeWhen, runtimeDraft}
-use Rattle.promises.specs.When.{RefusedWhen}
+use Rattle.promises.specs.Given.{noRefusal, inCount, inAnswer, inTicks, inSeconds, inOrder, inWritten, inSections, inRow, inFormat, Given}
+use Rattle.promises.specs.When.{givenBy, RefusedWhen}
+
+-- behind conditions none of which has a place, for any kind of answer
+given : {A : Type 0} (inA : A → Refusal) (refused : Refusal → A) → ((e : Refusal) → inA (refused e) ≡ e)
+    → (conditions : List Condition) → NoPlaces conditions → (answer : A) → inA answer ≡ noRefusal → Given conditions (inA (unless refused conditions answer))
+given inA refused told conditions none answer is = record {
+  number = unless-number (λ a. inA a .number) refused (λ e. ap (λ (x : Refusal). x .number) (told e)) conditions answer (ap (λ (x : Refusal). x .number) is);
+  place = unless-place (λ a. inA a .place) refused (λ e. ap (λ (x : Refusal). x .place) (told e)) conditions none answer (ap (λ (x : Refusal). x .place) is);
+}
 
 -- an answer that is a timecode
-given : (conditions : List Condition) (tc : Timecode) → numberOf (unless Refused conditions (At tc)) ≡ first conditions
-given conditions tc = unless-number numberOf Refused (λ e. refl) conditions (At tc) refl
+at : (conditions : List Condition) → NoPlaces conditions → (tc : Timecode) → Given conditions (inAnswer (unless Refused conditions (At tc)))
+at conditions none tc = given inAnswer Refused (λ e. refl) conditions none (At tc) refl
+
+-- a text that is written
+laid : (conditions : List Condition) (line : List ℕ) (place : ℕ) (text : List ℕ) → NoPlaces (writtenWhen conditions line place text)
+    → Given (writtenWhen conditions line place text) (givenBy (unless NoText conditions (Text text)) line place)
+laid conditions line place text none =
+    let when = writtenWhen conditions line place text in
+    subst (λ (a : Written). Given when (inWritten a)) (sym (answer-behind conditions line place text))
+    (given inWritten written-is.Refused (λ e. refl) when none (written-is.Length (length text)) refl)
 
 -- seconds, whose fraction is told by what it is
-second-number : (tc : Timecode) (answer : Timed) → SecondsOf tc answer → seconds.numberOf answer ≡ first (admits tc)
-second-number tc answer h = by (judged (admits tc)) refl answer h
+second-given : (tc : Timecode) (answer : Timed) → SecondsOf tc answer → Given (admits tc) (inSeconds answer)
+second-given tc answer h = by (judged (admits tc)) refl answer h
   where
-    taken : (answer : Timed) → IsSeconds (instant tc) answer → seconds.numberOf answer ≡ 0
+    taken : (answer : Timed) → IsSeconds (instant tc) answer → inSeconds answer ≡ noRefusal
     taken (timed.Seconds p q) k = refl
     taken (timed.Refused e) k = absurd k
 
-    by : (v : Verdict) → judged (admits tc) ≡ v → (answer : Timed) → SecondsOf tc answer → seconds.numberOf answer ≡ first (admits tc)
-    by verdict.Passed e answer h = taken answer (h .seconds e) ∙ sym (judged-first (admits tc) verdict.Passed e)
-    by (verdict.Refused r) e answer h = ap seconds.numberOf (h .refused r e) ∙ sym (judged-first (admits tc) (verdict.Refused r) e)
+    of-verdict : (v : Verdict) → Refusal
+    of-verdict verdict.Passed = noRefusal
+    of-verdict (verdict.Refused e) = e
+
+    judged-given : (v : Verdict) → judged (admits tc) ≡ v → Given (admits tc) (of-verdict v)
+    judged-given v e =
+        subst (λ (x : Verdict). Given (admits tc) (of-verdict x)) e
+        (given of-verdict verdict.Refused (λ e. refl) (admits tc) (refl, (refl, tt)) verdict.Passed refl)
+
+    by : (v : Verdict) → judged (admits tc) ≡ v → (answer : Timed) → SecondsOf tc answer → Given (admits tc) (inSeconds answer)
+    by verdict.Passed e answer h = subst (Given (admits tc)) (sym (taken answer (h .seconds e))) (judged-given verdict.Passed e)
+    by (verdict.Refused r) e answer h =
+        subst (λ (a : Timed). Given (admits tc) (inSeconds a)) (sym (h .refused r e)) (judged-given (verdict.Refused r) e)
 
 pub refused-when : RefusedWhen
 unfolding labelDraft footageDraft runtimeDraft sectioned framesAt ticksAt secondsAt ticksOf
     joined compareOf mulOf divOf remOf divqOf remqOf negOf absOf rebaseOf convertOf rateAt formatAt minuteAt
 refused-when = record {
-  write-label = λ tc line place. number-behind (labelWhen tc) line place (labelText (tc .rate) (tc .count));
-  write-footage = λ tc format line place. number-behind (footageWhen tc format) line place (footageText (formatIn format) (tc .count));
-  write-runtime =
-      λ tc precision line place. number-behind (runtimeWhen tc precision) line place (runtimeText (tc .rate) precision (tc .count));
-  sections = λ tc. unless-number sections.numberOf sectioned-is.Refused (λ e. refl) (admits tc) _ refl;
-  with-frames = λ count rate. given (framesWhen count rate) _;
-  with-premiere-ticks = λ t rate. given (ticksWhen t rate) _;
-  with-seconds = λ p q rate. given (secondsWhen p q rate) _;
-  premiere-ticks = λ tc. unless-number ticks.numberOf ticked.Refused (λ e. refl) (admits tc) _ refl;
-  seconds = second-number;
-  add = λ a b. given (joinedWhen _+ℤ_ a b) _;
-  sub = λ a b. given (joinedWhen _-ℤ_ a b) _;
-  cmp = λ a b. unless-number compare.numberOf compared.Refused (λ e. refl) (admitsBoth a b) _ refl;
-  mul = λ tc p q. given (mulWhen tc p q) _;
-  div = λ tc n. given (divWhen tc n) _;
-  rem = λ tc n. given (divWhen tc n) _;
-  divq = λ tc p q. given (divqWhen tc p q) _;
-  remq = λ tc p q. given (remqWhen tc p q) _;
-  neg = λ tc. given (admits tc) _;
-  abs = λ tc. given (admits tc) _;
-  rebase = λ tc rate. given (rebaseWhen tc rate) _;
-  convert = λ tc list. given (convertWhen tc list) _;
-  framerate-at = λ rate. unless-number rates.numberOf rated.Refused (λ e. refl) (badRate rate ∷ []) _ refl;
-  format-at = λ format. unless-number film.numberOf filmed.Refused (λ e. refl) (badFormat format ∷ []) _ refl;
-  minute-start = λ minute. unless-number answers.numberOf counted.Refused (λ e. refl) (badMinute minute ∷ []) _ refl;
+  write-label = λ tc line place. laid (labelWhen tc) line place (labelText (tc .rate) (tc .count)) (refl, (refl, (refl, tt)));
+  write-footage = λ tc format line place. laid (footageWhen tc format) line place (footageText (formatIn format) (tc .count)) (refl, (refl, (refl, (refl, tt))));
+  write-runtime = λ tc precision line place.
+      laid (runtimeWhen tc precision) line place (runtimeText (tc .rate) precision (tc .count)) (refl, (refl, (refl, (refl, tt))));
+  sections = λ tc. given inSections sectioned-is.Refused (λ e. refl) (admits tc) (refl, (refl, tt)) _ refl;
+  with-frames = λ count rate. at (framesWhen count rate) (refl, (refl, tt)) _;
+  with-premiere-ticks = λ t rate. at (ticksWhen t rate) (refl, (refl, tt)) _;
+  with-seconds = λ p q rate. at (secondsWhen p q rate) (refl, (refl, (refl, tt))) _;
+  premiere-ticks = λ tc. given inTicks ticked.Refused (λ e. refl) (admits tc) (refl, (refl, tt)) _ refl;
+  seconds = second-given;
+  add = λ a b. at (joinedWhen _+ℤ_ a b) (refl, (refl, (refl, (refl, (refl, tt))))) _;
+  sub = λ a b. at (joinedWhen _-ℤ_ a b) (refl, (refl, (refl, (refl, (refl, tt))))) _;
+  cmp = λ a b. given inOrder compared.Refused (λ e. refl) (admitsBoth a b) (refl, (refl, (refl, (refl, tt)))) _ refl;
+  mul = λ tc p q. at (mulWhen tc p q) (refl, (refl, (refl, (refl, tt)))) _;
+  div = λ tc n. at (divWhen tc n) (refl, (refl, (refl, tt))) _;
+  rem = λ tc n. at (divWhen tc n) (refl, (refl, (refl, tt))) _;
+  divq = λ tc p q. at (divqWhen tc p q) (refl, (refl, (refl, (refl, (refl, tt))))) _;
+  remq = λ tc p q. at (remqWhen tc p q) (refl, (refl, (refl, (refl, (refl, tt))))) _;
+  neg = λ tc. at (admits tc) (refl, (refl, tt)) _;
+  abs = λ tc. at (admits tc) (refl, (refl, tt)) _;
+  rebase = λ tc rate. at (rebaseWhen tc rate) (refl, (refl, (refl, tt))) _;
+  convert = λ tc list. at (convertWhen tc list) (refl, (refl, (refl, (refl, tt)))) _;
+  framerate-at = λ rate. given inRow rated.Refused (λ e. refl) (badRate rate ∷ []) (refl, tt) _ refl;
+  format-at = λ format. given inFormat filmed.Refused (λ e. refl) (badFormat format ∷ []) (refl, tt) _ refl;
+  minute-start = λ minute. given inCount counted.Refused (λ e. refl) (badMinute minute ∷ []) (refl, tt) _ refl;
 }

@@ -1,4 +1,5 @@
--- Demand 1, refusals: a refusal gives its number with count 0, and changes no byte of a lent buffer. When it is given: When.antt.
+-- Demand 1, refusals: a refusal gives its number with count 0 and its place, and changes no byte of a lent buffer. When it is given, and
+-- with which place: When.antt, and for the text reader specs/Statements.antt of `reading`.
 -- Assumes nothing.
 use Prim.Native.Nat.{ℕ, _<_}
 use mathlib.Core.Path.{_≡_}
@@ -36,7 +37,7 @@ use Rattle.runtime_writer.specs.RuntimeText.{runtimeDraft}
 abbrev pub noSections : TimecodeSections
 noSections = record { negative = false; hours = 0; minutes = 0; seconds = 0; frames = 0 }
 
--- a refusal gives its number with count 0; any other number in the answer is 0, a fraction 0/1: of every kind of answer
+-- a refusal gives its number with count 0; but for its place any other number in the answer is 0, a fraction 0/1: of every kind of answer
 pub record RefusedZero : Type 0 where
   pub count : (a : Counted) → 0 < counted.numberOf a → counted.countOf a ≡ pos 0
   pub text : (a : Read) → 0 < read.numberOf a → (read.timecodeOf a ≡ timecode (pos 0) 0) × (read.formatOf a ≡ 0)

@@ -105,6 +105,9 @@ pub record Promises : Type 0 where
   -- texts read
   pub text-reads : scanner.TextReads
   pub fit-sound : scanner.FitSound
+  pub stop-longest : scanner.StopLongest
+  pub shape-ascii : scanner.ShapeAscii
+  pub fields-stand : scanner.FieldsStand
   pub one-text-shape : scanner.OneTextShape
   pub text-bounded : scanner.TextBounded
   pub label-reads : label-scan.LabelReads
@@ -130,6 +133,9 @@ pub record Promises : Type 0 where
   pub reading-refused-six : reading.RefusedSix
   pub reading-refused-one : reading.RefusedOne
   pub reading-refused-two : reading.RefusedTwo
+  pub place-one : reading.PlaceOne
+  pub place-two : reading.PlaceTwo
+  pub place-else : reading.PlaceElse
   pub refused-four : reading.RefusedFour
   pub refused-three : reading.RefusedThree
   pub label-counted : reading.LabelCounted
@@ -142,6 +148,7 @@ pub record Promises : Type 0 where
   pub runtime-reading-refused-six : runtime-reading.RefusedSix
   pub runtime-reading-refused-one : runtime-reading.RefusedOne
   pub runtime-reading-refused-two : runtime-reading.RefusedTwo
+  pub place-none : runtime-reading.PlaceNone
   pub runtime-counted : runtime-reading.RuntimeCounted
   pub runtime-reading-refused-five : runtime-reading.RefusedFive
   pub runtime-reading-count-bounded : runtime-reading.CountBounded

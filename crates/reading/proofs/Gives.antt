@@ -6,7 +6,7 @@ use mathlib.Core.List.{List}
 use mathlib.Core.Bool.{Bool, true}
 use lib.IntN.{ℤ}
 use Rattle.digits.specs.Digits.{valueOf}
-use Rattle.answers.specs.Refusals.{noShape, tooLong, droppedLabel, noPerfField, held}
+use Rattle.answers.specs.Refusals.{atPlace, noShape, tooLong, droppedLabel, noPerfField, held}
 use Rattle.film.specs.declared.FilmFormat.{FilmFormat}
 use Rattle.footage_scan.specs.Shape.{FootageParts, hasPerf}
 use Rattle.reading.specs.declared.Stated.{Stated}
@@ -17,18 +17,18 @@ use Rattle.reading.specs.Shaped.{formatFor, Shaped, shapeOf}
 use Rattle.reading.specs.Reading.{labelRead, takesPerf, footageRead, readShaped, readText}
 use Rattle.reading.specs.ReadingLaws.{label-dropped, label-kept, footage-marked, footage-taken, read-shaped}
 use Rattle.reading.specs.Statements.{RateAndFormat, HasShape, FootageText, PerfRefused, LabelText, DroppedText, LabelCount, FootageCount}
-use Rattle.reading.proofs.Shapes.{shape-label, shape-footage, shape-long}
+use Rattle.reading.proofs.Shapes.{shape-label, shape-footage, shape-long, long-place}
 use Rattle.reading.proofs.FourKinds.{shape-none}
 
 module _ (l : List ℕ) (stated : Stated) (rate : ℕ) (a : RateAndFormat stated rate) where
   by-shape : (x : Shaped) → shapeOf stated l ≡ x → readText l stated rate ≡ readShaped rate stated x
   by-shape x e = read-shaped l stated rate (a .rated) (a .filmed) ∙ ap (readShaped rate stated) e
 
-  pub gives-none : ((t : Bool) → ¬ HasShape stated l t) → readText l stated rate ≡ Refused noShape
-  gives-none h = by-shape _ (shape-none stated l h)
+  pub gives-none : ((t : Bool) → ¬ HasShape stated l t) → (place : ℕ) × (readText l stated rate ≡ Refused (atPlace noShape place))
+  gives-none h = let s = shape-none stated l h in (s .0, by-shape _ (s .1))
 
-  pub gives-long : HasShape stated l true → readText l stated rate ≡ Refused tooLong
-  gives-long h = by-shape _ (shape-long stated l h)
+  pub gives-long : HasShape stated l true → (place : ℕ) × (readText l stated rate ≡ Refused (atPlace tooLong place))
+  gives-long h = let s = long-place stated l h in (s .0, by-shape _ (shape-long stated l (s .0) (s .1)))
 
   -- ---- a label
   pub gives-label : stated ≡ Nothing → (m : Bool) (fields : List ℕ) → LabelText l m fields → readText l stated rate ≡ labelRead rate m fields

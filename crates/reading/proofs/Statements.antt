@@ -6,6 +6,8 @@ use mathlib.Core.Path.{_≡_, refl, sym, ap, _∙_, subst}
 use mathlib.Core.Logic.{⊎-elim}
 use mathlib.Core.List.{List}
 use mathlib.Core.Bool.{Bool, true, false}
+use Rattle.beginnings.specs.Beginning.{LongestBeginning}
+use Rattle.beginnings.proofs.Statements.{one-longest}
 use Rattle.answers.specs.Refusals.{isCount}
 use Rattle.answers.specs.Laws.{held-in, held-out}
 use Rattle.rates.specs.Rates.{isRate}
@@ -14,13 +16,14 @@ use Rattle.timecodes.specs.Admitted.{Valid}
 use Rattle.reading.specs.declared.Stated.{Stated}
 use Rattle.reading.specs.declared.Read.{Read}
 use Rattle.reading.specs.declared.Read.the-variants.{Label, Footage, Refused}
-use Rattle.reading.specs.Answer.{numberOf, timecodeOf, asLabel, asFootage}
-use Rattle.reading.specs.Shaped.{isStated}
+use Rattle.reading.specs.Answer.{numberOf, placeOf, timecodeOf, asLabel, asFootage}
+use Rattle.reading.specs.Shaped.{isStated, Shaped, label, footage, refused}
 use Rattle.reading.specs.Reading.{readText}
 use Rattle.reading.specs.ReadingLaws.{no-rate, no-format}
-use Rattle.reading.specs.Statements.{RateAndFormat, ShapesApart, RefusedSix, RefusedOne, RefusedTwo, RefusedFour, RefusedThree, LabelCounted, FootageCounted, CountOut, RefusedFive, CountBounded, AtRate, ReadValid, NumberMost}
+use Rattle.reading.specs.Statements.{RateAndFormat, ShapesApart, RefusedSix, RefusedOne, RefusedTwo, AllowedShape, PlaceOne, LongShape, PlaceTwo, PlaceElse, RefusedFour, RefusedThree, LabelCounted, FootageCounted, CountOut, RefusedFive, CountBounded, AtRate, ReadValid, NumberMost}
 use Rattle.reading.proofs.Shapes as shapes
 use Rattle.reading.proofs.Told.{Told, told, cause}
+use Rattle.reading.proofs.Told as tells
 use Rattle.reading.proofs.Gives.{gives-none, gives-long, gives-dropped, gives-label-count, gives-no-perf, gives-footage-count}
 
 pub shapes-apart : ShapesApart
@@ -33,21 +36,48 @@ six-by l stated rate false r s = ap numberOf (no-rate l stated rate r)
 
 pub refused-six : RefusedSix
 refused-six l stated rate = (
-  cause l stated rate 6 (omega arith),
+  λ e. cause l stated rate 6 (omega arith) e .0,
   ⊎-elim (λ r. ap numberOf (no-rate l stated rate r)) (six-by l stated rate (isRate rate) refl),
 )
 
 pub refused-one : RefusedOne
-refused-one l stated rate a = (cause l stated rate 1 (omega arith), λ h. ap numberOf (gives-none l stated rate a h))
+refused-one l stated rate a = (λ e. cause l stated rate 1 (omega arith) e .0, λ h. ap numberOf (gives-none l stated rate a h .1))
 
 pub refused-two : RefusedTwo
-refused-two l stated rate a = (cause l stated rate 2 (omega arith), λ h. ap numberOf (gives-long l stated rate a h))
+refused-two l stated rate a = (
+  λ e. shapes.place-long stated l (placeOf (readText l stated rate)) (cause l stated rate 2 (omega arith) e),
+  λ h. ap numberOf (gives-long l stated rate a h .1),
+)
+
+-- ---- their places
+pub place-one : PlaceOne
+place-one l stated rate place e =
+    let longest = cause l stated rate 1 (omega arith) e .1 in (
+      λ is. subst (LongestBeginning (AllowedShape stated) l) is longest,
+      λ h. one-longest (AllowedShape stated) l (placeOf (readText l stated rate)) place longest h,
+    )
+
+abbrev placeIn : Shaped → ℕ
+placeIn (label m fields) = 0
+placeIn (footage m feet frames perf) = 0
+placeIn (refused e) = e .place
+
+pub place-two : PlaceTwo
+place-two l stated rate place e =
+    let here = placeOf (readText l stated rate) in
+    let long = cause l stated rate 2 (omega arith) e in (
+      λ is. subst (LongShape stated l) is long,
+      λ h. ap placeIn (sym (shapes.shape-long stated l here long) ∙ shapes.shape-long stated l place h),
+    )
+
+pub place-else : PlaceElse
+place-else = tells.place-else
 
 pub refused-four : RefusedFour
-refused-four l stated rate a = (cause l stated rate 4 (omega arith), λ x. ap numberOf (gives-no-perf l stated rate a x))
+refused-four l stated rate a = (λ e. cause l stated rate 4 (omega arith) e .0, λ x. ap numberOf (gives-no-perf l stated rate a x))
 
 pub refused-three : RefusedThree
-refused-three l stated rate a = (cause l stated rate 3 (omega arith), λ x. ap numberOf (gives-dropped l stated rate a (x .0) (x .1)))
+refused-three l stated rate a = (λ e. cause l stated rate 3 (omega arith) e .0, λ x. ap numberOf (gives-dropped l stated rate a (x .0) (x .1)))
 
 -- ---- the counts
 pub label-counted : LabelCounted
@@ -70,7 +100,7 @@ gives-out l stated rate a x =
     (x .count)
 
 pub refused-five : RefusedFive
-refused-five l stated rate a = (cause l stated rate 5 (omega arith), gives-out l stated rate a)
+refused-five l stated rate a = (λ e. cause l stated rate 5 (omega arith) e .0, gives-out l stated rate a)
 
 bounded-by : (l : List ℕ) (stated : Stated) (rate : ℕ) (r : Read) → Told l stated rate r → isCount (timecodeOf r .count) ≡ true
 bounded-by l stated rate (Label tc) t = t .1 .1
@@ -105,7 +135,7 @@ module _ (l : List ℕ) (stated : Stated) (rate : ℕ) where
   number-by (suc (suc (suc (suc zero)))) e = omega arith
   number-by (suc (suc (suc (suc (suc zero))))) e = omega arith
   number-by (suc (suc (suc (suc (suc (suc n)))))) e =
-      let f = refused-six l stated rate .1 (cause l stated rate (suc (suc (suc (suc (suc (suc n)))))) (omega arith) e) in omega arith
+      let f = refused-six l stated rate .1 (cause l stated rate (suc (suc (suc (suc (suc (suc n)))))) (omega arith) e .0) in omega arith
 
 pub read-valid : ReadValid
 read-valid l stated rate tc = (

@@ -11,11 +11,17 @@ use Rattle.film.specs.Film.{formatNumber}
 use Rattle.reading.specs.declared.Read.{Read}
 use Rattle.reading.specs.declared.Read.the-variants.{Label, Footage, Refused}
 
--- the number of an answer (0: not refused), its timecode (a refusal's numbers are 0), and the number of its film format (0: none)
+-- the number of an answer (0: not refused) and its place in the text, its timecode (a refusal's numbers are 0), and the number of its
+-- film format (0: none)
 abbrev pub numberOf : Read → ℕ
 numberOf (Label tc) = 0
 numberOf (Footage tc format) = 0
 numberOf (Refused e) = e .number
+
+abbrev pub placeOf : Read → ℕ
+placeOf (Label tc) = 0
+placeOf (Footage tc format) = 0
+placeOf (Refused e) = e .place
 
 abbrev pub timecodeOf : Read → Timecode
 timecodeOf (Label tc) = tc

@@ -1,11 +1,11 @@
 -- The shape that a text is read by, and the film format that is stated or chosen (BEHAVIOUR: Text shapes).
 -- Assumes nothing.
-use Prim.Native.Nat.{ℕ}
+use Prim.Native.Nat.{ℕ, max}
 use mathlib.Core.Bool.{Bool, true, false, not}
 use mathlib.Core.List.{List}
 use Rattle.answers.specs.declared.Refusal.{Refusal}
 use Rattle.answers.specs.Order.{Condition, when}
-use Rattle.answers.specs.Refusals.{noShape, tooLong, noSuch}
+use Rattle.answers.specs.Refusals.{atPlace, noShape, tooLong, noSuch}
 use Rattle.film.specs.declared.FilmFormat.{FilmFormat}
 use Rattle.film.specs.declared.FilmFormat.the-variants.{FF35mm4perf, FF35mm3perf}
 use Rattle.film.specs.declared.Filmed.{Filmed}
@@ -48,20 +48,24 @@ pub data Shaped : Type 0 where
   footage : (minus : Bool) (feet frames : ℕ) (perf : Bool) → Shaped
   refused : Refusal → Shaped
 
--- 1: no shape; 2: the shape fits, but a field is too long
-abbrev pub byFit : (taken other : Shaped) → Fit → Shaped
+-- 1: no shape; 2: the shape fits, but a field is too long, the first such at the place that the scan says
+abbrev pub byFit : (taken : Shaped) (other : (stop : ℕ) → Shaped) → Fit → Shaped
 byFit taken other Fits = taken
-byFit taken other TooLong = refused tooLong
-byFit taken other NoShape = other
+byFit taken other (TooLong place) = refused (atPlace tooLong place)
+byFit taken other (NoShape stop) = other stop
 
-abbrev pub footageShaped : FootageScan → Shaped
-footageShaped s = byFit (footage (s .minus) (s .feet) (s .frames) (s .perf)) (refused noShape) (s .fit)
+-- where neither scan goes on: this one stopped here, that of another shape that is allowed had stopped there (0, where none is)
+abbrev pub farthest : (stopped stop : ℕ) → Shaped
+farthest stopped stop = refused (atPlace noShape (max stopped stop))
+
+abbrev pub footageShaped : (stopped : ℕ) → FootageScan → Shaped
+footageShaped stopped s = byFit (footage (s .minus) (s .feet) (s .frames) (s .perf)) (farthest stopped) (s .fit)
 
 -- a label; where the text has not that shape, what else it is
-abbrev pub labelOr : (other : Shaped) → LabelScan → Shaped
+abbrev pub labelOr : (other : (stop : ℕ) → Shaped) → LabelScan → Shaped
 labelOr other s = byFit (label (s .minus) (s .fields)) other (s .fit)
 
 -- the text reader takes a label or a footage, but with a stated film format only a footage
 abbrev pub shapeOf : Stated → List ℕ → Shaped
-shapeOf Nothing text = labelOr (footageShaped (footageScan text)) (labelScan text)
-shapeOf (Format n) text = footageShaped (footageScan text)
+shapeOf Nothing text = labelOr (λ stop. footageShaped stop (footageScan text)) (labelScan text)
+shapeOf (Format n) text = footageShaped 0 (footageScan text)

@@ -6,6 +6,7 @@ use mathlib.Core.Logic.{_↔_, _⊎_}
 use mathlib.Core.List.{List, map}
 use mathlib.Core.Bool.{Bool, true, false}
 use lib.IntN.{ℤ}
+use Rattle.beginnings.specs.Beginning.{LongestBeginning, Either}
 use Rattle.digits.specs.Digits.{valueOf}
 use Rattle.answers.specs.Refusals.{isCount}
 use Rattle.rates.specs.Rates.{isRate, dropFrames}
@@ -18,12 +19,12 @@ use Rattle.labels.specs.Label.{droppedIn}
 use Rattle.labels.specs.AtRate.{labelFrames}
 use Rattle.scanner.specs.Long.{fieldsLong}
 use Rattle.scanner.specs.Justified.{justified}
-use Rattle.label_scan.specs.Shape.{LabelShape, HasLabelShape}
-use Rattle.footage_scan.specs.Shape.{FootageParts, FootageShape, hasPerf, footageLong, HasFootageShape}
+use Rattle.label_scan.specs.Shape.{LabelShape, HasLabelShape, IsLabel, LongLabel}
+use Rattle.footage_scan.specs.Shape.{FootageParts, FootageShape, hasPerf, footageLong, HasFootageShape, IsFootage, LongFootage}
 use Rattle.reading.specs.declared.Stated.{Stated}
 use Rattle.reading.specs.declared.Stated.the-variants.{Nothing, Format}
 use Rattle.reading.specs.declared.Read.the-variants.{Label, Footage}
-use Rattle.reading.specs.Answer.{numberOf, timecodeOf}
+use Rattle.reading.specs.Answer.{numberOf, placeOf, timecodeOf}
 use Rattle.reading.specs.Shaped.{isStated, formatFor}
 use Rattle.reading.specs.Reading.{takesPerf, footageFrames, readText}
 
@@ -60,6 +61,36 @@ abbrev pub RefusedTwo : Type 0
 RefusedTwo =
     (l : List ℕ) (stated : Stated) (rate : ℕ) → RateAndFormat stated rate
     → (numberOf (readText l stated rate) ≡ 2) ↔ HasShape stated l true
+
+-- ---- the places of 1 and 2
+-- a text of an allowed shape, fields of any length: a label or a footage, but with a stated film format only a footage, with a perf field
+-- or without, whatever the format
+abbrev pub AllowedShape : Stated → List ℕ → Type 0
+AllowedShape Nothing = Either IsLabel IsFootage
+AllowedShape (Format n) = IsFootage
+
+-- refused with 1, the place is the length of the longest beginning of the text that also begins some text of an allowed shape
+abbrev pub PlaceOne : Type 0
+PlaceOne =
+    (l : List ℕ) (stated : Stated) (rate place : ℕ) → numberOf (readText l stated rate) ≡ 1
+    → (placeOf (readText l stated rate) ≡ place) ↔ LongestBeginning (AllowedShape stated) l place
+
+-- the first digit of the first field that is too long, of the shape that the text has, stands at this place
+abbrev pub LongShape : Stated → (l : List ℕ) (place : ℕ) → Type 0
+LongShape Nothing l place = LongLabel l place ⊎ LongFootage l place
+LongShape (Format n) l place = LongFootage l place
+
+-- refused with 2, the place is that of the first digit of the first field that is too long
+abbrev pub PlaceTwo : Type 0
+PlaceTwo =
+    (l : List ℕ) (stated : Stated) (rate place : ℕ) → numberOf (readText l stated rate) ≡ 2
+    → (placeOf (readText l stated rate) ≡ place) ↔ LongShape stated l place
+
+-- every other refusal has place 0, and so has a text that is read
+abbrev pub PlaceElse : Type 0
+PlaceElse =
+    (l : List ℕ) (stated : Stated) (rate : ℕ) → ¬ (numberOf (readText l stated rate) ≡ 1) → ¬ (numberOf (readText l stated rate) ≡ 2)
+    → placeOf (readText l stated rate) ≡ 0
 
 -- ---- 4
 -- a text is a footage of these parts, no field of over 9 digits

@@ -1,6 +1,7 @@
 // A text read as a timecode at a rate: that of a label or of a footage, but with a stated film format only of a footage.
 // Refuses 6: no such rate or film format; 1: no shape; 2: a field of over 9 digits; 4: a perf field with a stated format that has
-// none; 3: a dropped label; 5: the count is out of bounds; in this order.
+// none; 3: a dropped label; 5: the count is out of bounds; in this order. The place of 1 and 2 is the one that the scanners say.
+ghost use Prim.Native.Nat.{max};
 ghost use mathlib.Core.Path.{_≡_};
 ghost use mathlib.Core.Bool.{true};
 ghost use Rattle.rates.specs.Rates.{isRate};
@@ -122,9 +123,19 @@ fn read_footage(
     )
 }
 
-// The answer to a text that can be a footage only.
-fn only_footage(text: &[u8], stated: Stated, rate: u64) -> Read
-    ensures answer { λ r. ⌜ r ≡ readShaped rate stated (footageShaped (footageScan (now (text .entry)))) ⌝ }
+// The farther of two places.
+fn farther(p: usize, q: usize) -> usize
+    ensures answer { λ r. ⌜ r ≡ max p q ⌝ }
+{
+    if p < q {
+        return q;
+    }
+    p
+}
+
+// The answer to a text that can be a footage only, where the scanner of another shape stopped at a place (0, where no other is allowed).
+fn only_footage(text: &[u8], stated: Stated, rate: u64, stopped: usize) -> Read
+    ensures answer { λ r. ⌜ r ≡ readShaped rate stated (footageShaped stopped (footageScan (now (text .entry)))) ⌝ }
 {
     let scan = footage_scan::scan_footage(text);
     let fit = scan.fit;
@@ -133,8 +144,11 @@ fn only_footage(text: &[u8], stated: Stated, rate: u64) -> Read
             let format = format_for(stated, scan.perf);
             read_footage(rate, format, scan.minus, scan.feet, scan.frames, scan.perf)
         }
-        Fit::TooLong => Read::Refused(answers::TOO_LONG),
-        Fit::NoShape => Read::Refused(answers::NO_SHAPE),
+        Fit::TooLong(place) => Read::Refused(answers::at_place(answers::TOO_LONG, place)),
+        Fit::NoShape(stop) => {
+            let place = farther(stopped, stop);
+            Read::Refused(answers::at_place(answers::NO_SHAPE, place))
+        }
     }
 }
 
@@ -150,8 +164,8 @@ fn label_or_footage(text: &[u8], rate: u64) -> Read
             let fields = scan.fields;
             read_label(rate, scan.minus, fields)
         }
-        Fit::TooLong => Read::Refused(answers::TOO_LONG),
-        Fit::NoShape => only_footage(text, Stated::Nothing, rate),
+        Fit::TooLong(place) => Read::Refused(answers::at_place(answers::TOO_LONG, place)),
+        Fit::NoShape(stop) => only_footage(text, Stated::Nothing, rate, stop),
     }
 }
 
@@ -168,5 +182,5 @@ pub fn read_text(text: &[u8], stated: Stated, rate: u64) -> Read
     let Stated::Format(_) = stated else {
         return label_or_footage(text, rate);
     };
-    only_footage(text, stated, rate)
+    only_footage(text, stated, rate, 0)
 }

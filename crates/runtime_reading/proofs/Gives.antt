@@ -16,17 +16,17 @@ use Rattle.timecodes.specs.declared.Answer.the-variants.{Refused}
 use Rattle.timecodes.specs.Timecode.{placed}
 use Rattle.scanner.specs.Shapes.{TextParts}
 use Rattle.runtime_scan.specs.Shape.{RuntimeShape, runtimeLong, HasRuntimeShape}
-use Rattle.runtime_scan.proofs.Statements.{runtime-reads, runtime-too-long, runtime-no-shape}
+use Rattle.runtime_scan.proofs.Statements.{runtime-reads, runtime-too-long, runtime-long-place, runtime-none-fit}
 use Rattle.runtime_reading.specs.Reading.{runtimeFrame, timeRead, readScan, readRuntime}
 use Rattle.runtime_reading.specs.ReadingLaws.{read-scanned, timeRead-held}
 use Rattle.runtime_reading.specs.Statements.{timeOf, RuntimeCount}
 
 module _ (l : List ℕ) (rate : ℕ) (rated : isRate rate ≡ true) where
   pub gives-none : ((p : TextParts) → ¬ RuntimeShape l p) → readRuntime l rate ≡ Refused noShape
-  gives-none h = read-scanned l rate rated ∙ ap (readScan rate) (runtime-no-shape l .1 h)
+  gives-none h = read-scanned l rate rated ∙ ap (readScan rate) (runtime-none-fit l h .1)
 
   pub gives-long : HasRuntimeShape l true → readRuntime l rate ≡ Refused tooLong
-  gives-long h = read-scanned l rate rated ∙ ap (readScan rate) (runtime-too-long l .1 h)
+  gives-long h = let s = runtime-long-place l h in read-scanned l rate rated ∙ ap (readScan rate) (runtime-too-long l (s .0) .1 (s .1))
 
   pub gives-held : (p : TextParts) → RuntimeShape l p → runtimeLong p ≡ false → readRuntime l rate ≡ placed rate (held (runtimeFrame rate (p .minus) (timeOf p)))
   gives-held p shape short =

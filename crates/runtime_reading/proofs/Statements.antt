@@ -12,7 +12,7 @@ use Rattle.timecodes.specs.declared.Answer.the-variants.{At, Refused}
 use Rattle.timecodes.specs.Timecode.{placed, numberOf, timecodeOf}
 use Rattle.runtime_reading.specs.Reading.{readRuntime}
 use Rattle.runtime_reading.specs.ReadingLaws.{no-rate}
-use Rattle.runtime_reading.specs.Statements.{RefusedSix, RefusedOne, RefusedTwo, RuntimeCounted, RefusedFive, CountBounded, AtRate}
+use Rattle.runtime_reading.specs.Statements.{RefusedSix, RefusedOne, RefusedTwo, PlaceNone, RuntimeCounted, RefusedFive, CountBounded, AtRate}
 use Rattle.runtime_reading.proofs.Gives.{gives-none, gives-long, gives-count}
 use Rattle.runtime_reading.proofs.Told.{Told, told, cause}
 
@@ -24,6 +24,9 @@ refused-one l rate r = (cause l rate 1 (omega arith), λ h. ap numberOf (gives-n
 
 pub refused-two : RefusedTwo
 refused-two l rate r = (cause l rate 2 (omega arith), λ h. ap numberOf (gives-long l rate r h))
+
+pub place-none : PlaceNone
+place-none l rate e is = subst (Told l rate) is (told l rate) .1
 
 pub runtime-counted : RuntimeCounted
 runtime-counted l rate z r = (

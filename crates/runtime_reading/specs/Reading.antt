@@ -36,11 +36,11 @@ unfoldable pub timeRead : (rate : ℕ) (minus : Bool) (time : ℕ) → Answer
 timeRead rate minus time =
     unless Refused (badCount (runtimeFrame rate minus time) ∷ []) (At (timecode (runtimeFrame rate minus time) rate))
 
--- 1: no shape; 2: the shape fits, but something is too long
+-- 1: no shape; 2: the shape fits, but something is too long; both without a place
 abbrev pub byItsFit : (taken : Answer) → Fit → Answer
 byItsFit taken Fits = taken
-byItsFit taken TooLong = Refused tooLong
-byItsFit taken NoShape = Refused noShape
+byItsFit taken (TooLong place) = Refused tooLong
+byItsFit taken (NoShape stop) = Refused noShape
 
 abbrev pub readScan : (rate : ℕ) → RuntimeScan → Answer
 readScan rate scan = byItsFit (timeRead rate (scan .minus) (timeIn (scan .fields) (scan .millionths))) (scan .fit)

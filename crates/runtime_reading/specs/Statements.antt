@@ -9,10 +9,11 @@ use lib.IntN.{ℤ}
 use Rattle.numbers.specs.Sign.{signed}
 use Rattle.numbers.specs.Nearest.{Nearest}
 use Rattle.digits.specs.Digits.{valueOf}
+use Rattle.answers.specs.declared.Refusal.{Refusal}
 use Rattle.answers.specs.Refusals.{isCount}
 use Rattle.rates.specs.Rates.{isRate, rateRow}
 use Rattle.timecodes.specs.declared.Timecode.{Timecode}
-use Rattle.timecodes.specs.declared.Answer.the-variants.{At}
+use Rattle.timecodes.specs.declared.Answer.the-variants.{At, Refused}
 use Rattle.timecodes.specs.Timecode.{timecode, numberOf, timecodeOf}
 use Rattle.scanner.specs.Justified.{justified}
 use Rattle.scanner.specs.Shapes.{TextParts}
@@ -32,6 +33,10 @@ RefusedOne =
 -- refusal 2 exactly when the shape fits, but a field has over 9 digits or the fraction over 6
 abbrev pub RefusedTwo : Type 0
 RefusedTwo = (l : List ℕ) (rate : ℕ) → isRate rate ≡ true → (numberOf (readRuntime l rate) ≡ 2) ↔ HasRuntimeShape l true
+
+-- and no refusal has a place
+abbrev pub PlaceNone : Type 0
+PlaceNone = (l : List ℕ) (rate : ℕ) (e : Refusal) → readRuntime l rate ≡ Refused e → e .place ≡ 0
 
 -- ---- the count, and 5
 -- the time of a runtime's parts, in millionths of a second

@@ -1,5 +1,6 @@
 // A runtime's text read as a timecode at a rate: the frame nearest to its time, halves away from zero.
-// Refuses 6: no such rate; 1: no shape; 2: a field of over 9 digits or a fraction of over 6; 5: the count is out of bounds; in this order.
+// Refuses 6: no such rate; 1: no shape; 2: a field of over 9 digits or a fraction of over 6; 5: the count is out of bounds; in this order, each
+// without a place.
 ghost use mathlib.Core.Path.{_≡_};
 ghost use mathlib.Core.Bool.{true};
 ghost use Rattle.answers.specs.Refusals.{held};
@@ -47,7 +48,7 @@ pub fn read_runtime(text: &[u8], rate: u64) -> Answer
                 rate,
             )
         }
-        Fit::TooLong => Answer::Refused(answers::TOO_LONG),
-        Fit::NoShape => Answer::Refused(answers::NO_SHAPE),
+        Fit::TooLong(_) => Answer::Refused(answers::TOO_LONG),
+        Fit::NoShape(_) => Answer::Refused(answers::NO_SHAPE),
     }
 }

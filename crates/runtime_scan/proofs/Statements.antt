@@ -2,23 +2,24 @@
 -- Assumes nothing.
 use Prim.Native.Nat.{ℕ, _^_, _≤_, _<_}
 use mathlib.Core.Path.{_≡_, ap, _∙_}
-use mathlib.Core.List.{map}
+use mathlib.Core.List.{List, map}
 use native.Mathlib.Omega.{arith}
 use lib.ListN.{length}
 use borrow.Author.Tests.{ltb-false}
-use mathlib.Core.Bool.{false}
+use mathlib.Core.Bool.{true, false}
+use Rattle.beginnings.specs.Beginning.{LongestBeginning}
 use Rattle.digits.specs.Digits.{valueOf}
 use Rattle.digits.proofs.Runs.{field-value}
 use Rattle.scanner.specs.declared.text.Fit.the-variants.{Fits, TooLong, NoShape}
 use Rattle.scanner.specs.declared.text.TextScan.{TextScan}
 use Rattle.scanner.specs.Long.{isOver, fieldsLong}
 use Rattle.scanner.specs.Justified.{justified}
-use Rattle.scanner.specs.Shapes.{TextParts}
+use Rattle.scanner.specs.Shapes.{TextParts, Possible}
 use Rattle.scanner.proofs.Long.{neither}
-use Rattle.scanner.proofs.Statements.{one-text-shape, text-bounded, text-any, fit-told, text-short, text-long, text-none}
+use Rattle.scanner.proofs.Statements.{one-text-shape, text-bounded, text-any, fit-told, text-short, text-long, long-place, place-long, text-none, stop-longest, text-stops}
 use Rattle.runtime_scan.specs.declared.RuntimeScan.{RuntimeScan}
-use Rattle.runtime_scan.specs.Shape.{runtimeGrammar, inMillionths, runtimeLong}
-use Rattle.runtime_scan.specs.Runtime.{fittingRuntime, runtimeFrom, runtimeScan}
+use Rattle.runtime_scan.specs.Shape.{runtimeGrammar, RuntimeShape, inMillionths, runtimeLong, HasRuntimeShape, IsRuntime, LongRuntime}
+use Rattle.runtime_scan.specs.Runtime.{fittingRuntime, misfitRuntime, runtimeFrom, runtimeScan}
 use Rattle.runtime_scan.specs.Statements.{RuntimeReads, RuntimeFits, RuntimeTooLong, RuntimeNoShape, OneRuntimeShape, RuntimeBounded}
 use Rattle.runtime_scan.proofs.Millionths.{fraction-below}
 
@@ -43,16 +44,45 @@ runtime-fits l = (
 
 pub runtime-too-long : RuntimeTooLong
 unfolding runtimeScan
-runtime-too-long l = (
-  λ e. fit-told runtimeGrammar l TooLong (ap (λ (x : RuntimeScan). x .fit) e),
-  λ h. ap runtimeFrom (text-long runtimeGrammar l h),
+runtime-too-long l place = (
+  λ e. fit-told runtimeGrammar l (TooLong place) (ap (λ (x : RuntimeScan). x .fit) e),
+  λ h. ap runtimeFrom (text-long runtimeGrammar l place h),
 )
+
+-- where something is too long, the first such field has a place, and back
+pub runtime-long-place : (l : List ℕ) → HasRuntimeShape l true → (place : ℕ) × LongRuntime l place
+runtime-long-place l h = long-place runtimeGrammar l h
+
+pub runtime-place-long : (l : List ℕ) (place : ℕ) → LongRuntime l place → HasRuntimeShape l true
+runtime-place-long l place h = place-long runtimeGrammar l place h
+
+-- there are runtimes
+possible : Possible runtimeGrammar
+possible = record { some = omega arith; enough = omega arith }
+
+-- ---- what the fit alone tells
+pub runtime-fit-long : (l : List ℕ) (place : ℕ) → runtimeScan l .fit ≡ TooLong place → LongRuntime l place
+unfolding runtimeScan
+runtime-fit-long l place e = fit-told runtimeGrammar l (TooLong place) e
+
+pub runtime-fit-none : (l : List ℕ) (stop : ℕ) → runtimeScan l .fit ≡ NoShape stop → (p : TextParts) → ¬ RuntimeShape l p
+unfolding runtimeScan
+runtime-fit-none l stop e = fit-told runtimeGrammar l (NoShape stop) e
+
+runtime-fit-stop : (l : List ℕ) (stop : ℕ) → runtimeScan l .fit ≡ NoShape stop → LongestBeginning IsRuntime l stop
+unfolding runtimeScan
+runtime-fit-stop l stop e = stop-longest runtimeGrammar l stop possible e
+
+-- a text without the shape is scanned up to some place
+pub runtime-none-fit : (l : List ℕ) → ((p : TextParts) → ¬ RuntimeShape l p) → (stop : ℕ) × (runtimeScan l ≡ misfitRuntime (NoShape stop))
+unfolding runtimeScan
+runtime-none-fit l h = (_, ap runtimeFrom (text-none runtimeGrammar l h))
 
 pub runtime-no-shape : RuntimeNoShape
 unfolding runtimeScan
-runtime-no-shape l = (
-  λ e. fit-told runtimeGrammar l NoShape (ap (λ (x : RuntimeScan). x .fit) e),
-  λ h. ap runtimeFrom (text-none runtimeGrammar l h),
+runtime-no-shape l stop = (
+  λ e. let fit = ap (λ (x : RuntimeScan). x .fit) e in (runtime-fit-none l stop fit, runtime-fit-stop l stop fit),
+  λ h. ap runtimeFrom (text-stops runtimeGrammar l stop possible (h .0) (h .1)),
 )
 
 pub one-runtime-shape : OneRuntimeShape

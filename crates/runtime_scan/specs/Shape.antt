@@ -7,7 +7,7 @@ use lib.ListN.{length}
 use Rattle.digits.specs.Digits.{valueOf}
 use Rattle.scanner.specs.declared.fields.Dividers.the-variants.{Colon}
 use Rattle.scanner.specs.declared.text.Grammar.{Grammar}
-use Rattle.scanner.specs.Shapes.{TextParts, TextShape, someLong, HasTextShape}
+use Rattle.scanner.specs.Shapes.{TextParts, TextShape, someLong, HasTextShape, OfGrammar, LongText}
 
 -- one to three fields divided by `:`, optionally `.` and a fraction
 abbrev pub runtimeGrammar : Grammar
@@ -31,3 +31,11 @@ runtimeLong p = someLong runtimeGrammar p
 -- a text has the shape, and something in it is too long, or nothing is
 abbrev pub HasRuntimeShape : (l : List ℕ) (long : Bool) → Type 0
 HasRuntimeShape l long = HasTextShape runtimeGrammar l long
+
+-- a text of the shape, fields of any length
+abbrev pub IsRuntime : (l : List ℕ) → Type 0
+IsRuntime l = OfGrammar runtimeGrammar l
+
+-- a text has the shape, and the first digit of the first field or fraction that is too long stands at this place
+abbrev pub LongRuntime : (l : List ℕ) (place : ℕ) → Type 0
+LongRuntime l place = LongText runtimeGrammar l place

@@ -4,13 +4,14 @@ use Prim.Native.Nat.{ℕ, _^_, _<_}
 use mathlib.Core.Path.{_≡_}
 use mathlib.Core.Logic.{_↔_}
 use mathlib.Core.List.{List, map}
-use mathlib.Core.Bool.{true, false}
+use mathlib.Core.Bool.{false}
 use lib.ListN.{length}
+use Rattle.beginnings.specs.Beginning.{LongestBeginning}
 use Rattle.digits.specs.Digits.{valueOf}
 use Rattle.scanner.specs.declared.text.Fit.the-variants.{Fits, TooLong, NoShape}
 use Rattle.scanner.specs.Justified.{justified, Below}
 use Rattle.scanner.specs.Shapes.{TextParts}
-use Rattle.runtime_scan.specs.Shape.{RuntimeShape, millionthsOf, runtimeLong, HasRuntimeShape}
+use Rattle.runtime_scan.specs.Shape.{RuntimeShape, millionthsOf, runtimeLong, HasRuntimeShape, IsRuntime, LongRuntime}
 use Rattle.runtime_scan.specs.Runtime.{fittingRuntime, misfitRuntime, runtimeScan}
 
 -- a text of the shape, no field of over 9 digits and no fraction of over 6, reads as its sign, the values of its fields, right-justified,
@@ -24,13 +25,15 @@ RuntimeReads =
 abbrev pub RuntimeFits : Type 0
 RuntimeFits = (l : List ℕ) → (runtimeScan l .fit ≡ Fits) ↔ HasRuntimeShape l false
 
--- it is too long exactly when it has the shape, but a field has over 9 digits or the fraction over 6
+-- it is too long exactly when it has the shape, but a field has over 9 digits or the fraction over 6; the first such begins at the place
 abbrev pub RuntimeTooLong : Type 0
-RuntimeTooLong = (l : List ℕ) → (runtimeScan l ≡ misfitRuntime TooLong) ↔ HasRuntimeShape l true
+RuntimeTooLong = (l : List ℕ) (place : ℕ) → (runtimeScan l ≡ misfitRuntime (TooLong place)) ↔ LongRuntime l place
 
--- it has no shape exactly when it has not this one
+-- it has no shape exactly when it has not this one; where the scan stopped is the length of the longest beginning that also begins a runtime
 abbrev pub RuntimeNoShape : Type 0
-RuntimeNoShape = (l : List ℕ) → (runtimeScan l ≡ misfitRuntime NoShape) ↔ ((p : TextParts) → ¬ RuntimeShape l p)
+RuntimeNoShape =
+    (l : List ℕ) (stop : ℕ)
+    → (runtimeScan l ≡ misfitRuntime (NoShape stop)) ↔ (((p : TextParts) → ¬ RuntimeShape l p) × LongestBeginning IsRuntime l stop)
 
 -- a text has the shape in one way only
 abbrev pub OneRuntimeShape : Type 0

@@ -31,7 +31,7 @@ divider-no-digit ColonOrSemicolon c e = either-not c (eqb c 58) refl e
 divider-no-digit Plus c e = digit-not 43 c refl e
 
 -- ---- a divider that is looked for
-looked-not : (k : ℕ) (test : ℕ → Bool) (l : List ℕ) → firstIs test l ≡ false → firstIs (lookedFor k test) l ≡ false
+pub looked-not : (k : ℕ) (test : ℕ → Bool) (l : List ℕ) → firstIs test l ≡ false → firstIs (lookedFor k test) l ≡ false
 looked-not k test [] e = refl
 looked-not zero test (c ∷ l) e = refl
 looked-not (suc k) test (c ∷ l) e = e
@@ -40,7 +40,7 @@ pub looked-passes : (k : ℕ) (test : ℕ → Bool) (c : ℕ) → lookedFor k te
 looked-passes zero test c e = cc
 looked-passes (suc k) test c e = e
 
-looked-shape : (d : Dividers) (k c : ℕ) (l : List ℕ) (fs : List (List ℕ)) → FieldsShape d k l fs → dividerOf d c ≡ true
+pub looked-shape : (d : Dividers) (k c : ℕ) (l : List ℕ) (fs : List (List ℕ)) → FieldsShape d k l fs → dividerOf d c ≡ true
     → lookedFor k (dividerOf d) c ≡ true
 looked-shape d k c l fs (last i) e = e
 looked-shape d k c l fs (more i b p t) e = e

@@ -2,8 +2,8 @@
 -- Assumes nothing.
 use Prim.Native.Nat.{ℕ, suc, _+_, _-_, _≤_, _<_}
 use mathlib.Core.Path.{_≡_, refl, sym, ap, _∙_}
-use mathlib.Core.List.{List, _++_, map, append-nil}
-use mathlib.Core.Bool.{false, _||_, or-false, or-assoc}
+use mathlib.Core.List.{List, [], _++_, map, append-nil}
+use mathlib.Core.Bool.{false}
 use native.Mathlib.Omega.{arith}
 use native.Mathlib.Nat.{add-zero, zero-add}
 use lib.ListN.{length, drop}
@@ -14,10 +14,11 @@ use Rattle.scanner.specs.declared.cursor.Passed.the-variants.{Next, Othe
 use Rattle.scanner.specs.declared.cursor.Field.{Field}
 use Rattle.scanner.specs.declared.fields.Dividers.{Dividers}
 use Rattle.scanner.specs.declared.fields.Scanned.{Scanned}
-use Rattle.scanner.specs.Long.{isLong, fieldsLong}
+use Rattle.scanner.specs.Long.{isOver, placed, firstLong, orLong}
 use Rattle.scanner.specs.Scan.{cursor, dividerOf, lookedFor, pastIf, fieldOf}
 use Rattle.scanner.specs.Fields.{Front, noField, oneField, fieldAnd, fieldsIn, noneTaken, withField, fieldBegun, fieldsFound}
 use Rattle.scanner.proofs.Answers.{was-next}
+use Rattle.scanner.proofs.Long.{or-nowhere, or-next}
 use Rattle.scanner.proofs.Justified.{shift-first}
 use Rattle.scanner.proofs.Then.{field-none, field-some, byte-other, byte-next}
 use Rattle.scanner.proofs.Fronts.{goesOn, fields-suc}
@@ -31,28 +32,27 @@ abbrev joined : Scanned → Front → Scanned
 joined s f =
     record {
       found = f .found;
-      long = s .long || fieldsLong (f .fields);
+      long = orLong (s .long) (firstLong (placed (λ place. []) (s .next .at) (f .fields)));
       count = s .count + length (f .fields);
       values = drop (length (map fieldValue (f .fields))) (s .values ++ map fieldValue (f .fields));
       next = cursor (s .next .at + f .taken);
     }
 
 joined-none : (s : Scanned) → s .found ≡ false → joined s noField ≡ s
-unfolding fieldsLong
-joined-none s e = rw (or-false (s .long), add-zero (s .count), append-nil (s .values), add-zero (s .next .at), ← e)
+joined-none s e = rw (or-nowhere (s .long), add-zero (s .count), append-nil (s .values), add-zero (s .next .at), ← e)
 
 -- a field d that was kept as f
 module _ (s : Scanned) (f : Field) (d : List ℕ) (is : f ≡ fieldIs (s .next .at) d) where
   joined-one : joined s (oneField d) ≡ withField s f
-  unfolding fieldsLong
-  joined-one = rw (is, or-false (isLong (length d)))
+  joined-one = rw is
 
   joined-and : (next : Cursor) (o : Front) → next ≡ cursor (f .next .at + 1) → joined s (fieldAnd d o) ≡ joined (fieldBegun (withField s f) next) o
-  unfolding fieldsLong
   joined-and next o p =
       let count : s .count + suc (length (o .fields)) ≡ s .count + 1 + length (o .fields) = omega arith in
       let at : s .next .at + (length d + suc (o .taken)) ≡ s .next .at + length d + 1 + o .taken = omega arith in
-      rw (p, is, ← or-assoc, count, shift-first (s .values) (fieldValue d) (map fieldValue (o .fields)), at)
+      let later = s .next .at + length d + 1 in
+      let long = or-next (s .long) (isOver 9 (length d)) (s .next .at) (firstLong (placed (λ place. []) later (o .fields))) in
+      rw (p, is, long, count, shift-first (s .values) (fieldValue d) (map fieldValue (o .fields)), at)
 
 -- ---- the loop
 pub record Keeping (d : Dividers) (most : ℕ) (text : List ℕ) (at : ℕ) (s : Scanned) (left : ℕ) : Type 0 where

@@ -8,5 +8,9 @@ pub mod Keeping
 pub mod Bodies
 pub mod Signed
 pub mod OneShape
+pub mod Reach
+pub mod Stops
+pub mod Standing
+pub mod Ascii
 pub mod Statements
 pub mod Determined

@@ -14,9 +14,10 @@ use Rattle.scanner.specs.declared.text.Fit.the-variants.{NoShape}
 use Rattle.scanner.specs.declared.text.Grammar.{Grammar}
 use Rattle.scanner.specs.Scan.{signBy, signOf}
 use Rattle.scanner.specs.Text.{misfit, unlessLong, bodyScan, textScan}
-use Rattle.scanner.specs.Shapes.{FieldsShape, last, more, pointed, BodyShape, TextParts, textParts, withMinus, TextShape, someLong}
+use Rattle.scanner.specs.Long.{firstLong}
+use Rattle.scanner.specs.Shapes.{FieldsShape, last, more, pointed, BodyShape, TextParts, textParts, withMinus, TextShape, fieldsOf}
 use Rattle.scanner.specs.Statements.{partsRead, TextReads}
-use Rattle.scanner.proofs.Bodies.{body-complete, body-sound}
+use Rattle.scanner.proofs.Bodies.{body-complete, bodyStop, body-sound}
 
 -- ---- a digit stands in front of a body, and so no `-`
 fields-begin : (d : Dividers) (k : ℕ) (l r : List ℕ) (fs : List (List ℕ)) → FieldsShape d k l fs → digitFirst (l ++ r) ≡ true
@@ -34,7 +35,7 @@ no-minus (c ∷ l) e =
 
 -- ---- a text of the shape
 reads-by : (g : Grammar) (m : Bool) (l : List ℕ) (fields : List (List ℕ)) (tail : List ℕ) → BodyShape g l fields tail
-    → textScan g (withMinus m l) ≡ unlessLong (someLong g (textParts m fields tail)) (partsRead (textParts m fields tail))
+    → textScan g (withMinus m l) ≡ unlessLong (firstLong (fieldsOf g (textParts m fields tail))) (partsRead (textParts m fields tail))
 unfolding textScan signOf
 reads-by g true l fields tail t = body-complete g (45 ∷ l) 1 true fields tail t
 reads-by g false l fields tail t =
@@ -45,8 +46,13 @@ pub text-reads : TextReads
 text-reads g l p t = ap (textScan g) (sym (t .text)) ∙ reads-by g (p .minus) (t .body) (p .fields) (p .tail) (t .shape)
 
 -- ---- and back
+-- where the scan stopped
+unfoldable pub textStop : Grammar → List ℕ → ℕ
+textStop g l = bodyStop g l (signOf 0 l .next .at)
+
 found-by : (g : Grammar) (l : List ℕ) (t : Bool) → firstIs (isByte 45) l ≡ t
-    → (bodyScan g l (signBy t 0 .next .at) (signBy t 0 .minus) ≡ misfit NoShape) ⊎ ((p : TextParts) × TextShape g l p)
+    → (bodyScan g l (signBy t 0 .next .at) (signBy t 0 .minus) ≡ misfit (NoShape (bodyStop g l (signBy t 0 .next .at))))
+    ⊎ ((p : TextParts) × TextShape g l p)
 found-by g [] true q = let z : _≡_ {A = ℕ} 0 1 = cc in absurd (omega arith)
 found-by g (c ∷ l) true q =
     ⊎-elim inl
@@ -57,6 +63,6 @@ found-by g l false q =
     (λ w. inr (textParts false (w .fields) (w .tail), record { body = l; shape = w .shape; text = refl }))
     (body-sound g l 0 false)
 
-pub text-found : (g : Grammar) (l : List ℕ) → (textScan g l ≡ misfit NoShape) ⊎ ((p : TextParts) × TextShape g l p)
-unfolding textScan signOf
+pub text-found : (g : Grammar) (l : List ℕ) → (textScan g l ≡ misfit (NoShape (textStop g l))) ⊎ ((p : TextParts) × TextShape g l p)
+unfolding textScan signOf textStop
 text-found g l = found-by g l (firstIs (isByte 45) l) refl

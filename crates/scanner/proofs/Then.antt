@@ -52,9 +52,13 @@ module _ {A : Type 0} (none : A) (then : (field : List ℕ) → List ℕ → A) 
     pub all : field ++ rest ≡ l
     pub gives : fieldThen none then l ≡ then field rest
 
+  pub field-absent : (l : List ℕ) → span l ≡ 0 → fieldThen none then l ≡ none
+  unfolding fieldThen
+  field-absent l e = rw e
+
   begins-by : (l : List ℕ) (n : ℕ) → span l ≡ n → (fieldThen none then l ≡ none) ⊎ Begins l
   unfolding fieldThen
-  begins-by l zero e = inl (rw e)
+  begins-by l zero e = inl (field-absent l e)
   begins-by l (suc n) e =
       let i = leading-field l (λ z. omega arith) in
       inr record { field = leading l; rest = drop (span l) l; is = i; all = leading-rest l; gives = by-some (leading l) (drop (span l) l) (i .some) }

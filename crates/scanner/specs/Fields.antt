@@ -2,14 +2,15 @@
 -- Assumes nothing.
 use Prim.Native.Nat.{ℕ, zero, suc, _+_}
 use mathlib.Core.List.{List, [], _∷_, map}
-use mathlib.Core.Bool.{Bool, true, false, _||_}
+use mathlib.Core.Bool.{Bool, true, false}
 use lib.ListN.{length, drop}
 use Rattle.digits.specs.Digits.{fieldValue}
 use Rattle.scanner.specs.declared.cursor.Cursor.{Cursor}
 use Rattle.scanner.specs.declared.cursor.Field.{Field}
 use Rattle.scanner.specs.declared.fields.Dividers.{Dividers}
+use Rattle.scanner.specs.declared.fields.LongField.the-variants.{Nowhere}
 use Rattle.scanner.specs.declared.fields.Scanned.{Scanned}
-use Rattle.scanner.specs.Long.{isLong, fieldsLong}
+use Rattle.scanner.specs.Long.{placed, firstLong, longField, orLong}
 use Rattle.scanner.specs.Justified.{zeros, justified, shift}
 use Rattle.scanner.specs.Scan.{cursor, dividerOf, lookedFor}
 use Rattle.scanner.specs.Then.{fieldThen, byteThen}
@@ -41,12 +42,18 @@ fieldsIn d (suc k) l = fieldThen noField (λ field. byteThen (lookedFor k (divid
 -- ---- what the scanner keeps
 -- no field yet
 abbrev pub noneTaken : Cursor → Scanned
-noneTaken first = record { found = false; long = false; count = 0; values = zeros 4; next = first }
+noneTaken first = record { found = false; long = Nowhere; count = 0; values = zeros 4; next = first }
 
 -- a field more
 abbrev pub withField : Scanned → Field → Scanned
 withField taken field =
-    record { found = true; long = taken .long || isLong (field .count); count = taken .count + 1; values = shift (taken .values) (field .value); next = field .next }
+    record {
+      found = true;
+      long = orLong (taken .long) (longField (taken .next .at) 9 (field .count));
+      count = taken .count + 1;
+      values = shift (taken .values) (field .value);
+      next = field .next;
+    }
 
 -- a field is begun at this cursor
 abbrev pub fieldBegun : Scanned → Cursor → Scanned
@@ -57,7 +64,7 @@ abbrev pub scannedOf : (at : ℕ) → Front → Scanned
 scannedOf at front =
     record {
       found = front .found;
-      long = fieldsLong (front .fields);
+      long = firstLong (placed (λ place. []) at (front .fields));
       count = length (front .fields);
       values = justified (map fieldValue (front .fields));
       next = cursor (at + front .taken);

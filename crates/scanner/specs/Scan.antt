@@ -64,11 +64,12 @@ signOf at l = signBy (firstIs (isByte 45) l) at
 
 -- no `.`, and so no digits behind it
 abbrev pub noTail : (at : ℕ) → Tail
-noTail at = record { found = true; value = 0; count = 0; next = cursor at }
+noTail at = record { found = true; value = 0; count = 0; first = cursor at; next = cursor at }
 
 -- the digits behind `.`, one at least
 abbrev pub tailAfter : (at : ℕ) (l : List ℕ) → Tail
-tailAfter at l = record { found = ltb 0 (span l); value = fieldValue (leading l); count = span l; next = cursor (at + span l) }
+tailAfter at l =
+    record { found = ltb 0 (span l); value = fieldValue (leading l); count = span l; first = cursor at; next = cursor (at + span l) }
 
 -- `.` and digits, or no `.`; where no digit is allowed, no `.` is looked for
 unfoldable pub tailOf : (most at : ℕ) (l : List ℕ) → Tail

@@ -4,11 +4,12 @@ use Prim.Native.Nat.{ℕ, suc, _≤_, _<_}
 use mathlib.Core.Path.{_≡_}
 use mathlib.Core.List.{List, [], _∷_, _++_}
 use mathlib.Core.Bool.{Bool, true, false, _||_}
-use lib.ListN.{length}
+use lib.ListN.{length, take, drop}
 use Rattle.digits.specs.Digits.{allDigits, IsField}
 use Rattle.scanner.specs.declared.fields.Dividers.{Dividers}
 use Rattle.scanner.specs.declared.text.Grammar.{Grammar}
-use Rattle.scanner.specs.Long.{isOver, fieldsLong}
+use Rattle.scanner.specs.declared.fields.LongField.the-variants.{At}
+use Rattle.scanner.specs.Long.{isOver, fieldsLong, PlacedField, placed, placedTail, firstLong}
 use Rattle.scanner.specs.Scan.{dividerOf}
 
 -- one to k fields, each two divided by one of these bytes; with the list of them
@@ -60,3 +61,34 @@ pub record HasTextShape (g : Grammar) (l : List ℕ) (long : Bool) : Type 0 wher
   pub parts : TextParts
   pub shape : TextShape g l parts
   pub digits : someLong g parts ≡ long
+
+-- ---- places
+-- a text of the grammar, fields of any length
+pub record OfGrammar (g : Grammar) (l : List ℕ) : Type 0 where
+  pub parts : TextParts
+  pub shape : TextShape g l parts
+
+-- each byte is one of ASCII
+abbrev pub Ascii : List ℕ → Type 0
+Ascii [] = Unit {0}
+Ascii (b ∷ l) = (b < 128) × Ascii l
+
+-- there are such texts: a field may come, and no more are asked for than may come
+pub record Possible (g : Grammar) : Type 0 where
+  pub some : 0 < g .most
+  pub enough : g .least ≤ g .most
+
+-- the fields of a text, left to right: behind its sign the divided ones, behind these and `.` the tail
+abbrev pub fieldsOf : Grammar → TextParts → List PlacedField
+fieldsOf g p = placed (placedTail (g .tail) (p .tail)) (length (withMinus (p .minus) [])) (p .fields)
+
+-- each of them stands in the text at its place
+abbrev pub Standing : (l : List ℕ) → List PlacedField → Type 0
+Standing l [] = Unit {0}
+Standing l (f ∷ fs) = (take (length (f .digits)) (drop (f .place) l) ≡ f .digits) × Standing l fs
+
+-- a text has the shape, and the first digit of the first field that is too long stands at this place
+pub record LongText (g : Grammar) (l : List ℕ) (place : ℕ) : Type 0 where
+  pub parts : TextParts
+  pub shape : TextShape g l parts
+  pub first : firstLong (fieldsOf g parts) ≡ At place

@@ -3,15 +3,17 @@
 use Prim.Native.Nat.{ℕ, _^_, _<_}
 use mathlib.Core.Path.{_≡_}
 use mathlib.Core.List.{List, map}
-use mathlib.Core.Bool.{true, false}
+use mathlib.Core.Bool.{false}
 use lib.ListN.{length}
+use Rattle.beginnings.specs.Beginning.{LongestBeginning}
 use Rattle.digits.specs.Digits.{fieldValue}
 use Rattle.scanner.specs.declared.text.Fit.{Fit}
 use Rattle.scanner.specs.declared.text.Fit.the-variants.{Fits, TooLong, NoShape}
 use Rattle.scanner.specs.declared.text.Grammar.{Grammar}
 use Rattle.scanner.specs.declared.text.TextScan.{TextScan}
 use Rattle.scanner.specs.Justified.{justified, Below}
-use Rattle.scanner.specs.Shapes.{TextParts, TextShape, someLong, HasTextShape}
+use Rattle.scanner.specs.Long.{firstLong}
+use Rattle.scanner.specs.Shapes.{TextParts, TextShape, HasTextShape, OfGrammar, Ascii, Possible, fieldsOf, Standing, LongText}
 use Rattle.scanner.specs.Text.{fitting, unlessLong, textScan}
 
 -- what is read of a text's parts
@@ -20,17 +22,30 @@ partsRead p = fitting (p .minus) (justified (map fieldValue (p .fields))) (field
 
 -- a text of the shape reads as its parts, unless something is too long
 abbrev pub TextReads : Type 0
-TextReads = (g : Grammar) (l : List ℕ) (p : TextParts) → TextShape g l p → textScan g l ≡ unlessLong (someLong g p) (partsRead p)
+TextReads = (g : Grammar) (l : List ℕ) (p : TextParts) → TextShape g l p → textScan g l ≡ unlessLong (firstLong (fieldsOf g p)) (partsRead p)
 
 -- what it says of a text that it fits, that it is too long, and that it has no shape
 abbrev pub FitSays : Grammar → List ℕ → Fit → Type 0
 FitSays g l Fits = HasTextShape g l false
-FitSays g l TooLong = HasTextShape g l true
-FitSays g l NoShape = (p : TextParts) → ¬ TextShape g l p
+FitSays g l (TooLong place) = LongText g l place
+FitSays g l (NoShape stop) = (p : TextParts) → ¬ TextShape g l p
 
 -- what is said of a text is so
 abbrev pub FitSound : Type 0
 FitSound = (g : Grammar) (l : List ℕ) → FitSays g l (textScan g l .fit)
+
+-- where the scan of a text without the shape stopped is the length of its longest beginning that also begins some text of the shape
+abbrev pub StopLongest : Type 0
+StopLongest =
+    (g : Grammar) (l : List ℕ) (stop : ℕ) → Possible g → textScan g l .fit ≡ NoShape stop → LongestBeginning (OfGrammar g) l stop
+
+-- a text of the shape is ASCII, and so are the bytes that make a beginning one
+abbrev pub ShapeAscii : Type 0
+ShapeAscii = (g : Grammar) (l : List ℕ) (p : TextParts) → TextShape g l p → Ascii l
+
+-- the places of a text's fields are where these stand in it
+abbrev pub FieldsStand : Type 0
+FieldsStand = (g : Grammar) (l : List ℕ) (p : TextParts) → TextShape g l p → Standing l (fieldsOf g p)
 
 -- a text has the shape in one way only
 abbrev pub OneTextShape : Type 0

@@ -28,11 +28,13 @@ pub(crate) struct Sign {
     pub(crate) next: Cursor,
 }
 
-// The digits behind a `.`, none where no `.` stands; not found, where no digit stands behind it; and the cursor where this stopped.
+// The digits behind a `.`, none where no `.` stands; not found, where no digit stands behind it; the cursor where they begin, and the
+// one where this stopped.
 pub(crate) struct Tail {
     pub(crate) found: bool,
     pub(crate) value: u64,
     pub(crate) count: usize,
+    pub(crate) first: Cursor,
     pub(crate) next: Cursor,
 }
 
@@ -45,6 +47,7 @@ impl Tail {
             found: true,
             value: 0,
             count: 0,
+            first: at,
             next: at,
         }
     }
@@ -118,6 +121,7 @@ impl Cursor {
             found: 0 < field.count,
             value: field.value,
             count: field.count,
+            first,
             next,
         }
     }

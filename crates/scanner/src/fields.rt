@@ -1,8 +1,8 @@
 // Divided fields, one after the other from a cursor on: one to so many, their values right-justified in four places.
 ghost use mathlib.Core.Path.{_≡_};
-ghost use mathlib.Core.Bool.{_||_};
 ghost use Prim.Native.Nat.{_-_, _^_, _<_};
 ghost use lib.ListN.{drop};
+ghost use Rattle.scanner.specs.Long.{longField, orLong};
 ghost use Rattle.scanner.specs.Scan.{pastIf, dividerOf, lookedFor};
 ghost use Rattle.scanner.specs.Justified.{shift};
 ghost use Rattle.scanner.specs.Fields.{noneTaken, withField, fieldBegun, fieldsFound};
@@ -17,11 +17,17 @@ pub enum Dividers {
     Plus,
 }
 
-// The fields taken: whether one stands at the end of them (and is not missing), whether one has over 9 digits, how many they are,
-// their values, right-justified in four places, and the cursor where this stopped.
+// The first digit of the first field that is too long, or that none is.
+pub(crate) enum LongField {
+    Nowhere,
+    At(usize),
+}
+
+// The fields taken: whether one stands at the end of them (and is not missing), the first of over 9 digits, how many they are, their
+// values, right-justified in four places, and the cursor where this stopped.
 pub(crate) struct Scanned {
     pub(crate) found: bool,
-    pub(crate) long: bool,
+    pub(crate) long: LongField,
     pub(crate) count: usize,
     pub(crate) values: [u64; 4],
     pub(crate) next: Cursor,
@@ -50,14 +56,19 @@ fn shifted(values: [u64; 4], value: u64) -> [u64; 4]
     [values[1], values[2], values[3], value]
 }
 
-// Whether one of two holds.
-pub(crate) fn either(a: bool, b: bool) -> bool
-    ensures answer { λ r. ⌜ r ≡ (a || b) ⌝ }
-{
-    if a {
-        return true;
+impl LongField {
+    // The one found before, or else a field of so many digits at this place, if these are over the most allowed.
+    pub(crate) fn or(self, place: usize, most: usize, count: usize) -> LongField
+        ensures answer { λ r. ⌜ r ≡ orLong self (longField place most count) ⌝ }
+    {
+        let LongField::Nowhere = self else {
+            return self;
+        };
+        if most < count {
+            return LongField::At(place);
+        }
+        LongField::Nowhere
     }
-    b
 }
 
 impl Scanned {
@@ -67,7 +78,7 @@ impl Scanned {
     {
         Scanned {
             found: false,
-            long: false,
+            long: LongField::Nowhere,
             count: 0,
             values: [0; 4],
             next: first,
@@ -79,7 +90,9 @@ impl Scanned {
         requires count { ⌜ self .count < 2 ^ 64 - 1 ⌝ }
         ensures answer { λ r. ⌜ r ≡ withField self field ⌝ }
     {
-        let long = either(self.long, 9 < field.count);
+        let start = self.next;
+        let earlier = self.long;
+        let long = earlier.or(start.at, 9, field.count);
         let before = self.values;
         let values = shifted(before, field.value);
         let next = field.next;
@@ -97,9 +110,10 @@ impl Scanned {
         ensures answer { λ r. ⌜ r ≡ fieldBegun self next ⌝ }
     {
         let values = self.values;
+        let long = self.long;
         Scanned {
             found: false,
-            long: self.long,
+            long,
             count: self.count,
             values,
             next,

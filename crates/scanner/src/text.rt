@@ -1,16 +1,18 @@
 // A whole text taken apart by a grammar: optional `-`, divided fields, an optional tail behind `.`, and nothing else.
 ghost use mathlib.Core.Path.{_≡_};
-ghost use Rattle.scanner.specs.Text.{misfit, isWhole, weighed, textScan};
+ghost use Rattle.scanner.specs.Text.{misfit, isEnough, isWhole, stopOf, weighed, textScan};
 use crate::cursor::Cursor;
 use crate::cursor::Tail;
 use crate::fields::Dividers;
+use crate::fields::LongField;
 use crate::fields::Scanned;
 
-// Whether a text has the shape: it fits; or it does, but a field or the tail has too many digits; or it has not.
+// Whether a text has the shape: it fits; or it does, but a field or the tail has too many digits, the first such at this place; or it has
+// not, and the scan stopped at this place.
 pub enum Fit {
     Fits,
-    TooLong,
-    NoShape,
+    TooLong(usize),
+    NoShape(usize),
 }
 
 // The shape of a text: what divides its fields, how many there are at least and at most, and how many digits may stand behind a `.`
@@ -45,14 +47,21 @@ fn misfit(fit: Fit) -> TextScan
     }
 }
 
-// Whether fields and a tail are all there, and the text ends behind them.
-fn is_whole(s: &[u8], least: usize, fields: Scanned, tail: Tail) -> bool
-    ensures answer { λ r. ⌜ r ≡ isWhole (now (s .entry)) least fields tail ⌝ }
+// Whether fields are all there, and no fewer than are asked for.
+fn is_enough(least: usize, fields: Scanned) -> bool
+    ensures answer { λ r. ⌜ r ≡ isEnough least fields ⌝ }
 {
     if !fields.found {
         return false;
     }
-    if fields.count < least {
+    least <= fields.count
+}
+
+// Whether fields that are enough and a tail are all there, and the text ends behind them.
+fn is_whole(s: &[u8], enough: bool, tail: Tail) -> bool
+    ensures answer { λ r. ⌜ r ≡ isWhole (now (s .entry)) enough tail ⌝ }
+{
+    if !enough {
         return false;
     }
     if !tail.found {
@@ -62,17 +71,29 @@ fn is_whole(s: &[u8], least: usize, fields: Scanned, tail: Tail) -> bool
     end.at_end(s)
 }
 
-// The answer to a text, whole or not, with something too long or nothing.
-fn weighed(whole: bool, long: bool, fits: TextScan) -> TextScan
-    ensures answer { λ r. ⌜ r ≡ weighed whole long fits ⌝ }
+// Where the scan stopped: behind the tail, but behind the fields where these are not enough.
+fn stop(enough: bool, fields: Scanned, tail: Tail) -> usize
+    ensures answer { λ r. ⌜ r ≡ stopOf enough fields tail ⌝ }
 {
-    if whole {
-        if long {
-            return misfit(Fit::TooLong);
-        }
-        return fits;
+    if enough {
+        let behind = tail.next;
+        return behind.at;
     }
-    misfit(Fit::NoShape)
+    let behind = fields.next;
+    behind.at
+}
+
+// The answer to a text, whole or not, with a field that is too long or none.
+fn weighed(whole: bool, long: LongField, stop: usize, fits: TextScan) -> TextScan
+    ensures answer { λ r. ⌜ r ≡ weighed whole long stop fits ⌝ }
+{
+    if !whole {
+        return misfit(Fit::NoShape(stop));
+    }
+    let LongField::At(place) = long else {
+        return fits;
+    };
+    misfit(Fit::TooLong(place))
 }
 
 // A text taken apart by a grammar.
@@ -86,8 +107,12 @@ pub fn scan_text(text: &[u8], grammar: Grammar) -> TextScan
     let fields = first.fields(text, dividers, grammar.most);
     let behind = fields.next;
     let tail = behind.tail(text, grammar.tail);
-    let whole = is_whole(text, grammar.least, fields, tail);
-    let long = crate::fields::either(grammar.tail < tail.count, fields.long);
+    let enough = is_enough(grammar.least, fields);
+    let whole = is_whole(text, enough, tail);
+    let digits = tail.first;
+    let earlier = fields.long;
+    let long = earlier.or(digits.at, grammar.tail, tail.count);
+    let stop = stop(enough, fields, tail);
     let values = fields.values;
     let fits = TextScan {
         fit: Fit::Fits,
@@ -96,5 +121,5 @@ pub fn scan_text(text: &[u8], grammar: Grammar) -> TextScan
         tail: tail.value,
         digits: tail.count,
     };
-    weighed(whole, long, fits)
+    weighed(whole, long, stop, fits)
 }

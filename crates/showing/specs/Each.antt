@@ -33,6 +33,10 @@ twoNumbers word x mark y = record { word = word; count = 2; x = x; mark = mark; 
 abbrev pub ofRefusal : Refusal → Shown
 ofRefusal e = oneNumber 114 (pos (e .number))
 
+-- that of a text is `refused`, its number and its place
+abbrev pub ofTextRefusal : Refusal → Shown
+ofTextRefusal e = twoNumbers 114 (pos (e .number)) 32 (e .place)
+
 -- of a timecode the count
 abbrev pub ofAnswer : Answer → Shown
 ofAnswer (answer.At tc) = oneNumber 0 (tc .count)
@@ -64,4 +68,4 @@ ofCompared (compared.Refused e) = ofRefusal e
 abbrev pub ofRead : Read → Shown
 ofRead (read.Label tc) = oneNumber 108 (tc .count)
 ofRead (read.Footage tc format) = twoNumbers 102 (tc .count) 32 (formatNumber format)
-ofRead (read.Refused e) = ofRefusal e
+ofRead (read.Refused e) = ofTextRefusal e

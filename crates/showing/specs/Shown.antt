@@ -48,7 +48,7 @@ helpText =
     ∷ spelt "neg, abs RATE COUNT: COUNT" ++ (10
     ∷ spelt "rebase RATE COUNT RATE: COUNT" ++ (10
     ∷ spelt "convert RATE COUNT RATE ..: COUNT RATE" ++ (10
-    ∷ spelt "A refusal is: refused N")))))))))))))))))))
+    ∷ spelt "A refusal is: refused N; of read and read_as: refused N PLACE")))))))))))))))))))
 
 -- a word alone
 unfoldable pub saidText : (word : ℕ) → List ℕ

@@ -1,6 +1,6 @@
 // What is shown of each kind of answer: its numbers, or its refusal.
 ghost use mathlib.Core.Path.{_≡_};
-ghost use Rattle.showing.specs.Each.{ofRefusal, ofAnswer, ofConverted, ofCounted, ofTicked, ofTimed, ofCompared, ofRead};
+ghost use Rattle.showing.specs.Each.{ofRefusal, ofTextRefusal, ofAnswer, ofConverted, ofCounted, ofTicked, ofTimed, ofCompared, ofRead};
 use crate::Shown;
 use crate::one_number;
 use crate::two_numbers;
@@ -17,6 +17,13 @@ pub(crate) fn of_refusal(e: Refusal) -> Shown
     ensures answer { λ r. ⌜ r ≡ ofRefusal e ⌝ }
 {
     one_number(b'r', e.number as i64)
+}
+
+// The refusal of a text: `refused`, its number and its place.
+fn of_text_refusal(e: Refusal) -> Shown
+    ensures answer { λ r. ⌜ r ≡ ofTextRefusal e ⌝ }
+{
+    two_numbers(b'r', e.number as i64, b' ', e.place as u64)
 }
 
 // A timecode: its count.
@@ -79,13 +86,13 @@ pub fn of_compared(a: Compared) -> Shown
     }
 }
 
-// A text's timecode: `label COUNT` or `footage COUNT FORMAT`.
+// A text's timecode: `label COUNT` or `footage COUNT FORMAT`; or its refusal and where.
 pub fn of_read(a: Read) -> Shown
     ensures answer { λ r. ⌜ r ≡ ofRead a ⌝ }
 {
     match a {
         Read::Label(tc) => one_number(b'l', tc.count),
         Read::Footage(tc, format) => two_numbers(b'f', tc.count, b' ', format.number()),
-        Read::Refused(e) => of_refusal(e),
+        Read::Refused(e) => of_text_refusal(e),
     }
 }

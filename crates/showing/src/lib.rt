@@ -112,7 +112,7 @@ div, rem RATE COUNT N: COUNT
 neg, abs RATE COUNT: COUNT
 rebase RATE COUNT RATE: COUNT
 convert RATE COUNT RATE ..: COUNT RATE
-A refusal is: refused N",
+A refusal is: refused N; of read and read_as: refused N PLACE",
     )
 }
 

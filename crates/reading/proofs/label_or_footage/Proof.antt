@@ -1,9 +1,11 @@
 -- `reading::label_or_footage` meets its contract: by how the scan fits, the label is read, refused, or the text taken for a footage.
 -- Assumes nothing.
+use Prim.Native.Nat.{ℕ}
 use mathlib.Core.Path.{_≡_, sym, ap, _∙_}
 use borrow.Author.Needs.{needs}
 use Rattle.footage_scan.specs.Footage.{footageScan}
 use Rattle.reading.specs.declared.Stated.the-variants.{Nothing}
+use Rattle.reading.specs.declared.Read.the-variants.{Refused}
 use Rattle.reading.specs.Shaped.{Shaped, footageShaped, labelOr, shapeOf}
 use Rattle.reading.specs.Reading.{readShaped}
 use Rattle.reading.proofs.Scans.{label-fits, label-long, label-other}
@@ -14,8 +16,8 @@ read-label-requires : tie.Need-read-label-requires
 read-label-requires c κs = c .before .before .before .before .before .pre
 
 -- what the text is where it is no label
-abbrev other : tie.After-scan-label → Shaped
-other c = footageShaped (footageScan (c .before .before .args .text .now))
+abbrev other : tie.After-scan-label → (stop : ℕ) → Shaped
+other c stop = footageShaped stop (footageScan (c .before .before .args .text .now))
 
 -- the answer to a shape that the scan gives is that to the text's
 scanned-as : (c : tie.After-scan-label) (x : Shaped) → labelOr (other c) (c .scan-label .result) ≡ x
@@ -33,14 +35,18 @@ returns c =
 
 returns-2 : tie.Need-returns-2
 returns-2 c =
-    let scanned = c .before .before in
-    scanned-as scanned _ (label-long (other scanned) (scanned .scan-label .result) (c .enum-told2 .given .1))
+    let told = c .before .before in
+    let scanned = told .before .before in
+    let g = told .fit .given in
+    ap Refused (c .at-place .ensures)
+    ∙ scanned-as scanned _ (label-long (other scanned) (scanned .scan-label .result) (g .0 .0) (g .1))
 
 returns-3 : tie.Need-returns-3
 returns-3 c =
-    let told = c .before in
+    let told = c .before .before in
     let scanned = told .before .before in
-    c .only-footage .ensures ∙ scanned-as scanned _ (label-other (other scanned) (scanned .scan-label .result) (told .enum-told3 .given .1))
+    let g = told .fit2 .given in
+    c .only-footage .ensures ∙ scanned-as scanned _ (label-other (other scanned) (scanned .scan-label .result) (g .0 .0) (g .1))
 
 pub label-or-footage-spec : {M : Type 1} → statement M
 label-or-footage-spec =
@@ -50,6 +56,7 @@ label-or-footage-spec =
     (λ c. search needs)
     read-label-requires
     (λ c. search needs)
+    (λ c κs. search needs)
     (λ c. search needs)
     (λ c κs. search needs)
     returns

@@ -25,7 +25,7 @@ returns-2 c =
     ∙ sym (ap ofRead (n .before .before .a2 .given .1))
 
 returns-3 : tie.Need-returns-3
-returns-3 c = c .of-refusal .ensures ∙ sym (ap ofRead (c .before .before .a3 .given .1))
+returns-3 c = c .of-text-refusal .ensures ∙ sym (ap ofRead (c .before .before .a3 .given .1))
 
 pub of-read-spec : {M : Type 1} → statement M
 of-read-spec =
