@@ -2,11 +2,11 @@
 -- Assumes nothing.
 use Prim.Native.Nat.{ℕ, _+_, _^_, _≤_, _<_}
 use mathlib.Core.Path.{_≡_, refl, sym, ap, ap₂, _∙_}
-use mathlib.Core.List.{List, [], _∷_, map}
+use mathlib.Core.List.{List, [], _∷_, _++_, map}
 use mathlib.Core.Bool.{Bool, true, false, _||_, cond}
 use native.Mathlib.Omega.{arith}
 use lib.ListN.{length, length-append}
-use borrow.Author.Tests.{le-ltb, ltb-false}
+use borrow.Author.Tests.{le-ltb, lt-ltb, ltb-true, ltb-false}
 use Rattle.digits.specs.Digits.{valueOf, fieldValue, decimal}
 use Rattle.digits.proofs.Runs.{field-value}
 use Rattle.digits.proofs.Width.{width-at-most, decimal-length, decimal-field}
@@ -15,7 +15,7 @@ use Rattle.scanner.specs.declared.fields.LongField.{LongField}
 use Rattle.scanner.specs.declared.fields.LongField.the-variants.{Nowhere, At}
 use Rattle.scanner.specs.declared.text.Grammar.{Grammar}
 use Rattle.scanner.specs.Long.{isOver, isLong, fieldsLong, ShortField, PlacedField, placed, placedTail, firstLong, longField, orLong}
-use Rattle.scanner.specs.Shapes.{FieldsShape, last, more, TextParts, someLong, fieldsOf}
+use Rattle.scanner.specs.Shapes.{FieldsShape, last, more, TextParts, someLong, fieldsOf, AllShort, FirstLong}
 
 -- neither of two holds, if not one of them does
 pub neither : (p q : Bool) → (p || q) ≡ false → (p ≡ false) × (q ≡ false)
@@ -111,3 +111,40 @@ some-nowhere (At place) e = let z : _≡_ {A = ℕ} 0 1 = cc in absurd (omega ar
 pub some-place : (x : LongField) → isSome x ≡ true → (place : ℕ) × (x ≡ At place)
 some-place Nowhere e = let z : _≡_ {A = ℕ} 0 1 = cc in absurd (omega arith)
 some-place (At place) e = (place, refl)
+
+-- which is the first
+pub first-told : (fs : List PlacedField) (place : ℕ) → firstLong fs ≡ At place → FirstLong fs place
+first-told [] place e = let z : _≡_ {A = ℕ} 0 1 = cc in absurd (omega arith)
+first-told (f ∷ fs) place e = by (isOver (f .most) (length (f .digits))) refl (first-told fs place) e
+  where
+    by : (t : Bool) → isOver (f .most) (length (f .digits)) ≡ t → (firstLong fs ≡ At place → FirstLong fs place)
+        → cond t (At (f .place)) (firstLong fs) ≡ At place → FirstLong (f ∷ fs) place
+    by true over later h = record {
+      left = [];
+      field = f;
+      right = fs;
+      all = refl;
+      short = tt;
+      long = ltb-true (f .most) (length (f .digits)) over;
+      there = cc;
+    }
+    by false over later h =
+        let q = later h in
+        record {
+          left = f ∷ q .left;
+          field = q .field;
+          right = q .right;
+          all = ap (λ (x : List PlacedField). f ∷ x) (q .all);
+          short = (ltb-false (f .most) (length (f .digits)) over, q .short);
+          long = q .long;
+          there = q .there;
+        }
+
+first-by : (left : List PlacedField) (field : PlacedField) (right : List PlacedField) → AllShort left → field .most < length (field .digits)
+    → firstLong (left ++ field ∷ right) ≡ At (field .place)
+first-by [] field right short long = rw (lt-ltb (field .most) (length (field .digits)) long)
+first-by (f ∷ left) field right short long =
+    rw (le-ltb (f .most) (length (f .digits)) (short .0)) (first-by left field right (short .1) long)
+
+pub first-gives : (fs : List PlacedField) (place : ℕ) → FirstLong fs place → firstLong fs ≡ At place
+first-gives fs place q = ap firstLong (sym (q .all)) ∙ first-by (q .left) (q .field) (q .right) (q .short) (q .long) ∙ ap At (q .there)

@@ -23,7 +23,7 @@ use Rattle.scanner.specs.Justified.{justified}
 use Rattle.scanner.specs.Text.{fitting, misfit, unlessLong, textScan}
 use Rattle.scanner.specs.Shapes.{FieldsShape, last, more, TextParts, TextShape, someLong, HasTextShape, OfGrammar, Possible, fieldsOf, LongText}
 use Rattle.scanner.specs.Statements.{partsRead, TextReads, FitSays, FitSound, StopLongest, ShapeAscii, FieldsStand, OneTextShape, TextBounds, TextBounded}
-use Rattle.scanner.proofs.Long.{neither, values-short, isSome, some-long, some-nowhere, some-place}
+use Rattle.scanner.proofs.Long.{neither, values-short, isSome, some-long, some-nowhere, some-place, first-told, first-gives}
 use Rattle.scanner.proofs.Justified.{justified-length, below-nil, zeros-below, justified-below, values-below}
 use Rattle.scanner.proofs.Signed as signed
 use Rattle.scanner.proofs.OneShape as one
@@ -49,7 +49,7 @@ module _ (g : Grammar) (l : List ℕ) where
   long-is p long e = sym (some-long g p) ∙ ap isSome e
 
   shape-says : (p : TextParts) → TextShape g l p → (long : LongField) → firstLong (fieldsOf g p) ≡ long → FitSays g l (unlessLong long (partsRead p) .fit)
-  shape-says p shape (At place) e = record { parts = p; shape = shape; first = e }
+  shape-says p shape (At place) e = record { parts = p; shape = shape; first = first-told (fieldsOf g p) place e }
   shape-says p shape Nowhere e = record { parts = p; shape = shape; digits = long-is p Nowhere e }
 
   fit-says : FitSays g l (textScan g l .fit)
@@ -73,16 +73,18 @@ module _ (g : Grammar) (l : List ℕ) where
       (values-short (p .fields) (neither (isOver (g .tail) (length (p .tail))) (fieldsLong (p .fields)) e .1))
 
   pub text-long : (place : ℕ) → LongText g l place → textScan g l ≡ misfit (TooLong place)
-  text-long place h = text-reads g l (h .parts) (h .shape) ∙ ap (λ (long : LongField). unlessLong long (partsRead (h .parts))) (h .first)
+  text-long place h =
+      text-reads g l (h .parts) (h .shape)
+      ∙ ap (λ (long : LongField). unlessLong long (partsRead (h .parts))) (first-gives (fieldsOf g (h .parts)) place (h .first))
 
   -- where something is too long, the first such field has a place, and back
   pub long-place : HasTextShape g l true → (place : ℕ) × LongText g l place
   long-place h =
       let s = some-place (firstLong (fieldsOf g (h .parts))) (some-long g (h .parts) ∙ h .digits) in
-      (s .0, record { parts = h .parts; shape = h .shape; first = s .1 })
+      (s .0, record { parts = h .parts; shape = h .shape; first = first-told (fieldsOf g (h .parts)) (s .0) (s .1) })
 
   pub place-long : (place : ℕ) → LongText g l place → HasTextShape g l true
-  place-long place h = record { parts = h .parts; shape = h .shape; digits = long-is (h .parts) (At place) (h .first) }
+  place-long place h = record { parts = h .parts; shape = h .shape; digits = long-is (h .parts) (At place) (first-gives (fieldsOf g (h .parts)) place (h .first)) }
 
   pub text-none : ((p : TextParts) → ¬ TextShape g l p) → textScan g l ≡ misfit (NoShape (signed.textStop g l))
   text-none h = ⊎-elim (λ e. e) (λ s. absurd (h (s .0) (s .1))) (signed.text-found g l)

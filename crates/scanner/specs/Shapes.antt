@@ -8,8 +8,7 @@ use lib.ListN.{length, take, drop}
 use Rattle.digits.specs.Digits.{allDigits, IsField}
 use Rattle.scanner.specs.declared.fields.Dividers.{Dividers}
 use Rattle.scanner.specs.declared.text.Grammar.{Grammar}
-use Rattle.scanner.specs.declared.fields.LongField.the-variants.{At}
-use Rattle.scanner.specs.Long.{isOver, fieldsLong, PlacedField, placed, placedTail, firstLong}
+use Rattle.scanner.specs.Long.{isOver, fieldsLong, PlacedField, placed, placedTail}
 use Rattle.scanner.specs.Scan.{dividerOf}
 
 -- one to k fields, each two divided by one of these bytes; with the list of them
@@ -87,8 +86,23 @@ abbrev pub Standing : (l : List ℕ) → List PlacedField → Type 0
 Standing l [] = Unit {0}
 Standing l (f ∷ fs) = (take (length (f .digits)) (drop (f .place) l) ≡ f .digits) × Standing l fs
 
+-- none of them is too long
+abbrev pub AllShort : List PlacedField → Type 0
+AllShort [] = Unit {0}
+AllShort (f ∷ fs) = (length (f .digits) ≤ f .most) × AllShort fs
+
+-- the first of them that is too long, those to its left not being so, has its first digit at this place
+pub record FirstLong (fields : List PlacedField) (place : ℕ) : Type 0 where
+  pub left : List PlacedField
+  pub field : PlacedField
+  pub right : List PlacedField
+  pub all : left ++ field ∷ right ≡ fields
+  pub short : AllShort left
+  pub long : field .most < length (field .digits)
+  pub there : field .place ≡ place
+
 -- a text has the shape, and the first digit of the first field that is too long stands at this place
 pub record LongText (g : Grammar) (l : List ℕ) (place : ℕ) : Type 0 where
   pub parts : TextParts
   pub shape : TextShape g l parts
-  pub first : firstLong (fieldsOf g parts) ≡ At place
+  pub first : FirstLong (fieldsOf g parts) place
