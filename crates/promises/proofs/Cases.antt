@@ -13,7 +13,6 @@ use Rattle.labels.specs.Sections.{fieldsAt, droppedBefore, sectionsOf}
 use Rattle.scanner.specs.Then.{fieldThen, byteThen}
 use Rattle.scanner.specs.Scan.{signOf, tailOf}
 use Rattle.scanner.specs.Fields.{fieldsIn, fieldsFound}
-use Rattle.scanner.specs.Long.{fieldsLong}
 use Rattle.scanner.specs.Text.{textScan}
 use Rattle.label_scan.specs.Label.{labelScan}
 use Rattle.footage_scan.specs.Footage.{footageScan}
@@ -33,9 +32,9 @@ use Rattle.promises.specs.Cases.{All, cases, StarredCases}
 pub starred-cases : StarredCases
 unfolding nearestN valueFrom span digitsOf widthBy width decimal held rates isRate rateRow
     dropFrames isDrop isFormat formatAt footageCount footageOf labelCount isDropped fieldsAt droppedBefore sectionsOf
-    fieldThen byteThen signOf tailOf fieldsIn fieldsFound fieldsLong textScan labelScan footageScan labelRead footageRead readText labelFields
+    fieldThen byteThen signOf tailOf fieldsIn fieldsFound textScan labelScan footageScan labelRead footageRead readText labelFields
     labelSections clockText sectionsText labelText feetText footageText isFraction instant joined divOf divqOf convertOf
 starred-cases =
     let behind-labels : All (drop 9 cases) =
-    ((refl, λ rate r. simp r), ((refl, λ rate r. simp r), (λ rate r. simp r, (λ rate r. simp r, (refl, (refl, tt)))))) in
+    ((refl, λ rate r. simp r), ((refl, λ rate r. simp r), (λ rate r. simp r, (λ rate r. simp r, (refl, (refl, (refl, (refl, (refl, (refl, (refl, tt))))))))))) in
     ((refl, refl), ((refl, refl), (refl, ((refl, refl), ((refl, refl), ((refl, refl), ((refl, refl), ((refl, refl), (refl, behind-labels)))))))))

@@ -6,12 +6,14 @@ use mathlib.Core.Path.{_≡_}
 use mathlib.Core.Bool.{true}
 use mathlib.Core.List.{List, [], _∷_}
 use lib.IntN.{ℤ, pos, negsuc}
+use Rattle.answers.specs.Refusals.{refusal, atPlace}
 use Rattle.rates.specs.Rates.{isRate}
 use Rattle.film.specs.declared.FilmFormat.{FilmFormat}
 use Rattle.film.specs.declared.FilmFormat.the-variants.{FF35mm3perf}
 use Rattle.film.specs.Film.{formatNumber}
+use Rattle.reading.specs.declared.Stated.{Stated}
 use Rattle.reading.specs.declared.Stated.the-variants.{Nothing, Format}
-use Rattle.reading.specs.declared.Read.the-variants.{Label, Footage}
+use Rattle.reading.specs.declared.Read.the-variants.{Label, Footage, Refused}
 use Rattle.reading.specs.Answer.{numberOf}
 use Rattle.reading.specs.Reading.{readText}
 use Rattle.label_writer.specs.LabelText.{labelText}
@@ -28,6 +30,7 @@ use Rattle.lines.specs.Output.{bytesOf}
 pub data Case : Type 0 where
   label : (rate : ℕ) (count : ℤ) (text : String) → Case  -- rate 5: 1800 is `00:01:00;02`
   gives : (rate : ℕ) (text : String) (number : ℕ) → Case  -- rate 5: `00:01:00;00` gives 3
+  stops : (stated : Stated) (rate : ℕ) (text : String) (number place : ℕ) → Case  -- 4-perf stated, rate 2: `1+2.` gives 1 at 4
   footage : (format : FilmFormat) (count : ℤ) (text : String) → Case  -- 3-perf: 21 is `1+00.1`
   divided : (count n answer : ℤ) → Case  -- -1 divided by integer 2 is 0
   dividedBy : (count p : ℤ) (q : ℕ) (answer : ℤ) → Case  -- -1 divided by 2/1 is -1
@@ -38,6 +41,7 @@ pub data Case : Type 0 where
 abbrev pub Holds : Case → Type 0
 Holds (label rate count text) = (labelText rate count ≡ bytesOf text) × (readText (bytesOf text) Nothing rate ≡ Label (timecode count rate))
 Holds (gives rate text number) = numberOf (readText (bytesOf text) Nothing rate) ≡ number
+Holds (stops stated rate text number place) = readText (bytesOf text) stated rate ≡ Refused (atPlace (refusal number) place)
 Holds (footage format count text) =
     (footageText format count ≡ bytesOf text)
     × ((rate : ℕ) → isRate rate ≡ true → readText (bytesOf text) (Format (formatNumber format)) rate ≡ Footage (timecode count rate) format)
@@ -68,6 +72,11 @@ cases =
     ∷ dividedBy (negsuc 0) (pos 2) 1 (negsuc 0)
     ∷ plus (pos 5) 2 (negsuc 0) 8 (pos 5)
     ∷ through (pos 1) 12 (2 ∷ 12 ∷ []) (pos 0) 12
+    ∷ stops (Format 1) 2 "1+2." 1 4
+    ∷ stops Nothing 2 "12+3:4" 1 4
+    ∷ stops Nothing 2 "1:00+5" 1 4
+    ∷ stops Nothing 2 "-0000000001:0000000002" 2 1
+    ∷ stops (Format 1) 2 "1+2.0000000003" 2 4
     ∷ []
 
 -- each row holds
