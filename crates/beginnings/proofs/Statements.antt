@@ -18,13 +18,6 @@ one-longest Shape l m n p q = omega (arith, p .longest n (q .within) (q .begins)
 pub begins-in : {Shape Other : List ℕ → Type 0} {l : List ℕ} → ((t : List ℕ) → Shape t → Other t) → Begins Shape l → Begins Other l
 begins-in {l = l} f b = record { behind = b .behind; shaped = f (l ++ b .behind) (b .shaped) }
 
--- two shapes with the same texts have the same longest beginnings
-pub longest-same : {Shape Other : List ℕ → Type 0} {l : List ℕ} {n : ℕ}
-    → ((t : List ℕ) → Shape t → Other t) → ((t : List ℕ) → Other t → Shape t)
-    → LongestBeginning Shape l n → LongestBeginning Other l n
-longest-same f g p =
-    record { within = p .within; begins = begins-in f (p .begins); longest = λ m h b. p .longest m h (begins-in g b) }
-
 -- ---- two shapes
 module _ (Shape Other : List ℕ → Type 0) (l : List ℕ) (m n : ℕ) (p : LongestBeginning Shape l m) (q : LongestBeginning Other l n) where
   -- what begins a text of either is no longer than the longer

@@ -15,10 +15,9 @@ use Rattle.timecodes.specs.Timecode.{placed, numberOf}
 use Rattle.scanner.specs.declared.text.Fit.{Fit}
 use Rattle.scanner.specs.declared.text.Fit.the-variants.{Fits, TooLong, NoShape}
 use Rattle.scanner.specs.Shapes.{TextParts}
-use Rattle.scanner.proofs.Statements.{fit-told}
-use Rattle.runtime_scan.specs.Shape.{runtimeGrammar, RuntimeShape, HasRuntimeShape}
+use Rattle.runtime_scan.specs.Shape.{RuntimeShape, HasRuntimeShape}
 use Rattle.runtime_scan.specs.Runtime.{runtimeScan}
-use Rattle.runtime_scan.proofs.Statements.{runtime-place-long}
+use Rattle.runtime_scan.proofs.Statements.{runtime-fits, runtime-fit-long, runtime-fit-none, runtime-place-long}
 use Rattle.runtime_reading.specs.Reading.{readRuntime}
 use Rattle.runtime_reading.specs.ReadingLaws.{no-rate}
 use Rattle.runtime_reading.specs.Statements.{RuntimeCount, CountOut}
@@ -44,15 +43,14 @@ module _ (l : List ℕ) (rate : ℕ) where
   by-count z x false e = subst (λ a. Told (placed rate a)) (sym (held-out z e)) (record { z = z; count = x; out = e }, refl)
 
   by-fit : isRate rate ≡ true → (v : Fit) → runtimeScan l .fit ≡ v → Told (readRuntime l rate)
-  unfolding runtimeScan
   by-fit r Fits e =
-      let h = fit-told runtimeGrammar l Fits e in
+      let h = runtime-fits l .0 e in
       let x = counted l rate r (h .parts) (h .shape) (h .digits) in
       let z = frame l rate r (h .parts) in
       subst Told (sym (gives-count l rate r z x)) (by-count z x (isCount z) refl)
   by-fit r (TooLong place) e =
-      let h = runtime-place-long l place (fit-told runtimeGrammar l (TooLong place) e) in subst Told (sym (gives-long l rate r h)) (h, refl)
-  by-fit r (NoShape stop) e = let none = fit-told runtimeGrammar l (NoShape stop) e in subst Told (sym (gives-none l rate r none)) (none, refl)
+      let h = runtime-place-long l place (runtime-fit-long l place e) in subst Told (sym (gives-long l rate r h)) (h, refl)
+  by-fit r (NoShape stop) e = let none = runtime-fit-none l stop e in subst Told (sym (gives-none l rate r none)) (none, refl)
 
   by-rate : (t : Bool) → isRate rate ≡ t → Told (readRuntime l rate)
   by-rate true r = by-fit r (runtimeScan l .fit) refl
