@@ -62,7 +62,7 @@ static void agree(uint64_t rate) {
             die("writing", i);
         lengths[i] = a.length;
         tzq_read_count x = tzq_read(kept[i], a.length, rate), y = plain_read(kept[i], a.length, rate);
-        if (x.refused != y.refused || x.count != y.count || x.format != y.format || x.count != tc.count)
+        if (x.refused != y.refused || x.count != y.count || x.format != y.format || x.place != y.place || x.count != tc.count)
             die("reading", i);
     }
 }
@@ -79,7 +79,7 @@ static void agree_on_texts(void) {
             text[k] = (uint8_t)alphabet[(seed >> 33) % (sizeof alphabet - 1)];
         }
         tzq_read_count x = tzq_read(text, length, i % 14), y = plain_read(text, length, i % 14);
-        if (x.refused != y.refused || x.count != y.count || x.format != y.format)
+        if (x.refused != y.refused || x.count != y.count || x.format != y.format || x.place != y.place)
             die("text", i);
     }
 }

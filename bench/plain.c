@@ -78,36 +78,43 @@ static run digits_at(const uint8_t *text, size_t length, size_t at) {
     return r;
 }
 
-static tzq_read_count refused(uint64_t number) {
-    tzq_read_count a = {number, 0, 0};
+static tzq_read_count refused(uint64_t number, size_t place) {
+    tzq_read_count a = {number, 0, 0, place};
     return a;
 }
 
 static tzq_read_count held(bool minus, uint64_t count, uint64_t format) {
     if (count > TZQ_MOST)
-        return refused(TZQ_OUT_OF_BOUNDS);
-    tzq_read_count a = {0, minus ? -(int64_t)count : (int64_t)count, format};
+        return refused(TZQ_OUT_OF_BOUNDS, 0);
+    tzq_read_count a = {0, minus ? -(int64_t)count : (int64_t)count, format, 0};
     return a;
 }
 
+/* the first digit of the first field that is too long */
+enum { NOWHERE = -1 };
+
+static int64_t first_long(int64_t before, size_t at, run r) { return before == NOWHERE && r.digits > 9 ? (int64_t)at : before; }
+
 static tzq_read_count read_footage(const uint8_t *text, size_t length, bool minus, run feet) {
-    run frames = digits_at(text, length, feet.next + 1);
-    bool over = feet.digits > 9 || frames.digits > 9, perf = false;
+    size_t at = feet.next + 1;
+    run frames = digits_at(text, length, at);
+    bool perf = false;
     if (frames.digits == 0)
-        return refused(TZQ_NO_SHAPE);
+        return refused(TZQ_NO_SHAPE, at);
+    int64_t over = first_long(first_long(NOWHERE, minus ? 1 : 0, feet), at, frames);
     size_t end = frames.next;
     if (end < length && text[end] == '.') {
         run p = digits_at(text, length, end + 1);
         if (p.digits == 0)
-            return refused(TZQ_NO_SHAPE);
-        over |= p.digits > 9;
+            return refused(TZQ_NO_SHAPE, end + 1);
+        over = first_long(over, end + 1, p);
         perf = true;
         end = p.next;
     }
     if (end != length)
-        return refused(TZQ_NO_SHAPE);
-    if (over)
-        return refused(TZQ_TOO_LONG);
+        return refused(TZQ_NO_SHAPE, end);
+    if (over != NOWHERE)
+        return refused(TZQ_TOO_LONG, (size_t)over);
     if (perf)
         return held(minus, 64 * (feet.value / 3) + 21 * (feet.value % 3) + frames.value, 2);
     return held(minus, 16 * feet.value + frames.value, 1);
@@ -115,28 +122,31 @@ static tzq_read_count read_footage(const uint8_t *text, size_t length, bool minu
 
 tzq_read_count plain_read(const uint8_t *text, size_t length, uint64_t rate) {
     if (rate < 1 || rate > 12)
-        return refused(TZQ_NO_SUCH);
-    bool minus = length > 0 && text[0] == '-', over = false;
+        return refused(TZQ_NO_SUCH, 0);
+    bool minus = length > 0 && text[0] == '-';
+    int64_t over = NOWHERE;
     size_t at = minus ? 1 : 0;
     uint64_t kept[4] = {0, 0, 0, 0};
     for (int fields = 1;; fields++) {
+        if (fields > 4)
+            return refused(TZQ_NO_SHAPE, at - 1);
         run r = digits_at(text, length, at);
-        if (r.digits == 0 || fields > 4)
-            return refused(TZQ_NO_SHAPE);
+        if (r.digits == 0)
+            return refused(TZQ_NO_SHAPE, at);
         if (fields == 1 && r.next < length && text[r.next] == '+')
             return read_footage(text, length, minus, r);
-        over |= r.digits > 9;
+        over = first_long(over, at, r);
         kept[0] = kept[1], kept[1] = kept[2], kept[2] = kept[3], kept[3] = r.value;
         if (r.next == length)
             break;
         if (text[r.next] != ':' && text[r.next] != ';')
-            return refused(TZQ_NO_SHAPE);
+            return refused(TZQ_NO_SHAPE, r.next);
         at = r.next + 1;
     }
-    if (over)
-        return refused(TZQ_TOO_LONG);
+    if (over != NOWHERE)
+        return refused(TZQ_TOO_LONG, (size_t)over);
     uint64_t d = DROP[rate], minutes = 60 * kept[0] + kept[1];
     if (kept[2] == 0 && kept[3] < d && kept[1] % 10 != 0)
-        return refused(TZQ_DROPPED_LABEL);
+        return refused(TZQ_DROPPED_LABEL, 0);
     return held(minus, (60 * minutes + kept[2]) * TIMEBASE[rate] + kept[3] - d * (minutes - minutes / 10), 0);
 }

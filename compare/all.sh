@@ -1,6 +1,6 @@
 #!/bin/bash
 # The crate and our program on millions of inputs, each difference held to docs/DIFFERENCES.md: compare/all.sh [quick]
-# Its last line is 'N compared, M listed differences, 0 unlisted'; the status is 1 if any is unlisted.
+# Its last line is 'N compared, M listed differences, 0 unlisted'; the status is 1 if any is unlisted, or if a place is wrong.
 #
 # On standard error it tells how far it is; where that is no terminal, only what begins.
 #

@@ -9,7 +9,8 @@
  *
  * Every function is total: it answers for all arguments, keeps nothing between calls, allocates nothing, and may be called from any
  * number of threads at once. A pointer must not be null and must point at as many elements as the length behind it says (a pointer to
- * anything will do where that is 0); a line that is written must not overlap anything else that is passed.
+ * anything will do where that is 0); a line that is written must not overlap anything else that is passed. What is compiled with this
+ * header is linked with the library of the same version: structs may grow.
  *
  * Each answer begins with `refused`: 0, or one of the numbers below, and then every other number of the answer is 0 (but the place in
  * the text that tzq_read and tzq_read_as answer with 1 and 2), a fraction 0/1, and no byte of the line has changed. Of several refusals

@@ -70,7 +70,7 @@ class Item:
         if self.word in ("record", "data"):
             return self.word
         if self.name[0].isupper() and re.search(r"Type \d$", self.type()):
-            return "statement" if self.type() == "Type 0" and not self.around else "relation"
+            return "statement" if self.type() in ("Type 0", "Type 1") and not self.around else "relation"
         return "definition" if self.word in ("abbrev", "unfoldable") else "law"
 
 

@@ -5,7 +5,7 @@ ghost use Rattle.numbers.specs.Nearest.{nearestZ};
 ghost use Rattle.answers.specs.Refusals.{atPlace, isCount, held, numberOf, countOf};
 
 // Why a call was refused: the refusal's number, and its place in the text that was read (0, where it has none). Made only by the
-// constants below, handed on whole.
+// constants below, given its place by `at_place`, handed on whole.
 pub struct Refusal {
     pub number: u8,
     pub place: usize,

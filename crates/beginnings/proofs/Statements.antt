@@ -1,15 +1,14 @@
--- There is one longest beginning, of two shapes it is the longer, and of a text of the shape the whole.
+-- There is one longest beginning, and of two shapes it is the longer.
 -- Assumes nothing.
 use Prim.Native.Nat.{ℕ, zero, suc, _≤_, max}
 use mathlib.Core.Path.{_≡_}
 use mathlib.Core.Logic.{_⊎_, inl, inr, ⊎-elim}
-use mathlib.Core.List.{List, [], _++_, append-nil}
+use mathlib.Core.List.{List, _++_}
 use native.Mathlib.Omega.{arith}
 use native.Mathlib.Nat.{max-eq-left, max-eq-right}
 use lib.ListN.{length, take}
-use lib.Seq.{take-all}
 use Rattle.beginnings.specs.Beginning.{Begins, LongestBeginning, Either}
-use Rattle.beginnings.specs.Statements.{OneLongest, LongestOfEither, LongestOfShaped}
+use Rattle.beginnings.specs.Statements.{OneLongest, LongestOfEither}
 
 pub one-longest : OneLongest
 one-longest Shape l m n p q = omega (arith, p .longest n (q .within) (q .begins), q .longest m (p .within) (p .begins))
@@ -42,11 +41,3 @@ order (suc m) (suc n) = ⊎-elim (λ h. inl (omega arith)) (λ h. inr (omega ari
 
 pub longest-of-either : LongestOfEither
 longest-of-either Shape Other l m n p q = either-longest Shape Other l m n p q (order m n)
-
-pub longest-of-shaped : LongestOfShaped
-longest-of-shaped Shape l s =
-    record {
-      within = omega arith;
-      begins = record { behind = []; shaped = rw (append-nil, take-all (length l) l (omega arith)) s };
-      longest = λ m h b. h;
-    }

@@ -3,7 +3,6 @@
 use Prim.Native.Nat.{ℕ, max}
 use mathlib.Core.Path.{_≡_}
 use mathlib.Core.List.{List}
-use lib.ListN.{length}
 use Rattle.beginnings.specs.Beginning.{LongestBeginning, Either}
 
 -- a text has one longest beginning
@@ -16,7 +15,3 @@ abbrev pub LongestOfEither : Type 1
 LongestOfEither =
     (Shape Other : List ℕ → Type 0) (l : List ℕ) (m n : ℕ) → LongestBeginning Shape l m → LongestBeginning Other l n
     → LongestBeginning (Either Shape Other) l (max m n)
-
--- of a text that has the shape it is the whole text
-abbrev pub LongestOfShaped : Type 1
-LongestOfShaped = (Shape : List ℕ → Type 0) (l : List ℕ) → Shape l → LongestBeginning Shape l (length l)

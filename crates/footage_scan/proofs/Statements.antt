@@ -18,7 +18,7 @@ use Rattle.scanner.proofs.Bodies.{point-some}
 use Rattle.scanner.proofs.Statements.{one-text-shape, text-bounded, fields-count, fit-told, text-short, text-long, long-place, place-long, stop-longest, text-stops}
 use Rattle.footage_scan.specs.declared.FootageScan.{FootageScan}
 use Rattle.footage_scan.specs.Shape.{footageGrammar, footageParts, asText, hasPerf, HasFootageShape, FootageParts, FootageShape, IsFootage, LongFootage}
-use Rattle.footage_scan.specs.Footage.{fittingFootage, misfitFootage, footageFrom, footageScan}
+use Rattle.footage_scan.specs.Footage.{fittingFootage, footageFrom, footageScan}
 use Rattle.footage_scan.specs.Statements.{FootageReads, FootageFits, FootageTooLong, FootageNoShape, OneFootageShape, FootageBelow, FootageTextBack}
 
 -- ---- a footage's grammar asks for two fields

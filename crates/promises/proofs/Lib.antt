@@ -2,6 +2,7 @@ pub mod Calls
 pub mod CallsC
 pub mod Ties
 pub mod TiesC
+pub mod ReadC
 pub mod Demand1
 pub mod When
 pub mod Read

@@ -1,6 +1,7 @@
 -- Every promise is kept: the record's value, each part by the proof that bears its name.
 -- Assumes nothing.
 use Rattle.promises.specs.Promises.{Promises}
+use Rattle.beginnings.proofs.Statements as beginnings
 use Rattle.numbers.proofs.Statements as numbers
 use Rattle.lent.proofs.Statements as lent
 use Rattle.digits.proofs.Statements as digits
@@ -30,6 +31,7 @@ use Rattle.promises.proofs.Calls.{one-answer}
 use Rattle.promises.proofs.CallsC.{one-answer-c}
 use Rattle.promises.proofs.Ties.{ties}
 use Rattle.promises.proofs.TiesC.{ties-c}
+use Rattle.promises.proofs.ReadC.{read-for-c}
 use Rattle.promises.proofs.When.{refused-when}
 use Rattle.promises.proofs.Demand1.{refused-zero, refused-keeps-line}
 use Rattle.promises.proofs.Demand2.{demand2-at5, demand2-at11}
@@ -42,6 +44,7 @@ promises = record {
   one-answer-c = one-answer-c;
   ties = ties;
   ties-c = ties-c;
+  read-for-c = read-for-c;
   refused-when = refused-when;
   refused-zero = refused-zero;
   refused-keeps-line = refused-keeps-line;
@@ -99,6 +102,8 @@ promises = record {
   listed-entries = minutes.listed-entries;
   text-reads = scanner.text-reads;
   fit-sound = scanner.fit-sound;
+  one-longest = beginnings.one-longest;
+  longest-of-either = beginnings.longest-of-either;
   stop-longest = scanner.stop-longest;
   shape-ascii = scanner.shape-ascii;
   fields-stand = scanner.fields-stand;
@@ -194,4 +199,5 @@ promises = record {
   only-understood = asking.only-understood;
   shown-line = showing.shown-line;
   written-line = showing.written-line;
+  text-refused-shown = showing.text-refused-shown;
 }

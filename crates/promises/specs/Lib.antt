@@ -3,6 +3,7 @@ pub mod Calls
 pub mod CallsC
 pub mod Ties
 pub mod TiesC
+pub mod ReadC
 pub mod Demand1
 pub mod Given
 pub mod When

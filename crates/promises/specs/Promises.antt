@@ -1,5 +1,6 @@
 -- All that is promised beyond one call, in the reader's order: one record, so that none is missing. Its value: proofs/Promises.antt.
 -- Assumes nothing.
+use Rattle.beginnings.specs.Statements as beginnings
 use Rattle.numbers.specs.Statements as numbers
 use Rattle.lent.specs.Statements as lent
 use Rattle.digits.specs.Statements as digits
@@ -29,18 +30,20 @@ use Rattle.promises.specs.Calls.{OneAnswer}
 use Rattle.promises.specs.CallsC.{OneAnswerC}
 use Rattle.promises.specs.Ties.{Ties}
 use Rattle.promises.specs.TiesC.{TiesC}
+use Rattle.promises.specs.ReadC.{ReadForC}
 use Rattle.promises.specs.When.{RefusedWhen}
 use Rattle.promises.specs.Demand1.{RefusedZero, RefusedKeepsLine}
 use Rattle.promises.specs.Demand2.{Demand2At5, Demand2At11}
 use Rattle.promises.specs.ReadBack.{LabelsReadBack, FootageReadBack, UnstatedReadBack}
 use Rattle.promises.specs.Cases.{StarredCases}
 
-pub record Promises : Type 0 where
+pub record Promises : Type 1 where
   -- demand 1
   pub one-answer : OneAnswer
   pub one-answer-c : OneAnswerC
   pub ties : Ties
   pub ties-c : TiesC
+  pub read-for-c : ReadForC
   pub refused-when : RefusedWhen
   pub refused-zero : RefusedZero
   pub refused-keeps-line : RefusedKeepsLine
@@ -105,6 +108,8 @@ pub record Promises : Type 0 where
   -- texts read
   pub text-reads : scanner.TextReads
   pub fit-sound : scanner.FitSound
+  pub one-longest : beginnings.OneLongest
+  pub longest-of-either : beginnings.LongestOfEither
   pub stop-longest : scanner.StopLongest
   pub shape-ascii : scanner.ShapeAscii
   pub fields-stand : scanner.FieldsStand
@@ -203,3 +208,4 @@ pub record Promises : Type 0 where
   pub only-understood : asking.OnlyUnderstood
   pub shown-line : showing.ShownLine
   pub written-line : showing.WrittenLine
+  pub text-refused-shown : showing.TextRefusedShown

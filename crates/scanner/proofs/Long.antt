@@ -14,7 +14,7 @@ use Rattle.scanner.specs.declared.fields.Dividers.{Dividers}
 use Rattle.scanner.specs.declared.fields.LongField.{LongField}
 use Rattle.scanner.specs.declared.fields.LongField.the-variants.{Nowhere, At}
 use Rattle.scanner.specs.declared.text.Grammar.{Grammar}
-use Rattle.scanner.specs.Long.{isOver, isLong, fieldsLong, ShortField, PlacedField, placed, placedTail, firstLong, longField, orLong}
+use Rattle.scanner.specs.Long.{isOver, isLong, fieldsLong, ShortField, PlacedField, placed, placedTail, firstLong, orLong}
 use Rattle.scanner.specs.Shapes.{FieldsShape, last, more, TextParts, someLong, fieldsOf, AllShort, FirstLong}
 
 -- neither of two holds, if not one of them does

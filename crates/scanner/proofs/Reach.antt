@@ -12,7 +12,7 @@ use lib.Seq.{take-append-seam, drop-append-seam, take-append-add, drop-append-ad
 use borrow.Author.Tests.{le-leb, lt-leb, leb-true, leb-false, eqb-true}
 use Rattle.digits.specs.Digits.{isByte, isDigit, allDigits, IsField, firstIs, digitFirst, span, leading}
 use Rattle.digits.proofs.Values.{all-head, all-tail}
-use Rattle.digits.proofs.Runs.{span-cons, span-run, span-stops, span-within, leading-all, leading-rest, leading-length, leading-field}
+use Rattle.digits.proofs.Runs.{span-cons, span-run, span-stops, span-within, leading-rest, leading-field}
 use Rattle.scanner.specs.declared.fields.Dividers.{Dividers}
 use Rattle.scanner.specs.declared.fields.Dividers.the-variants.{Colon, ColonOrSemicolon, Plus}
 use Rattle.scanner.specs.Scan.{dividerOf, lookedFor}

@@ -16,7 +16,7 @@ use Rattle.scanner.specs.declared.text.Grammar.{Grammar}
 use Rattle.scanner.specs.Scan.{lookedFor, noTail, tailAfter, tailOf, signBy, signOf}
 use Rattle.scanner.specs.Then.{byteBy, byteThen}
 use Rattle.scanner.specs.Fields.{fieldsIn, fieldsFound}
-use Rattle.scanner.specs.Shapes.{BodyShape, TextParts, textParts, withMinus, TextShape, OfGrammar, Possible}
+use Rattle.scanner.specs.Shapes.{BodyShape, textParts, withMinus, OfGrammar, Possible}
 use Rattle.scanner.proofs.Bodies.{bodyStop}
 use Rattle.scanner.proofs.Signed.{body-begins, textStop}
 use Rattle.scanner.proofs.Reach.{tailReach, reach, reach-within, reach-most, complete}

@@ -39,11 +39,11 @@ abbrev pub StopLongest : Type 0
 StopLongest =
     (g : Grammar) (l : List ℕ) (stop : ℕ) → Possible g → textScan g l .fit ≡ NoShape stop → LongestBeginning (OfGrammar g) l stop
 
--- a text of the shape is ASCII, and so are the bytes that make a beginning one
+-- a text of the shape is ASCII, and so, being a part of it, is what stands behind a beginning to make it one
 abbrev pub ShapeAscii : Type 0
 ShapeAscii = (g : Grammar) (l : List ℕ) (p : TextParts) → TextShape g l p → Ascii l
 
--- the places of a text's fields are where these stand in it
+-- at the place of each of a text's fields its digits stand
 abbrev pub FieldsStand : Type 0
 FieldsStand = (g : Grammar) (l : List ℕ) (p : TextParts) → TextShape g l p → Standing l (fieldsOf g p)
 

@@ -16,7 +16,7 @@ use Rattle.asking.specs.Table.{spelt}
 use Rattle.showing.specs.declared.Shown.{Shown}
 use Rattle.showing.specs.Shown.{countText, wordText, helpText, saidText, secondText, partsText, shownText, lengthText, writtenText, wordOn, saidOn, secondOn, firstOn, partsOn, shownOn, lengthOn, writtenOn}
 use Rattle.showing.specs.Each.{ofRefusal}
-use Rattle.showing.specs.Statements.{ShownLine, WrittenLine}
+use Rattle.showing.specs.Statements.{ShownLine, WrittenLine, TextRefusedShown}
 
 -- ---- texts one behind the other
 laid-none : (s : Sheet) → Laid s s []
@@ -117,3 +117,8 @@ written-line s w line h =
     let same : (t ++ (32 ∷ line)) ++ (10 ∷ []) ≡ t ++ (32 ∷ line ++ (10 ∷ [])) = append-assoc t (32 ∷ line) (10 ∷ []) in
     let laid = laid-put s (putOn (putOn (lengthOn s w) (32 ∷ [])) line) (t ++ (32 ∷ line)) (10 ∷ []) two (omega (arith, h, ap length same)) in
     laid .is ∙ ap (λ z. textOn s ++ z) same
+
+-- ---- a text that is refused
+pub text-refused-shown : TextRefusedShown
+unfolding wordText partsText shownText
+text-refused-shown e = refl
