@@ -8,7 +8,9 @@ pub mod Keeping
 pub mod Bodies
 pub mod Signed
 pub mod OneShape
+pub mod Past
 pub mod Reach
+pub mod Completed
 pub mod Stops
 pub mod Standing
 pub mod Ascii

@@ -19,7 +19,8 @@ use Rattle.scanner.specs.Fields.{fieldsIn, fieldsFound}
 use Rattle.scanner.specs.Shapes.{BodyShape, textParts, withMinus, OfGrammar, Possible}
 use Rattle.scanner.proofs.Bodies.{bodyStop}
 use Rattle.scanner.proofs.Signed.{body-begins, textStop}
-use Rattle.scanner.proofs.Reach.{tailReach, reach, reach-within, reach-most, complete}
+use Rattle.scanner.proofs.Reach.{tailReach, reach, reach-within, reach-most}
+use Rattle.scanner.proofs.Completed.{complete}
 
 -- ---- where it stops is how far it reaches
 tail-stop : (most a : ℕ) (l : List ℕ) → tailOf most a l .next .at ≡ a + tailReach most l
