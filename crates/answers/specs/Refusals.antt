@@ -50,6 +50,22 @@ zeroDivisor = refusal 7
 abbrev pub noRoom : Refusal
 noRoom = refusal 8
 
+-- 9: a record of a shot list has no such kind
+abbrev pub noSuchKind : Refusal
+noSuchKind = refusal 9
+
+-- 10: the body of a record of a shot list is cut short
+abbrev pub cutShort : Refusal
+cutShort = refusal 10
+
+-- 11: a shot before any rate
+abbrev pub noRateYet : Refusal
+noRateYet = refusal 11
+
+-- 12: a shot's end before its first frame
+abbrev pub endBeforeFirst : Refusal
+endBeforeFirst = refusal 12
+
 -- counts from -400,000,000 to 400,000,000
 abbrev pub mostCount : ℕ
 mostCount = 400000000

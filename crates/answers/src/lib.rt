@@ -59,6 +59,30 @@ pub const NO_ROOM: Refusal = Refusal {
     place: 0,
 };
 
+// A record of a shot list has no such kind.
+pub const NO_SUCH_KIND: Refusal = Refusal {
+    number: 9,
+    place: 0,
+};
+
+// The body of a record of a shot list is cut short.
+pub const CUT_SHORT: Refusal = Refusal {
+    number: 10,
+    place: 0,
+};
+
+// A shot before any rate.
+pub const NO_RATE_YET: Refusal = Refusal {
+    number: 11,
+    place: 0,
+};
+
+// A shot's end before its first frame.
+pub const END_BEFORE_FIRST: Refusal = Refusal {
+    number: 12,
+    place: 0,
+};
+
 // The refusal with the place that a scanner says.
 pub fn at_place(e: Refusal, place: usize) -> Refusal
     ensures answer { λ r. ⌜ r ≡ atPlace e place ⌝ }

@@ -1,27 +1,19 @@
--- The loop of `rates`: what is wanted from here is what is wanted from the start; and a number as one from 0 on.
+-- The loop of `rates`: what is wanted from here is what is wanted from the start.
 -- Assumes nothing.
 use Prim.Native.Nat.{ℕ, zero, suc, _+_, _-_, _≤_, _<_}
 use mathlib.Core.Path.{_≡_, refl, sym, ap, _∙_}
 use mathlib.Core.List.{List}
-use mathlib.Core.Bool.{true, false}
 use native.Mathlib.Omega.{arith}
 use lib.Dec.{leb}
-use lib.IntN.{ℤ, pos, natAbs}
+use lib.IntN.{ℤ, pos}
 use lib.ListN.{length, drop, set, getD, length-set}
-use Rattle.numbers.specs.Sign.{isNeg}
+use Rattle.numbers.specs.Sign.{upFrom}
 use Rattle.asking.specs.declared.values.Word.the-variants.{Number, Nothing}
 use Rattle.asking.specs.declared.numbered.Listed.{Listed}
 use Rattle.asking.specs.Numbers.{numberAt}
-use Rattle.asking.specs.Numbered.{upFrom, numbersOf, listing, listFrom}
+use Rattle.asking.specs.Numbered.{numbersOf, listing, listFrom}
 
--- ---- a number as one from 0 on
-pub up-below : (z : ℤ) → isNeg z ≡ true → 18446744073709551615 ≡ upFrom z
-up-below z e = rw e
-
-pub up-not : (z : ℤ) (m : ℕ) → isNeg z ≡ false → m ≡ natAbs z → m ≡ upFrom z
-up-not z m e f = f ∙ rw e
-
--- ---- n numbers were put into the list
+-- n numbers were put into the list
 pub record Lists (line : List ℕ) (from : ℕ) (list₀ list : List ℕ) (at n : ℕ) : Type 0 where
   pub k : ℕ
   pub left : n + k ≡ length list₀

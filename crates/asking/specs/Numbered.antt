@@ -2,20 +2,15 @@
 -- Assumes nothing.
 use Prim.Native.Nat.{ℕ, zero, suc, _+_}
 use mathlib.Core.List.{List}
-use mathlib.Core.Bool.{cond}
 use lib.Dec.{leb}
-use lib.IntN.{ℤ, pos, natAbs}
+use lib.IntN.{ℤ, pos}
 use lib.ListN.{length, drop, set, getD}
-use Rattle.numbers.specs.Sign.{isNeg}
+use Rattle.numbers.specs.Sign.{upFrom}
 use Rattle.asking.specs.declared.values.Word.{Word}
 use Rattle.asking.specs.declared.values.Word.the-variants.{Number, Nothing}
 use Rattle.asking.specs.declared.numbered.Numbers.{Numbers}
 use Rattle.asking.specs.declared.numbered.Listed.{Listed}
 use Rattle.asking.specs.Numbers.{numberAt}
-
--- where only numbers from 0 on have a meaning, a negative one is taken as 2^64 - 1, which no bound allows
-abbrev pub upFrom : ℤ → ℕ
-upFrom z = cond (isNeg z) 18446744073709551615 (natAbs z)
 
 -- each of the five as it is given, or so
 abbrev pub numbersOf : List ℤ → Numbers

@@ -1,7 +1,7 @@
 // A command's numbers as the operations take them.
 ghost use mathlib.Core.Path.{_≡_};
 ghost use lib.ListN.{length};
-ghost use Rattle.asking.specs.Numbered.{upFrom, numbersOf, listFrom};
+ghost use Rattle.asking.specs.Numbered.{numbersOf, listFrom};
 use crate::values;
 use crate::values::Word;
 
@@ -23,29 +23,19 @@ pub struct Listed {
     pub count: usize,
 }
 
-// A number where only those from 0 on have a meaning: a negative one becomes a number that no bound allows.
-fn up_from(x: i64) -> u64
-    ensures answer { λ r. ⌜ r ≡ upFrom x ⌝ }
-{
-    if numbers::below_zero(x) {
-        return u64::MAX;
-    }
-    numbers::magnitude(x)
-}
-
 // The five numbers of what is asked.
 pub fn numbers_of(v: [i64; 5]) -> Numbers
     ensures answer { λ r. ⌜ r ≡ numbersOf v ⌝ }
 {
     Numbers {
-        up1: up_from(v[0]),
+        up1: numbers::up_from(v[0]),
         n2: v[1],
-        up2: up_from(v[1]),
+        up2: numbers::up_from(v[1]),
         n3: v[2],
-        up3: up_from(v[2]),
+        up3: numbers::up_from(v[2]),
         n4: v[3],
-        up4: up_from(v[3]),
-        up5: up_from(v[4]),
+        up4: numbers::up_from(v[3]),
+        up5: numbers::up_from(v[4]),
     }
 }
 
@@ -64,7 +54,7 @@ pub fn rates(line: &[u8], from: usize, list: &mut [u64]) -> Listed
                 count: n,
             };
         };
-        list[n] = up_from(z);
+        list[n] = numbers::up_from(z);
         at = next;
         n += 1;
     }

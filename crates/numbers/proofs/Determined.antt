@@ -7,6 +7,8 @@ use Rattle.numbers.proofs.below_zero as below-zero
 use Rattle.numbers.proofs.below_zero.Reads as below-zero-reads
 use Rattle.numbers.proofs.magnitude as magnitude
 use Rattle.numbers.proofs.magnitude.Reads as magnitude-reads
+use Rattle.numbers.proofs.up_from as up-from
+use Rattle.numbers.proofs.up_from.Reads as up-from-reads
 use Rattle.numbers.proofs.with_sign as with-sign
 use Rattle.numbers.proofs.with_sign.Reads as with-sign-reads
 use Rattle.numbers.proofs.sum as sum
@@ -31,6 +33,9 @@ below-zero-determined κs a asked x y p q = ap (λ z. (z, x .1)) (p ∙ sym q)
 
 pub magnitude-determined : Determined magnitude.ended magnitude-reads.Asked magnitude-reads.Learnt
 magnitude-determined κs a asked x y p q = ap (λ z. (z, x .1)) (p ∙ sym q)
+
+pub up-from-determined : Determined up-from.ended up-from-reads.Asked up-from-reads.Learnt
+up-from-determined κs a asked x y p q = ap (λ z. (z, x .1)) (p ∙ sym q)
 
 pub with-sign-determined : Determined with-sign.ended with-sign-reads.Asked with-sign-reads.Learnt
 with-sign-determined κs a asked x y p q = ap (λ z. (z, x .1)) (p ∙ sym q)

@@ -6,7 +6,7 @@ use Prim.Native.Nat.{ℕ, zero, suc, _*_, _<_}
 use native.Mathlib.Nat.{zero-mul}
 use native.Mathlib.Omega.{arith}
 use lib.IntN.{ℤ, pos, negsuc, negℤ, natAbs, _*ℤ_, negℤ-negℤ}
-use Rattle.numbers.specs.Sign.{isNeg, signed}
+use Rattle.numbers.specs.Sign.{isNeg, signed, upFrom}
 
 pub abs-neg : (z : ℤ) → natAbs (negℤ z) ≡ natAbs z
 abs-neg (pos zero) = refl
@@ -31,3 +31,10 @@ pub neg-mul : (z : ℤ) (n : ℕ) → negℤ z *ℤ pos n ≡ negℤ (z *ℤ pos
 neg-mul (pos zero) n = ap pos (zero-mul n) ∙ sym (ap (λ (m : ℕ). negℤ (pos m)) (zero-mul n))
 neg-mul (pos (suc m)) n = refl
 neg-mul (negsuc m) n = sym (negℤ-negℤ (pos (suc m * n)))
+
+-- ---- a number as one from 0 on
+pub up-below : (z : ℤ) → isNeg z ≡ true → 18446744073709551615 ≡ upFrom z
+up-below z e = rw e
+
+pub up-not : (z : ℤ) (m : ℕ) → isNeg z ≡ false → m ≡ natAbs z → m ≡ upFrom z
+up-not z m e f = f ∙ rw e

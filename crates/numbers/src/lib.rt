@@ -4,7 +4,7 @@ ghost use mathlib.Core.Path.{_≡_};
 ghost use Prim.Native.Nat.{_+_, _*_};
 ghost use lib.IntN.{natAbs, _+ℤ_, _-ℤ_, _*ℤ_};
 ghost use lib.Signed.{quotZ, remZ};
-ghost use Rattle.numbers.specs.Sign.{isNeg, signed};
+ghost use Rattle.numbers.specs.Sign.{isNeg, signed, upFrom};
 ghost use Rattle.numbers.specs.Nearest.{nearestN};
 ghost use Rattle.numbers.specs.Floor.{floorZ};
 ghost use Rattle.numbers.specs.Total.{fitted, divided, LowestOr};
@@ -30,6 +30,16 @@ pub fn magnitude(x: i64) -> u64
     } else {
         x as u64
     }
+}
+
+// A number where only those from 0 on have a meaning: a negative one becomes a number that no bound allows.
+pub fn up_from(x: i64) -> u64
+    ensures answer { λ r. ⌜ r ≡ upFrom x ⌝ }
+{
+    if below_zero(x) {
+        return u64::MAX;
+    }
+    magnitude(x)
 }
 
 // The number with this sign and magnitude; 0 where the magnitude is 2 ^ 63 or more.

@@ -6,7 +6,7 @@ use lib.ListN.{getD}
 use borrow.Author.Needs.{needs}
 use mir.Syntax.{w64}
 use mir.Val.{toZ, ofZ}
-use Rattle.asking.specs.Numbered.{upFrom}
+use Rattle.numbers.specs.Sign.{upFrom}
 use Rattle.asking.proofs.Listing.{numbers-are}
 use Rattle.asking.proofs.numbered.numbers_of.Statement.{statement}
 use Rattle.asking.proofs.numbered.numbers_of.Tie as tie

@@ -7,7 +7,7 @@ use lib.ListN.{length, length-set}
 use borrow.Author.Needs.{needs}
 use mir.Syntax.{w64}
 use mir.Val.{toZ, ofZ}
-use Rattle.asking.specs.Numbered.{upFrom}
+use Rattle.numbers.specs.Sign.{upFrom}
 use Rattle.asking.proofs.Listing.{Lists, lists-start, lists-other, lists-full, lists-turn}
 use Rattle.asking.proofs.numbered.rates.Statement.{statement}
 use Rattle.asking.proofs.numbered.rates.Tie as tie

@@ -1,13 +1,13 @@
--- `asking::numbered::up_from` meets its contract: sign and magnitude are the number's.
+-- `numbers::up_from` meets its contract: sign and magnitude are the number's.
 -- Assumes nothing.
 use mathlib.Core.Path.{sym, ap, _∙_}
 use lib.IntN.{natAbs}
 use borrow.Author.Needs.{needs}
 use mir.Facts.{toZ-ofZ}
 use Rattle.numbers.specs.Sign.{isNeg}
-use Rattle.asking.proofs.Listing.{up-below, up-not}
-use Rattle.asking.proofs.numbered.up_from.Statement.{statement}
-use Rattle.asking.proofs.numbered.up_from.Tie as tie
+use Rattle.numbers.specs.SignLaws.{up-below, up-not}
+use Rattle.numbers.proofs.up_from.Statement.{statement}
+use Rattle.numbers.proofs.up_from.Tie as tie
 
 returns : tie.Need-returns
 returns c = up-below (c .before .before .args .x) (sym (ap isNeg (toZ-ofZ (c .before .before .fits .x))) ∙ sym (c .before .below-zero .ensures) ∙ c .if1 .taken)

@@ -1,0 +1,4 @@
+pub mod Summing
+pub mod Laying
+pub mod Statements
+pub mod Determined

@@ -1,0 +1,7 @@
+pub mod Records
+pub mod Grammar
+pub mod Format
+pub mod Reading
+pub mod Laws
+pub mod Walk
+pub mod Statements

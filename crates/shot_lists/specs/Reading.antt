@@ -1,0 +1,47 @@
+-- A whole list (BEHAVIOUR: Shot lists): its records in order, or the refusal of the earliest record at fault.
+-- Assumes nothing.
+use Prim.Native.Nat.{ℕ, zero, suc, _-_}
+use mathlib.Core.List.{List, [], _∷_}
+use lib.ListN.{length}
+use Rattle.answers.specs.declared.Refusal.{Refusal}
+use Rattle.shot_lists.specs.declared.records.Record.{Record}
+use Rattle.shot_lists.specs.declared.records.Entry.{Entry}
+use Rattle.shot_lists.specs.declared.records.Entry.the-variants as entry
+use Rattle.shot_lists.specs.declared.disk.Checked.{Checked}
+use Rattle.shot_lists.specs.declared.disk.Checked.the-variants as checked
+use Rattle.shot_lists.specs.Format.{Format, entryOf}
+
+-- what a list gives
+pub data Reading : Type 0 where
+  AllOf : List Record → Reading
+  FaultOf : Refusal → Reading
+
+abbrev pub andThen : Record → Reading → Reading
+andThen r (AllOf rs) = AllOf (r ∷ rs)
+andThen r (FaultOf e) = FaultOf e
+
+abbrev pub onward : Entry → (ℕ → ℕ → Reading) → Reading
+onward (entry.Taken r held size) later = andThen r (later held size)
+onward (entry.Refused e) later = FaultOf e
+onward entry.End later = AllOf []
+
+-- the record at the front, and the records behind it; `skip` elements that belong to the record before are passed over
+unfoldable pub readFrom : {A : Type 0} → Format A → (skip held : ℕ) → List A → Reading
+readFrom f skip held [] = AllOf []
+readFrom f (suc skip) held (x ∷ l) = readFrom f skip held l
+readFrom f zero held (x ∷ l) = onward (entryOf f held (x ∷ l)) (λ after size. readFrom f (size - 1) after l)
+
+-- from the first element on; no rate is held yet
+abbrev pub readOf : {A : Type 0} → Format A → List A → Reading
+readOf f l = readFrom f 0 0 l
+
+-- how many records, or the refusal
+abbrev pub checkedOf : Reading → Checked
+checkedOf (AllOf rs) = checked.Records (length rs)
+checkedOf (FaultOf e) = checked.Refused e
+
+-- the number of an entry's refusal; 0: not refused
+abbrev pub numberIn : Entry → ℕ
+numberIn (entry.Taken r held size) = 0
+numberIn (entry.Refused e) = e .number
+numberIn entry.End = 0

@@ -1,0 +1,36 @@
+-- What holds of writing a shot list (BEHAVIOUR: Shot lists), for lists of any length: what is written is in the format, what is written and read again has the
+-- same records, what is read and written again has the same bytes. Proofs: proofs/Statements.antt.
+-- Assumes nothing.
+use Prim.Native.Nat.{ℕ}
+use mathlib.Core.Path.{_≡_}
+use mathlib.Core.List.{List}
+use lib.ListN.{take, drop}
+use lib.IntN.{ℤ}
+use Rattle.low_bytes.specs.LowBytes.{Bytes}
+use Rattle.written.specs.declared.Written.the-variants.{Length}
+use Rattle.written.specs.Written.{Text, answerTo, lineTo}
+use Rattle.shot_lists.specs.declared.records.Record.{Record}
+use Rattle.shot_lists.specs.Records.{Sound}
+use Rattle.shot_lists.specs.Grammar.{OnDisk}
+use Rattle.shot_lists.specs.Format.{onDisk, handed}
+use Rattle.shot_lists.specs.Reading.{AllOf, readOf}
+use Rattle.shot_writer.specs.ListText.{listBytes, listDraft, listNumbers}
+
+-- every list that nothing speaks against can be handed over
+abbrev pub HandedOver : Type 0
+HandedOver = (rs : List Record) → Sound 0 rs → readOf handed (listNumbers rs) ≡ AllOf rs
+
+-- its bytes are those of the format
+abbrev pub BytesOnDisk : Type 0
+BytesOnDisk = (rs : List Record) → Sound 0 rs → OnDisk rs (listBytes rs)
+
+-- what is written and read again has the same records: the bytes that now stand in the line are read as what was handed over
+abbrev pub WrittenThenRead : Type 0
+WrittenThenRead =
+    (given : List ℤ) (line : List ℕ) (place n : ℕ) → answerTo line place (listDraft given) ≡ Length n
+    → readOf onDisk (take n (drop place (lineTo line place (listDraft given)))) ≡ readOf handed given
+
+-- what is read and written again has the same bytes
+abbrev pub ReadThenWritten : Type 0
+ReadThenWritten =
+    (l : List ℕ) (rs : List Record) → Bytes l → readOf onDisk l ≡ AllOf rs → listDraft (listNumbers rs) ≡ Text l
