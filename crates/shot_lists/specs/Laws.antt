@@ -27,6 +27,9 @@ taken-apart r held size e h = let clash : _≡_ {A = ℕ} 0 1 = cc in omega arit
 pub end-apart : (r : Record) (held size : ℕ) → End ≡ Taken r held size → ⊥
 end-apart r held size h = let clash : _≡_ {A = ℕ} 0 1 = cc in omega arith
 
+pub refused-apart : (e : Refusal) → Refused e ≡ End → ⊥
+refused-apart e h = let clash : _≡_ {A = ℕ} 0 1 = cc in omega arith
+
 -- elements that stand for a record, whatever comes behind them
 pub record Spells {A : Type 0} (f : Format A) (r : Record) (l : List A) : Type 0 where
   pub head : A
@@ -42,6 +45,16 @@ module _ {A : Type 0} (f : Format A) (held : ℕ) where
   pub entry-end : (l : List A) (at : ℕ) → length l ≤ at → entryOf f held (drop at l) ≡ End
   unfolding entryOf
   entry-end l at h = rw (drop-of-length-le l h)
+
+  -- and only at the end there is no record
+  pub end-only : (l : List A) → entryOf f held l ≡ End → l ≡ []
+  unfolding entryOf
+  end-only [] h = refl
+  end-only (x ∷ l) h =
+      let m = f .made (f .kind x) l in
+      let answer = Taken m (heldAfter held m) (suc (f .body (f .kind x))) in
+      let told = unless-told Refused (against f held x l) answer End (λ e p. refused-apart e p) h in
+      absurd (end-apart m (heldAfter held m) (suc (f .body (f .kind x))) (sym (told .1)))
 
   module _ (l : List A) (at : ℕ) (d : A) (inside : at < length l) where
     here : drop at l ≡ getD l at d ∷ drop (at + 1) l

@@ -39,11 +39,11 @@ RefusedExactly = (l : List ℕ) (e : Refusal) → Bytes l → (readOf onDisk l �
 
 -- a record is refused what speaks against it first: 9, 10, 6 and 5 on its numbers, 11, 12; in every format
 abbrev pub EntryWhen : Type 1
-EntryWhen = {A : Type 0} (f : Format A) (held : ℕ) (x : A) (l : List A) → numberIn (entryOf f held (x ∷ l)) ≡ first (against f held x l)
+EntryWhen = (A : Type 0) (f : Format A) (held : ℕ) (x : A) (l : List A) → numberIn (entryOf f held (x ∷ l)) ≡ first (against f held x l)
 
 -- the reader never gives 8
 abbrev pub NeverEight : Type 1
-NeverEight = {A : Type 0} (f : Format A) (l : List A) (e : Refusal) → readOf f l ≡ FaultOf e → e .number ≡ 8 → ⊥
+NeverEight = (A : Type 0) (f : Format A) (l : List A) (e : Refusal) → readOf f l ≡ FaultOf e → e .number ≡ 8 → ⊥
 
 -- no bytes are two lists
 abbrev pub OneList : Type 0

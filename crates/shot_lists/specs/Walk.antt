@@ -14,7 +14,7 @@ use Rattle.shot_lists.specs.declared.records.Entry.the-variants.{Taken, 
 use Rattle.shot_lists.specs.Records.{heldAfter, faults}
 use Rattle.shot_lists.specs.Format.{Format, entryOf}
 use Rattle.shot_lists.specs.Reading.{Reading, AllOf, FaultOf, andThen, readFrom, readOf}
-use Rattle.shot_lists.specs.Laws.{taken-size, end-apart, Spells, entry-spelled}
+use Rattle.shot_lists.specs.Laws.{taken-size, end-apart, end-only, Spells, entry-spelled}
 
 module _ {A : Type 0} (f : Format A) where
   pub read-skip : (skip held : ℕ) (l : List A) → readFrom f skip held l ≡ readFrom f 0 held (drop skip l)
@@ -76,6 +76,12 @@ module _ {A : Type 0} (f : Format A) where
   pub stop : {B : Type 0} (l : List A) (want : B) (rest : Reading → B) (at held : ℕ) (e : Refusal)
       → Going l want rest at held → entryOf f held (drop at l) ≡ Refused e → want ≡ rest (FaultOf e)
   stop l want rest at held e g h = g .same ∙ ap rest (read-refused held (drop at l) e h)
+
+  -- no record is left
+  pub over : {B : Type 0} (l : List A) (want : B) (rest : Reading → B) (at held : ℕ)
+      → Going l want rest at held → entryOf f held (drop at l) ≡ End → want ≡ rest (AllOf [])
+  over l want rest at held g h =
+      g .same ∙ ap (λ (k : List A). rest (readFrom f 0 held k)) (end-only f held (drop at l) h) ∙ ap rest (read-end 0 held)
 
   pub done : {B : Type 0} (l : List A) (want : B) (rest : Reading → B) (at held : ℕ) → Going l want rest at held → length l ≤ at → want ≡ rest (AllOf [])
   done l want rest at held g h =

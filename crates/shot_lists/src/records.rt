@@ -30,12 +30,16 @@ pub enum Entry {
 pub(crate) fn body_fixed(kind: u64, rate: usize, shot: usize, reel: usize) -> usize
     ensures answer { λ r. ⌜ r ≡ bodyFixed rate shot reel kind ⌝ }
 {
-    match kind {
-        1 => rate,
-        2 => shot,
-        3 => reel,
-        _ => 0,
+    if kind == 1 {
+        return rate;
     }
+    if kind == 2 {
+        return shot;
+    }
+    if kind == 3 {
+        return reel;
+    }
+    0
 }
 
 // Refuses 6: no such rate.
