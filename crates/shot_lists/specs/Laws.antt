@@ -83,30 +83,23 @@ module _ {A : Type 0} (f : Format A) (held : ℕ) where
 
   -- ---- what a record that was taken tells
 
-  pub record TakenAt (l : List A) (r : Record) (after size : ℕ) : Type 0 where
-    pub head : A
-    pub tail : List A
-    pub is : l ≡ head ∷ tail
-    pub known : f .body (f .kind head) ≡ 0 → ⊥
-    pub whole : f .body (f .kind head) ≤ length tail
-    pub made : f .made (f .kind head) tail ≡ r
+  pub record TakenAt (x : A) (l : List A) (r : Record) (after size : ℕ) : Type 0 where
+    pub known : f .body (f .kind x) ≡ 0 → ⊥
+    pub whole : f .body (f .kind x) ≤ length l
+    pub made : f .made (f .kind x) l ≡ r
     pub sound : Clear (faults held r)
     pub next : after ≡ heldAfter held r
-    pub long : size ≡ suc (f .body (f .kind head))
+    pub long : size ≡ suc (f .body (f .kind x))
 
-  pub taken-told : (l : List A) (r : Record) (after size : ℕ) → entryOf f held l ≡ Taken r after size → TakenAt l r after size
+  pub taken-told : (x : A) (l : List A) (r : Record) (after size : ℕ) → entryOf f held (x ∷ l) ≡ Taken r after size → TakenAt x l r after size
   unfolding entryOf
-  taken-told [] r after size h = absurd (end-apart r after size h)
-  taken-told (x ∷ l) r after size h =
+  taken-told x l r after size h =
       let m = f .made (f .kind x) l in
       let answer = Taken m (heldAfter held m) (suc (f .body (f .kind x))) in
       let told = unless-told Refused (against f held x l) answer (Taken r after size) (taken-apart r after size) h in
       let same : answer ≡ Taken r after size = told .1 in
       let found : m ≡ r = cc in
       record {
-        head = x;
-        tail = l;
-        is = refl;
         known = eqb-false (f .body (f .kind x)) 0 (told .0 .0);
         whole = ltb-false (length l) (f .body (f .kind x)) (told .0 .1 .0);
         made = found;
@@ -116,9 +109,11 @@ module _ {A : Type 0} (f : Format A) (held : ℕ) where
       }
 
   pub taken-size : (l : List A) (r : Record) (after size : ℕ) → entryOf f held l ≡ Taken r after size → (0 < size) × (size ≤ length l)
-  taken-size l r after size h =
-      let t = taken-told l r after size h in
-      (omega (arith, t .long), omega (arith, t .long, t .whole, ap length (t .is)))
+  unfolding entryOf
+  taken-size [] r after size h = absurd (end-apart r after size h)
+  taken-size (x ∷ l) r after size h =
+      let t = taken-told x l r after size h in
+      (omega (arith, t .long), omega (arith, t .long, t .whole))
 
   -- ---- what stands for a record is taken as that record
 

@@ -24,18 +24,18 @@ abbrev pub ReadExactly : Type 0
 ReadExactly = (l : List ℕ) (rs : List Record) → Bytes l → (readOf onDisk l ≡ AllOf rs) ↔ (OnDisk rs l × Sound 0 rs)
 
 -- the earliest record at fault: records that nothing speaks against stand before it, and this is the refusal of the record there
-pub record Earliest (l : List ℕ) (e : Refusal) : Type 0 where
+pub record Earliest (held : ℕ) (l : List ℕ) (e : Refusal) : Type 0 where
   pub before : List Record
   pub front : List ℕ
   pub rest : List ℕ
   pub parts : l ≡ front ++ rest
   pub good : OnDisk before front
-  pub sound : Sound 0 before
-  pub fault : entryOf onDisk (heldBehind 0 before) rest ≡ Refused e
+  pub sound : Sound held before
+  pub fault : entryOf onDisk (heldBehind held before) rest ≡ Refused e
 
 -- a list is refused exactly what its earliest record at fault is refused
 abbrev pub RefusedExactly : Type 0
-RefusedExactly = (l : List ℕ) (e : Refusal) → Bytes l → (readOf onDisk l ≡ FaultOf e) ↔ Earliest l e
+RefusedExactly = (l : List ℕ) (e : Refusal) → Bytes l → (readOf onDisk l ≡ FaultOf e) ↔ Earliest 0 l e
 
 -- a record is refused what speaks against it first: 9, 10, 6 and 5 on its numbers, 11, 12; in every format
 abbrev pub EntryWhen : Type 1

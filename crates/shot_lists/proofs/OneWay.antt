@@ -1,0 +1,70 @@
+-- No bytes are two lists, and no list has two forms: record by record, from the front.
+-- Assumes nothing.
+use Prim.Native.Nat.{ℕ, suc}
+use mathlib.Core.Path.{_≡_, refl, sym, ap, ap₂, _∙_, subst}
+use mathlib.Core.List.{List, [], _∷_, _++_}
+use native.Mathlib.Omega.{arith}
+use lib.ListN.{length, drop}
+use lib.Seq.{drop-at}
+use Rattle.shot_lists.specs.declared.records.Record.{Record}
+use Rattle.shot_lists.specs.Grammar.{kindOf, BodyOf, OnDisk, none, more}
+use Rattle.shot_lists.specs.Format.{onDisk}
+use Rattle.shot_lists.specs.Statements.{OneList, OneBytes}
+use Rattle.shot_lists.proofs.Bodies.{kind-fixes, made-back, body-one}
+
+head-same : (a b : ℕ) (l m : List ℕ) → a ∷ l ≡ b ∷ m → a ≡ b
+head-same a b l m e = cc
+
+tail-same : (a b : ℕ) (l m : List ℕ) → a ∷ l ≡ b ∷ m → l ≡ m
+tail-same a b l m e = cc
+
+-- two records with what stands behind them: the same bytes are the same record, and the same behind it
+module _ (r s : Record) (b c l m : List ℕ) (of : BodyOf r b) (os : BodyOf s c) (e : kindOf r ∷ (b ++ l) ≡ kindOf s ∷ (c ++ m)) where
+  kinds : kindOf r ≡ kindOf s
+  kinds = head-same (kindOf r) (kindOf s) (b ++ l) (c ++ m) e
+
+  tails : b ++ l ≡ c ++ m
+  tails = tail-same (kindOf r) (kindOf s) (b ++ l) (c ++ m) e
+
+  same-record : r ≡ s
+  same-record =
+      sym (made-back r b of l)
+      ∙ ap₂ (λ (k : ℕ) (t : List ℕ). onDisk .made k t) kinds tails
+      ∙ made-back s c os m
+
+  same-behind : l ≡ m
+  same-behind =
+      let long : length b ≡ length c = kind-fixes r b of ∙ ap (onDisk .body) kinds ∙ sym (kind-fixes s c os) in
+      sym (drop-at b l (length b) refl)
+      ∙ ap (drop (length b)) tails
+      ∙ ap (λ (n : ℕ). drop n (c ++ m)) long
+      ∙ drop-at c m (length c) refl
+
+two-lists : (rs ss : List Record) (l m : List ℕ) → OnDisk rs l → OnDisk ss m → l ≡ m → rs ≡ ss
+two-lists rs ss l m none none e = refl
+two-lists rs ss l m none (more s c ss₂ behind os later) e = let z : _≡_ {A = ℕ} 0 1 = cc in absurd (omega arith)
+two-lists rs ss l m (more r b rs₂ behind of later) none e = let z : _≡_ {A = ℕ} 0 1 = cc in absurd (omega arith)
+two-lists rs ss l m (more r b rs₂ behind of later) (more s c ss₂ behind₂ os later₂) e =
+    ap₂ _∷_ (same-record r s b c behind behind₂ of os e)
+    (two-lists rs₂ ss₂ behind behind₂ later later₂ (same-behind r s b c behind behind₂ of os e))
+
+pub one-list : OneList
+one-list l rs ss p q = two-lists rs ss l l p q refl
+
+record-same : (r s : Record) (rs ss : List Record) → r ∷ rs ≡ s ∷ ss → r ≡ s
+record-same r s rs ss e = cc
+
+records-same : (r s : Record) (rs ss : List Record) → r ∷ rs ≡ s ∷ ss → rs ≡ ss
+records-same r s rs ss e = cc
+
+two-forms : (rs ss : List Record) (l m : List ℕ) → OnDisk rs l → OnDisk ss m → rs ≡ ss → l ≡ m
+two-forms rs ss l m none none e = refl
+two-forms rs ss l m none (more s c ss₂ behind os later) e = let z : _≡_ {A = ℕ} 0 1 = cc in absurd (omega arith)
+two-forms rs ss l m (more r b rs₂ behind of later) none e = let z : _≡_ {A = ℕ} 0 1 = cc in absurd (omega arith)
+two-forms rs ss l m (more r b rs₂ behind of later) (more s c ss₂ behind₂ os later₂) e =
+    let same = record-same r s rs₂ ss₂ e in
+    let body = body-one s b c (subst (λ (x : Record). BodyOf x b) same of) os in
+    ap₂ _∷_ (ap kindOf same) (ap₂ _++_ body (two-forms rs₂ ss₂ behind behind₂ later later₂ (records-same r s rs₂ ss₂ e)))
+
+pub one-bytes : OneBytes
+one-bytes rs l m p q = two-forms rs rs l m p q refl
