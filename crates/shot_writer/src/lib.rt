@@ -106,18 +106,24 @@ fn put_list(part: &mut [u8], given: &[i64])
     let mut held: u64 = 0;
     let mut to: usize = 0;
     while at < given.len() {
-        let Entry::Taken {
-            found,
-            held: after,
-            size,
-        } = shot_lists::given_at(given, at, held)
-        else {
-            return;
-        };
-        put_record(&mut part[to..], found);
-        to += record_length(found);
-        at += size;
-        held = after;
+        match shot_lists::given_at(given, at, held) {
+            Entry::Taken {
+                found,
+                held: after,
+                size,
+            } => {
+                put_record(&mut part[to..], found);
+                to += record_length(found);
+                at += size;
+                held = after;
+            }
+            Entry::Refused(_) => {
+                return;
+            }
+            Entry::End => {
+                return;
+            }
+        }
     }
 }
 

@@ -1,0 +1,4 @@
+pub mod Digits
+pub mod Hex
+pub mod Grammar
+pub mod Statements
