@@ -6,6 +6,8 @@ use Rattle.asking.proofs.numbered.numbers_of as numbers-of
 use Rattle.asking.proofs.numbered.numbers_of.Reads as numbers-of-reads
 use Rattle.asking.proofs.numbered.rates as rates
 use Rattle.asking.proofs.numbered.rates.Reads as rates-reads
+use Rattle.asking.proofs.recorded.records as records
+use Rattle.asking.proofs.recorded.records.Reads as records-reads
 use Rattle.asking.proofs.values.number as number
 use Rattle.asking.proofs.values.number.Reads as number-reads
 use Rattle.asking.proofs.words.understand as understand
@@ -22,4 +24,8 @@ numbers-of-determined κs a asked x y p q = ap (λ z. (z, x .1)) (p ∙ sym q)
 
 pub rates-determined : Determined rates.ended rates-reads.Asked rates-reads.Learnt
 rates-determined κs a asked x y p q =
+    ap (λ z. (z, x .1)) (p .0 ∙ sym (q .0)) ∙ ap (λ z. (y .0, (x .1 .0, (x .1 .1 .0, (z, x .1 .1 .1 .1))))) (p .1 ∙ sym (q .1))
+
+pub records-determined : Determined records.ended records-reads.Asked records-reads.Learnt
+records-determined κs a asked x y p q =
     ap (λ z. (z, x .1)) (p .0 ∙ sym (q .0)) ∙ ap (λ z. (y .0, (x .1 .0, (x .1 .1 .0, (z, x .1 .1 .1 .1))))) (p .1 ∙ sym (q .1))

@@ -6,7 +6,7 @@ use mathlib.Core.List.{List, [], _∷_, _++_}
 use native.Mathlib.Omega.{arith}
 use lib.ListN.{length, getD, length-append, List·getD-append}
 use lib.Seq.{getD-append-add}
-use Rattle.asking.specs.Table.{Row, row, rows, rowAt, filled, rowBytes, bytesIn, tableBytes, kindOf}
+use Rattle.asking.specs.Table.{Row, row, rows, rowCount, rowAt, filled, rowBytes, bytesIn, tableBytes, kindOf}
 
 filled-length : (n : ℕ) (l : List ℕ) → length (filled n l) ≡ n
 unfolding filled
@@ -40,7 +40,7 @@ bytes-at (r ∷ rs) (suc n) j h k =
     ∙ bytes-at rs n j (omega arith) k
 
 -- a byte of a row's word
-pub name-at : (n i : ℕ) → n < 25 → i < 16 → getD tableBytes (24 * n + i) 0 ≡ getD (rowAt n .name) i 32
+pub name-at : (n i : ℕ) → n < rowCount → i < 16 → getD tableBytes (24 * n + i) 0 ≡ getD (rowAt n .name) i 32
 unfolding tableBytes rows
 name-at n i h k =
     let r = rowAt n in
@@ -49,7 +49,7 @@ name-at n i h k =
     ∙ filled-at 16 (r .name) i k
 
 -- a letter of a row
-pub letter-at : (n k : ℕ) → n < 25 → k < 8 → getD tableBytes (24 * n + 16 + k) 0 ≡ kindOf n k
+pub letter-at : (n k : ℕ) → n < rowCount → k < 8 → getD tableBytes (24 * n + 16 + k) 0 ≡ kindOf n k
 unfolding tableBytes rows
 letter-at n k h l =
     let r = rowAt n in

@@ -3,6 +3,11 @@ pub mod Named
 pub mod Numbers
 pub mod Taken
 pub mod Listing
+pub mod RecordSteps
+pub mod Recording
+pub mod RecordTexts
+pub mod Placed
+pub mod RecordsListed
 pub mod Numerals
 pub mod Understanding
 pub mod Told

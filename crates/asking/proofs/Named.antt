@@ -11,7 +11,7 @@ use lib.Seq.{drop-cons}
 use lib.Dec.{eqb, leb}
 use borrow.Author.Tests.{eq-eqb, ne-eqb, leb-true, not-true}
 use Rattle.laws.specs.Every.{at-every}
-use Rattle.asking.specs.Table.{Row, row, rows, rowAt, isPlain, same, isNamed, rowFrom, rowNamed}
+use Rattle.asking.specs.Table.{Row, row, rows, rowCount, rowAt, isPlain, same, isNamed, rowFrom, rowNamed}
 
 -- ---- words without a space
 pub plain-at : (w : List ℕ) → isPlain w ≡ true → (i : ℕ) → i < length w → getD w i 0 ≡ 32 → ⊥
@@ -91,7 +91,7 @@ module _ (w n : List ℕ) (i : ℕ) (s : Comparing w n i) where
 isName : Row → Bool
 isName r = isPlain (r .name) && leb (length (r .name)) 15
 
-module _ (n : ℕ) (h : n < 25) where
+module _ (n : ℕ) (h : n < rowCount) where
   name-is : isName (rowAt n) ≡ true
   unfolding rows isName isPlain
   name-is = at-every isName rows (row "" "") refl n h
@@ -106,10 +106,10 @@ module _ (n : ℕ) (h : n < 25) where
 
 -- ---- the loop of `row_named`: no row below i has the word
 pub record Seeking (w : List ℕ) (i : ℕ) : Type 0 where
-  pub within : i ≤ 25
+  pub within : i ≤ rowCount
   pub same-from : rowNamed w ≡ rowFrom i (drop i rows) w
 
-module _ (w : List ℕ) (i : ℕ) (s : Seeking w i) (h : i < 25) where
+module _ (w : List ℕ) (i : ℕ) (s : Seeking w i) (h : i < rowCount) where
   row-here : drop i rows ≡ rowAt i ∷ drop (suc i) rows
   unfolding rows
   row-here = drop-cons rows i (row "" "") h
@@ -122,6 +122,6 @@ module _ (w : List ℕ) (i : ℕ) (s : Seeking w i) (h : i < 25) where
   unfolding rowFrom
   seeking-turn e = record { within = omega arith; same-from = s .same-from ∙ rw (row-here, e, add-one) }
 
-pub seeking-none : (w : List ℕ) (i : ℕ) → Seeking w i → 25 ≤ i → i ≡ rowNamed w
+pub seeking-none : (w : List ℕ) (i : ℕ) → Seeking w i → rowCount ≤ i → i ≡ rowNamed w
 unfolding rowFrom rows
 seeking-none w i s h = sym (s .same-from ∙ rw (drop-of-length-le rows {i = i} h))

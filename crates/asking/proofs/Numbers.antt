@@ -97,7 +97,7 @@ unfolding signedWord
 word-most minus m next h e = rw (e, le-ltb m 9223372036854775808 h)
 
 -- ---- what stands at a place of the line
-stands-by : (b : ℕ) (l : List ℕ) → firstIs (isByte b) l ≡ true → 0 < length l
+pub stands-by : (b : ℕ) (l : List ℕ) → firstIs (isByte b) l ≡ true → 0 < length l
 stands-by b [] e = let z : _≡_ {A = ℕ} 0 1 = cc in omega arith
 stands-by b (c ∷ l) e = omega arith
 

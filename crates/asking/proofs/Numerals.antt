@@ -8,6 +8,7 @@ use native.Mathlib.Omega.{arith}
 use lib.Dec.{eqb}
 use lib.IntN.{ℤ}
 use lib.ListN.{length, drop}
+use lib.Seq.{drop-drop, drop-append-seam}
 use borrow.Author.Tests.{eqb-true, eqb-false, ne-eqb}
 use Rattle.numbers.specs.Sign.{signed}
 use Rattle.digits.specs.Digits.{isByte, IsField, valueOf, firstIs, digitFirst, span, leading}
@@ -35,6 +36,12 @@ number-taken (plain {d} f w) at l s = rw (no-minus d l f) (digits-taken false (a
 number-taken (minus {d} f w) at l s =
     let e : at + 1 + 1 + length d ≡ at + 1 + suc (length d) = omega arith in
     digits-taken true (at + 1 + 1) d l f w s ∙ rw e
+
+-- ---- what is left behind it
+pub number-left : (line : List ℕ) (at : ℕ) (d l : List ℕ) → drop at line ≡ 32 ∷ d ++ l → drop (at + 1 + length d) line ≡ l
+number-left line at d l q =
+    let s : at + 1 + length d ≡ at + suc (length d) = omega arith in
+    rw s (sym (drop-drop (suc (length d)) at line) ∙ ap (drop (suc (length d))) q ∙ drop-append-seam d l)
 
 -- ---- and what is taken is one
 pub record Taken (at : ℕ) (l : List ℕ) (z : ℤ) (next : ℕ) : Type 0 where

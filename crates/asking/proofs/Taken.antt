@@ -15,8 +15,8 @@ use Rattle.numbers.specs.Sign.{isNeg}
 use Rattle.asking.specs.declared.values.Word.the-variants.{Number, Nothing}
 use Rattle.asking.specs.declared.words.Rest.the-variants as rest
 use Rattle.asking.specs.Numbers.{numberAt}
-use Rattle.asking.specs.Table.{wordOf, isPlain, rowNamed, kindOf}
-use Rattle.asking.specs.Asked.{isInRange, allowed, isLast, restAt, unknown, noValues, endedAt, wordThen, wordsFrom, askedOf}
+use Rattle.asking.specs.Table.{rowCount, wordOf, isPlain, rowNamed, kindOf}
+use Rattle.asking.specs.Asked.{isRoom, isInRange, allowed, isLast, restAt, unknown, noValues, endedAt, wordThen, wordsFrom, askedOf}
 
 -- ---- the loop of `word_end`: no space stands before i
 pub record Ending (line : List ℕ) (i : ℕ) : Type 0 where
@@ -76,13 +76,18 @@ module _ (kind : ℕ) (z : ℤ) where
   unfolding isInRange
   allowed-place e = rw (eq-eqb kind 112 e)
 
-  pub allowed-room : (kind ≡ 112 → ⊥) → kind ≡ 109 → (not (isNeg z) && leb (natAbs z) 128) ≡ isInRange kind z
+  pub allowed-room : (kind ≡ 112 → ⊥) → kind ≡ 109 → isRoom 128 z ≡ isInRange kind z
   unfolding isInRange
   allowed-room e f = rw (ne-eqb kind 112 e, eq-eqb kind 109 f)
 
-  pub allowed-any : (kind ≡ 112 → ⊥) → (kind ≡ 109 → ⊥) → true ≡ isInRange kind z
-  unfolding isInRange
-  allowed-any e f = rw (ne-eqb kind 112 e, ne-eqb kind 109 f)
+  module _ (e : kind ≡ 112 → ⊥) (f : kind ≡ 109 → ⊥) where
+    pub allowed-wide : kind ≡ 119 → isRoom 1024 z ≡ isInRange kind z
+    unfolding isInRange
+    allowed-wide g = rw (ne-eqb kind 112 e, ne-eqb kind 109 f, eq-eqb kind 119 g)
+
+    pub allowed-any : (kind ≡ 119 → ⊥) → true ≡ isInRange kind z
+    unfolding isInRange
+    allowed-any g = rw (ne-eqb kind 112 e, ne-eqb kind 109 f, ne-eqb kind 119 g)
 
 -- ---- where the rest begins
 and-false : (t : Bool) → (t && false) ≡ false
@@ -182,11 +187,12 @@ module _ (row : ℕ) (line : List ℕ) (from : ℕ) (values : List ℤ) (at k : 
           absurd (let z : _≡_ {A = ℕ} 0 1 = cc in omega arith)
 
 -- ---- a room
-pub room-below : (z : ℤ) → isNeg z ≡ true → false ≡ (not (isNeg z) && leb (natAbs z) 128)
-room-below z e = rw e
+module _ (most : ℕ) (z : ℤ) where
+  pub room-below : isNeg z ≡ true → false ≡ isRoom most z
+  room-below e = rw e
 
-pub room-not : (z : ℤ) (m : ℕ) → isNeg z ≡ false → m ≡ natAbs z → leb m 128 ≡ (not (isNeg z) && leb (natAbs z) 128)
-room-not z m e f = rw (e, f)
+  pub room-not : (m : ℕ) → isNeg z ≡ false → m ≡ natAbs z → leb m most ≡ isRoom most z
+  room-not m e f = rw (e, f)
 
 -- ---- a number where its letter allows it
 pub allowed-yes : (kind : ℕ) (z : ℤ) (next : ℕ) → isInRange kind z ≡ true → allowed kind (Number z next) ≡ Number z next
@@ -204,10 +210,10 @@ module _ (line : List ℕ) where
   pub part-plain : (n : ℕ) → n ≡ length (wordOf line) → isPlain (take (n - 0) line) ≡ true
   part-plain n e = rw (word-part n e) (word-plain line)
 
-  pub asked-known : (row : ℕ) → row ≡ rowNamed (wordOf line) → row < 25 → wordsFrom 5 row line (length (wordOf line)) 0 noValues ≡ askedOf line
+  pub asked-known : (row : ℕ) → row ≡ rowNamed (wordOf line) → row < rowCount → wordsFrom 5 row line (length (wordOf line)) 0 noValues ≡ askedOf line
   unfolding askedOf
-  asked-known row e h = rw (← e, lt-ltb row 25 h)
+  asked-known row e h = rw (← e, lt-ltb row rowCount h)
 
-  pub asked-unknown : (row : ℕ) → row ≡ rowNamed (wordOf line) → 25 ≤ row → unknown ≡ askedOf line
+  pub asked-unknown : (row : ℕ) → row ≡ rowNamed (wordOf line) → rowCount ≤ row → unknown ≡ askedOf line
   unfolding askedOf
-  asked-unknown row e h = rw (← e, le-ltb row 25 h)
+  asked-unknown row e h = rw (← e, le-ltb row rowCount h)

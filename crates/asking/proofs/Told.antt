@@ -8,18 +8,17 @@ use native.Mathlib.Omega.{arith}
 use lib.Dec.{eqb, ltb}
 use lib.IntN.{ℤ}
 use lib.ListN.{length, drop, set, getD, length-append, length-drop, take-append-drop}
-use lib.Seq.{drop-drop, drop-append-seam}
 use borrow.Author.Tests.{eqb-true, ltb-true, not-true}
 use Rattle.asking.specs.declared.values.Word.{Word}
 use Rattle.asking.specs.declared.values.Word.the-variants.{Number, Nothing}
 use Rattle.asking.specs.declared.words.Asked.{Asked}
 use Rattle.asking.specs.declared.words.Rest.the-variants as rest
 use Rattle.asking.specs.Numbers.{numberAt}
-use Rattle.asking.specs.Table.{Row, row, rows, rowAt, wordOf, same, rowFrom, rowNamed, kindOf}
+use Rattle.asking.specs.Table.{Row, row, rows, rowCount, rowAt, wordOf, same, rowFrom, rowNamed, kindOf}
 use Rattle.asking.specs.Asked.{isInRange, allowed, isLast, restAt, noValues, unknown, askedRest, endedAt, wordThen, wordsFrom, askedOf}
 use Rattle.asking.specs.Grammar.{Behind, ended, noText, text, own, number, Asks, asks}
 use Rattle.asking.specs.Statements.{placedFrom, IsAsked}
-use Rattle.asking.proofs.Numerals.{number-told}
+use Rattle.asking.proofs.Numerals.{number-told, number-left}
 use Rattle.asking.proofs.Understanding.{numbers, isFormed, letter-here, letter-none, letters-on, words-last, words-number, row-formed, row-five}
 use Rattle.asking.proofs.Taken.{word-within, word-first}
 
@@ -33,12 +32,12 @@ record Told (n : ℕ) (letters t line : List ℕ) (k : ℕ) (values : List ℤ) 
   begins : a .rest + length r ≡ length line
 
 -- no row is past the table
-past : (a : Asked) → a ≡ unknown → a .row < 25 → ⊥
+past : (a : Asked) → a ≡ unknown → a .row < rowCount → ⊥
 past a e h = omega (arith, h, ap (λ z. z .row) e)
 
 module _ (n : ℕ) (line : List ℕ) where
   -- the end of the words, by their last letter
-  none-told : (at k : ℕ) (values : List ℤ) (t : List ℕ) → drop at line ≡ t → at ≤ length line → askedRest n values (restAt 32 at t) .row < 25
+  none-told : (at k : ℕ) (values : List ℤ) (t : List ℕ) → drop at line ≡ t → at ≤ length line → askedRest n values (restAt 32 at t) .row < rowCount
       → Told n [] t line k values (askedRest n values (restAt 32 at t))
   unfolding restAt placedFrom
   none-told at k values [] q w h = record {
@@ -51,7 +50,7 @@ module _ (n : ℕ) (line : List ℕ) where
   }
   none-told at k values (b ∷ u) q w h = absurd (past unknown refl h)
 
-  text-told : (at k : ℕ) (values : List ℤ) (t : List ℕ) → drop at line ≡ t → at ≤ length line → askedRest n values (restAt 116 at t) .row < 25
+  text-told : (at k : ℕ) (values : List ℤ) (t : List ℕ) → drop at line ≡ t → at ≤ length line → askedRest n values (restAt 116 at t) .row < rowCount
       → Told n (116 ∷ []) t line k values (askedRest n values (restAt 116 at t))
   unfolding restAt placedFrom
   text-told at k values [] q w h = record {
@@ -64,7 +63,7 @@ module _ (n : ℕ) (line : List ℕ) where
   }
   text-told at k values (b ∷ u) q w h = by (eqb b 32) refl h
     where
-      by : (x : Bool) → eqb b 32 ≡ x → askedRest n values (cond x (rest.At (at + 1)) rest.Other) .row < 25
+      by : (x : Bool) → eqb b 32 ≡ x → askedRest n values (cond x (rest.At (at + 1)) rest.Other) .row < rowCount
           → Told n (116 ∷ []) (b ∷ u) line k values (askedRest n values (cond x (rest.At (at + 1)) rest.Other))
       by true e g = record {
         zs = [];
@@ -98,19 +97,19 @@ module _ (n : ℕ) (line : List ℕ) where
 
   -- one of the two letters
   last-told : (x at k : ℕ) (values : List ℤ) (t : List ℕ) → isLast x ≡ true → not (eqb x 32) ≡ true → drop at line ≡ t → at ≤ length line
-      → askedRest n values (restAt x at t) .row < 25 → Told n (x ∷ []) t line k values (askedRest n values (restAt x at t))
+      → askedRest n values (restAt x at t) .row < rowCount → Told n (x ∷ []) t line k values (askedRest n values (restAt x at t))
   last-told x at k values t i j q w h = by (eqb x 116) refl (eqb x 42) refl (rw (not-true (eqb x 32) j) at i)
     where
       by : (y : Bool) → eqb x 116 ≡ y → (z : Bool) → eqb x 42 ≡ z → (eqb x 116 || eqb x 42) ≡ true
           → Told n (x ∷ []) t line k values (askedRest n values (restAt x at t))
       by true e z f o =
-          subst (λ u. askedRest n values (restAt u at t) .row < 25 → Told n (u ∷ []) t line k values (askedRest n values (restAt u at t)))
+          subst (λ u. askedRest n values (restAt u at t) .row < rowCount → Told n (u ∷ []) t line k values (askedRest n values (restAt u at t)))
           (sym (eqb-true x 116 e)) (λ g. text-told at k values t q w g) h
       by false e true f o = rw (eqb-true x 42 f) (own-told at k values t q w)
       by false e false f o = absurd (let y : _≡_ {A = Bool} false true = sym (rw (e, f)) ∙ o in let z : _≡_ {A = ℕ} 0 1 = cc in omega arith)
 
   -- no letter is left
-  none-words : (m at k : ℕ) (values : List ℤ) → drop k (rowAt n .letters) ≡ [] → at ≤ length line → wordsFrom m n line at k values .row < 25
+  none-words : (m at k : ℕ) (values : List ℤ) → drop k (rowAt n .letters) ≡ [] → at ≤ length line → wordsFrom m n line at k values .row < rowCount
       → Told n [] (drop at line) line k values (wordsFrom m n line at k values)
   unfolding endedAt
   none-words m at k values p w h =
@@ -124,7 +123,7 @@ module _ (n : ℕ) (line : List ℕ) where
     kind = letter-here (rowAt n .letters) k x l p
 
     -- the last letter: nothing is behind it
-    last-words : (m : ℕ) → l ≡ [] → not (eqb x 32) ≡ true → isLast x ≡ true → wordsFrom m n line at k values .row < 25
+    last-words : (m : ℕ) → l ≡ [] → not (eqb x 32) ≡ true → isLast x ≡ true → wordsFrom m n line at k values .row < rowCount
         → Told n (x ∷ l) (drop at line) line k values (wordsFrom m n line at k values)
     unfolding endedAt
     last-words m none j i h =
@@ -134,9 +133,9 @@ module _ (n : ℕ) (line : List ℕ) where
 
     -- a number, and what is told of the words behind it
     number-words : (m : ℕ) → isLast x ≡ false
-        → ((next : ℕ) (v : List ℤ) → next ≤ length line → wordsFrom m n line next (k + 1) v .row < 25
+        → ((next : ℕ) (v : List ℤ) → next ≤ length line → wordsFrom m n line next (k + 1) v .row < rowCount
         → Told n l (drop next line) line (k + 1) v (wordsFrom m n line next (k + 1) v))
-        → wordsFrom (suc m) n line at k values .row < 25
+        → wordsFrom (suc m) n line at k values .row < rowCount
         → Told n (x ∷ l) (drop at line) line k values (wordsFrom (suc m) n line at k values)
     unfolding placedFrom
     number-words m i ih h =
@@ -150,18 +149,12 @@ module _ (n : ℕ) (line : List ℕ) where
             words-number n line at k values m (ap isLast kind ∙ i)
             ∙ ap (λ y. wordThen (allowed y (numberAt at (drop at line))) then) kind
 
-        number : (z : ℤ) (next : ℕ) → numberAt at (drop at line) ≡ Number z next → isInRange x z ≡ true → then z next .row < 25
+        number : (z : ℤ) (next : ℕ) → numberAt at (drop at line) ≡ Number z next → isInRange x z ≡ true → then z next .row < rowCount
             → Told n (x ∷ l) (drop at line) line k values (then z next)
         number z next q g u =
             let t = number-told at (drop at line) z next q in
             let long : length (drop at line) ≡ suc (length (t .digits) + length (t .rest)) = ap length (t .is) ∙ ap suc (length-append (t .digits) (t .rest)) in
-            let one : 1 + length (t .digits) ≡ suc (length (t .digits)) = omega arith in
-            let place : next ≡ at + (1 + length (t .digits)) = omega (arith, t .past) in
-            let left : drop next line ≡ t .rest =
-            ap (λ y. drop y line) place
-            ∙ sym (drop-drop (1 + length (t .digits)) at line)
-            ∙ ap (drop (1 + length (t .digits))) (t .is)
-            ∙ rw one (drop-append-seam (t .digits) (t .rest)) in
+            let left : drop next line ≡ t .rest = ap (λ y. drop y line) (t .past) ∙ number-left line at (t .digits) (t .rest) (t .is) in
             let more = ih next (set values k z) (omega (arith, t .past, long, length-drop at line)) u in
             record {
               zs = z ∷ more .zs;
@@ -174,12 +167,12 @@ module _ (n : ℕ) (line : List ℕ) where
               begins = more .begins;
             }
 
-        by : (y : Word) → numberAt at (drop at line) ≡ y → wordThen (allowed x y) then .row < 25
+        by : (y : Word) → numberAt at (drop at line) ≡ y → wordThen (allowed x y) then .row < rowCount
             → Told n (x ∷ l) (drop at line) line k values (wordThen (allowed x y) then)
         by Nothing q u = absurd (past unknown refl u)
         by (Number z next) q u = ranged (isInRange x z) refl u
           where
-            ranged : (b : Bool) → isInRange x z ≡ b → wordThen (cond b (Number z next) Nothing) then .row < 25
+            ranged : (b : Bool) → isInRange x z ≡ b → wordThen (cond b (Number z next) Nothing) then .row < rowCount
                 → Told n (x ∷ l) (drop at line) line k values (wordThen (cond b (Number z next) Nothing) then)
             ranged true g u = number z next q g u
             ranged false g u = absurd (past unknown refl u)
@@ -203,7 +196,7 @@ module _ (n : ℕ) (line : List ℕ) where
 
   -- the words from the k-th on
   words-told : (m at k : ℕ) (values : List ℤ) (letters : List ℕ) → drop k (rowAt n .letters) ≡ letters → isFormed letters ≡ true
-      → numbers letters ≤ m → at ≤ length line → wordsFrom m n line at k values .row < 25
+      → numbers letters ≤ m → at ≤ length line → wordsFrom m n line at k values .row < rowCount
       → Told n letters (drop at line) line k values (wordsFrom m n line at k values)
   words-told zero at k values [] p f c w h = none-words zero at k values p w h
   words-told zero at k values (x ∷ l) p f c w h = by (isLast x) refl
@@ -217,7 +210,7 @@ module _ (n : ℕ) (line : List ℕ) where
       (λ i next v w u. words-told m next (k + 1) v l (letters-on (rowAt n .letters) k x l p) (formed-on x l f i) (omega (arith, numbers-on x l (suc m) i c)) w u)
     where
       by : (b : Bool) → isLast x ≡ b
-          → (isLast x ≡ false → (next : ℕ) (v : List ℤ) → next ≤ length line → wordsFrom m n line next (k + 1) v .row < 25
+          → (isLast x ≡ false → (next : ℕ) (v : List ℤ) → next ≤ length line → wordsFrom m n line next (k + 1) v .row < rowCount
           → Told n l (drop next line) line (k + 1) v (wordsFrom m n line next (k + 1) v))
           → Told n (x ∷ l) (drop at line) line k values (wordsFrom (suc m) n line at k values)
       by true i ih = let a = alone x l i f in last-words x l at k values p w (suc m) (a .0) (a .1) i h
@@ -250,15 +243,15 @@ found (r ∷ rs) i w = by (same w (r .name)) refl (found rs (suc i) w)
         let z : n - i ≡ suc (n - suc i) = omega (arith, f .from) in
         record { from = omega (arith, f .from); named = λ h. rw z (f .named (omega arith)) }
 
-word-named : (w : List ℕ) → rowNamed w < 25 → w ≡ rowAt (rowNamed w) .name
+word-named : (w : List ℕ) → rowNamed w < rowCount → w ≡ rowAt (rowNamed w) .name
 unfolding rows
 word-named w h =
     let z : rowNamed w - 0 ≡ rowNamed w = omega arith in
     same-is w (rowAt (rowNamed w) .name) (ap (λ k. same w (getD rows k (row "" "") .name)) (sym z) ∙ found rows 0 w .named h)
 
-pub only-understood : (line : List ℕ) → askedOf line .row < 25 → IsAsked line (askedOf line)
+pub only-understood : (line : List ℕ) → askedOf line .row < rowCount → IsAsked line (askedOf line)
 unfolding askedOf
-only-understood line h = by (ltb (rowNamed (wordOf line)) 25) refl h
+only-understood line h = by (ltb (rowNamed (wordOf line)) rowCount) refl h
   where
     n : ℕ
     n = rowNamed (wordOf line)
@@ -266,10 +259,10 @@ only-understood line h = by (ltb (rowNamed (wordOf line)) 25) refl h
     a : Asked
     a = wordsFrom 5 n line (length (wordOf line)) 0 noValues
 
-    by : (b : Bool) → ltb n 25 ≡ b → cond b a unknown .row < 25 → IsAsked line (cond b a unknown)
+    by : (b : Bool) → ltb n rowCount ≡ b → cond b a unknown .row < rowCount → IsAsked line (cond b a unknown)
     by false e g = absurd (past unknown refl g)
     by true e g =
-        let l : n < 25 = ltb-true n 25 e in
+        let l : n < rowCount = ltb-true n rowCount e in
         let t = words-told n line 5 (length (wordOf line)) 0 noValues (rowAt n .letters) refl (row-formed n l) (row-five n l) (word-within line) g in
         let name : wordOf line ≡ rowAt n .name = word-named (wordOf line) l in
         let whole : rowAt n .name ++ drop (length (wordOf line)) line ≡ line =

@@ -14,11 +14,11 @@ use Rattle.laws.specs.Every.{at-every}
 use Rattle.asking.specs.declared.values.Word.the-variants.{Number}
 use Rattle.asking.specs.declared.words.Rest.the-variants as rest
 use Rattle.asking.specs.Numbers.{numberAt}
-use Rattle.asking.specs.Table.{Row, row, rows, rowAt, wordOf, isPlain, same, rowFrom, rowNamed, kindOf}
+use Rattle.asking.specs.Table.{Row, row, rows, rowCount, rowAt, wordOf, isPlain, same, rowFrom, rowNamed, kindOf}
 use Rattle.asking.specs.Asked.{allowed, isLast, restAt, asked, noValues, endedAt, wordThen, wordsFrom, askedOf}
 use Rattle.asking.specs.Grammar.{Behind, ended, noText, text, own, number, Asks, asks}
 use Rattle.asking.specs.Statements.{placedFrom}
-use Rattle.asking.proofs.Numerals.{number-taken}
+use Rattle.asking.proofs.Numerals.{number-taken, number-left}
 use Rattle.asking.proofs.Named.{name-plain}
 use Rattle.asking.proofs.Taken.{allowed-yes}
 
@@ -101,20 +101,11 @@ module _ (n : ℕ) (line : List ℕ) where
       ap (λ x. allowed x (numberAt at (drop at line))) kind-is
       ∙ ap (allowed kind) (ap (numberAt at) q ∙ number-taken f at l h)
       ∙ allowed-yes kind z (at + 1 + length d) g in
-      let left : drop (at + 1 + length d) line ≡ l = left-is in
       let long : length (drop at line) ≡ suc (length d + length l) = ap length q ∙ ap suc (length-append d l) in
       words-number n line at k values m (ap isLast kind-is ∙ e)
       ∙ ap (λ x. wordThen x (λ z next. wordsFrom m n line next (k + 1) (set values k z))) word
-      ∙ behind-is i m (at + 1 + length d) (k + 1) begins (set values k z) (letters-on (rowAt n .letters) k kind letters p) left
+      ∙ behind-is i m (at + 1 + length d) (k + 1) begins (set values k z) (letters-on (rowAt n .letters) k kind letters p) (number-left line at d l q)
       (omega (arith, long, length-drop at line)) (omega (arith, rw e at c)) b
-    where
-      left-is : drop (at + 1 + length d) line ≡ l
-      left-is =
-          let s : at + (1 + length d) ≡ at + 1 + length d = omega arith in
-          ap (λ x. drop x line) (sym s)
-          ∙ sym (drop-drop (1 + length d) at line)
-          ∙ ap (drop (1 + length d)) q
-          ∙ (let u : 1 + length d ≡ suc (length d) = omega arith in rw u (drop-append-seam d l))
 
 -- ---- the rows: the first row with a row's word is that row; a word is followed by a space or the line's end; five numbers at most
 unfoldable pub isFormed : List ℕ → Bool
@@ -135,7 +126,7 @@ own-at [] i n e h = absurd (omega arith)
 own-at (r ∷ rs) i zero e h = eqb-true (rowNamed (r .name)) i (and-eq-true-iff _ _ .0 e .0) ∙ omega arith
 own-at (r ∷ rs) i (suc n) e h = own-at rs (suc i) n (and-eq-true-iff (eqb (rowNamed (r .name)) i) _ .0 e .1) (omega arith) ∙ omega arith
 
-module _ (n : ℕ) (h : n < 25) where
+module _ (n : ℕ) (h : n < rowCount) where
   row-own : rowNamed (rowAt n .name) ≡ n
   unfolding rows areOwn rowFrom same
   row-own = own-at rows 0 n refl h ∙ omega arith
@@ -185,5 +176,5 @@ understood _ _ _ _ begins (asks {n} {t} {r} {zs} h b) e =
     let name = rowAt n .name in
     let word : wordOf (name ++ t) ≡ name = word-is name t (name-plain n h) (behind-opens b (row-opens n h)) in
     let found : rowNamed (wordOf (name ++ t)) ≡ n = ap rowNamed word ∙ row-own n h in
-    rw (found, lt-ltb n 25 h, word)
+    rw (found, lt-ltb n rowCount h, word)
     (behind-is n (name ++ t) b 5 (length name) 0 begins noValues refl (drop-append-seam name t) (omega (arith, length-append name t)) (row-five n h) e)

@@ -13,15 +13,20 @@ use Rattle.asking.specs.declared.words.Asked.{Asked}
 use Rattle.asking.specs.declared.words.Rest.{Rest}
 use Rattle.asking.specs.declared.words.Rest.the-variants as rest
 use Rattle.asking.specs.Numbers.{numberAt}
-use Rattle.asking.specs.Table.{wordOf, rowNamed, kindOf}
+use Rattle.asking.specs.Table.{rowCount, wordOf, rowNamed, kindOf}
 
 -- ---- a word by its letter
--- a place is from 0 on, a room from 0 to 128, any other number any
+-- a room is from 0 to the widest
+abbrev pub isRoom : (most : ℕ) → ℤ → Bool
+isRoom most z = not (isNeg z) && leb (natAbs z) most
+
+-- a place is from 0 on, a room from 0 to 128, a wide one from 0 to 1024, any other number any
 unfoldable pub isInRange : (kind : ℕ) → ℤ → Bool
 isInRange kind z =
     cond (eqb kind 112) (not (isNeg z))
-    (cond (eqb kind 109) (not (isNeg z) && leb (natAbs z) 128)
-    true)
+    (cond (eqb kind 109) (isRoom 128 z)
+    (cond (eqb kind 119) (isRoom 1024 z)
+    true))
 
 abbrev pub allowed : (kind : ℕ) → Word → Word
 allowed kind (Number z next) = cond (isInRange kind z) (Number z next) Nothing
@@ -45,7 +50,7 @@ noValues = pos 0 ∷ pos 0 ∷ pos 0 ∷ pos 0 ∷ pos 0 ∷ []
 
 -- no command: a row past the table
 abbrev pub unknown : Asked
-unknown = asked 25 noValues 0
+unknown = asked rowCount noValues 0
 
 abbrev pub askedRest : ℕ → List ℤ → Rest → Asked
 askedRest n values (rest.At begins) = asked n values begins
@@ -69,4 +74,4 @@ wordsFrom (suc m) n line at k values =
 unfoldable pub askedOf : (line : List ℕ) → Asked
 askedOf line =
     let n = rowNamed (wordOf line) in
-    cond (ltb n 25) (wordsFrom 5 n line (length (wordOf line)) 0 noValues) unknown
+    cond (ltb n rowCount) (wordsFrom 5 n line (length (wordOf line)) 0 noValues) unknown

@@ -4,11 +4,11 @@ use Prim.Native.Nat.{ℕ, _<_}
 use mathlib.Core.Path.{_≡_}
 use mathlib.Core.List.{List, [], _∷_, _++_}
 use mathlib.Core.Bool.{true, false}
-use lib.IntN.{ℤ}
+use lib.IntN.{ℤ, pos}
 use Rattle.numbers.specs.Sign.{signed}
 use Rattle.digits.specs.Digits.{IsField, valueOf, digitFirst}
 use Rattle.asking.specs.Numbers.{isWithin}
-use Rattle.asking.specs.Table.{rowAt}
+use Rattle.asking.specs.Table.{spelt, rowCount, rowAt}
 use Rattle.asking.specs.Asked.{isInRange, isLast}
 
 -- a number: an optional `-` and one or more digits, within 64 bits signed; zeros in front are fine
@@ -32,4 +32,12 @@ pub data Behind : (letters text : List ℕ) → (values : List ℤ) → (rest : 
 
 -- a line: the word of a row, and what stands behind it
 pub data Asks : (line : List ℕ) → (row : ℕ) → (values : List ℤ) → (rest : List ℕ) → Type 0 where
-  asks : {n : ℕ} {t r : List ℕ} {zs : List ℤ} → n < 25 → Behind (rowAt n .letters) t zs r → Asks (rowAt n .name ++ t) n zs r
+  asks : {n : ℕ} {t r : List ℕ} {zs : List ℤ} → n < rowCount → Behind (rowAt n .letters) t zs r → Asks (rowAt n .name ++ t) n zs r
+
+-- the records of a shot list in words, each word and number behind one space, and what is listed of them: each one's kind and numbers
+pub data RecordWords : (text : List ℕ) → (numbers : List ℤ) → Type 0 where
+  none : RecordWords [] []
+  rate : {d l : List ℕ} {z : ℤ} {zs : List ℤ} → Numeral d z → RecordWords l zs → RecordWords (spelt " rate " ++ d ++ l) (pos 1 ∷ z ∷ zs)
+  shot : {d e l : List ℕ} {y z : ℤ} {zs : List ℤ}
+      → Numeral d y → Numeral e z → RecordWords l zs → RecordWords (spelt " shot " ++ d ++ (32 ∷ e ++ l)) (pos 2 ∷ y ∷ z ∷ zs)
+  reel : {d l : List ℕ} {z : ℤ} {zs : List ℤ} → Numeral d z → RecordWords l zs → RecordWords (spelt " reel " ++ d ++ l) (pos 3 ∷ z ∷ zs)

@@ -27,19 +27,19 @@ numbersOf v = record {
 
 -- ---- a list of numbers
 -- the list, and the answer: whether the line has ended, and how many numbers were put into the list
-pub record Listing : Type 0 where
-  pub list : List ℕ
+pub record Listing (A : Type 0) : Type 0 where
+  pub list : List A
   pub listed : Listed
 
-abbrev pub listing : (line : List ℕ) (at n : ℕ) (list : List ℕ) → Listing
+abbrev pub listing : (line : List ℕ) (at n : ℕ) (list : List ℕ) → Listing ℕ
 listing line at n list = record { list = list; listed = record { all = leb (length line) at; count = n } }
 
-abbrev pub listThen : Word → (ℤ → ℕ → Listing) → Listing → Listing
+abbrev pub listThen : {A : Type 0} → Word → (ℤ → ℕ → Listing A) → Listing A → Listing A
 listThen (Number z next) then none = then z next
 listThen Nothing then none = none
 
 -- m more numbers at most, from the n-th on
-unfoldable pub listFrom : (m : ℕ) (line : List ℕ) (at n : ℕ) (list : List ℕ) → Listing
+unfoldable pub listFrom : (m : ℕ) (line : List ℕ) (at n : ℕ) (list : List ℕ) → Listing ℕ
 listFrom zero line at n list = listing line at n list
 listFrom (suc m) line at n list =
     listThen (numberAt at (drop at line)) (λ z next. listFrom m line next (n + 1) (set list n (upFrom z))) (listing line at n list)

@@ -6,6 +6,7 @@ use mathlib.Core.List.{List, [], _∷_}
 use lib.IntN.{ℤ}
 use lib.ListN.{length, set}
 use Rattle.asking.specs.declared.words.Asked.{Asked}
+use Rattle.asking.specs.Table.{rowCount}
 use Rattle.asking.specs.Asked.{asked, noValues, askedOf}
 use Rattle.asking.specs.Grammar.{Asks}
 
@@ -30,4 +31,4 @@ pub record IsAsked (line : List ℕ) (a : Asked) : Type 0 where
 
 -- and what is understood is a line that the grammar has
 abbrev pub OnlyUnderstood : Type 0
-OnlyUnderstood = (line : List ℕ) → askedOf line .row < 25 → IsAsked line (askedOf line)
+OnlyUnderstood = (line : List ℕ) → askedOf line .row < rowCount → IsAsked line (askedOf line)

@@ -32,8 +32,8 @@ same (a ∷ l) [] = false
 same (a ∷ l) (b ∷ m) = eqb a b && same l m
 
 -- ---- the rows
--- a command's word, and the letters of the words behind it: `r` a rate, `n` any number, `p` a place (from 0 on), `m` a room (0 to 128);
--- last `t` a text, the rest of the line, or `*` a rest that the command takes apart itself
+-- a command's word, and the letters of the words behind it: `r` a rate, `n` any number, `p` a place (from 0 on), `m` a room (0 to 128),
+-- `w` a wide room (0 to 1024); last `t` a text, the rest of the line, or `*` a rest that the command takes apart itself
 pub record Row : Type 0 where
   pub name : List ℕ
   pub letters : List ℕ
@@ -68,7 +68,13 @@ rows =
     ∷ row "divq" "rnnn"
     ∷ row "remq" "rnnn"
     ∷ row "convert" "rn*"
+    ∷ row "read_list" "t"
+    ∷ row "write_list" "pw*"
     ∷ []
+
+-- how many rows there are
+abbrev pub rowCount : ℕ
+rowCount = 27
 
 -- the row of a number, and one of no word for any other number
 abbrev pub rowAt : ℕ → Row

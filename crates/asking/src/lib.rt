@@ -1,6 +1,7 @@
 // What a line of the calculator asks (docs/ASK.md): which command, by its row in the table, the numbers behind its word, and where the
 // rest begins. Refuses nothing itself: a line that is no command is not understood, and a number's bounds are the operations' matter.
 mod numbered;
+mod recorded;
 pub mod rows;
 mod table;
 mod values;
@@ -10,6 +11,7 @@ pub use numbered::Listed;
 pub use numbered::Numbers;
 pub use numbered::numbers_of;
 pub use numbered::rates;
+pub use recorded::records;
 pub use values::Word;
 pub use values::number;
 pub use words::Asked;

@@ -48,3 +48,10 @@ pub const DIVQ: usize = 22;
 pub const REMQ: usize = 23;
 
 pub const CONVERT: usize = 24;
+
+pub const READ_LIST: usize = 25;
+
+pub const WRITE_LIST: usize = 26;
+
+// How many rows there are.
+pub(crate) const ROWS: usize = 27;

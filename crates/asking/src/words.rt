@@ -3,18 +3,17 @@ ghost use mathlib.Core.Path.{_≡_};
 ghost use mathlib.Core.Bool.{not, _&&_};
 ghost use Prim.Native.Nat.{_<_, _≤_};
 ghost use lib.ListN.{length, drop};
-ghost use lib.Dec.{ltb, leb};
-ghost use lib.IntN.{natAbs};
-ghost use Rattle.numbers.specs.Sign.{isNeg};
+ghost use lib.Dec.{ltb};
 ghost use Rattle.asking.specs.Numbers.{numberAt};
-ghost use Rattle.asking.specs.Table.{wordOf, kindOf};
-ghost use Rattle.asking.specs.Asked.{isInRange, allowed, isLast, restAt, unknown, endedAt, wordsFrom, noValues, askedOf};
+ghost use Rattle.asking.specs.Table.{rowCount, wordOf, kindOf};
+ghost use Rattle.asking.specs.Asked.{isRoom, isInRange, allowed, isLast, restAt, unknown, endedAt, wordsFrom, noValues, askedOf};
+use crate::rows;
 use crate::table;
 use crate::values;
 use crate::values::Word;
 
-// What a line asks: the row of its command, 25 where it is not understood; the command's numbers, zeros behind them; and the place where
-// a text or a list begins, else the line's end.
+// What a line asks: the row of its command, past the table where it is not understood; the command's numbers, zeros behind them; and the
+// place where a text or a list begins, else the line's end.
 pub struct Asked {
     pub row: usize,
     pub values: [i64; 5],
@@ -32,7 +31,7 @@ fn not_understood() -> Asked
     ensures answer { λ r. ⌜ r ≡ unknown ⌝ }
 {
     Asked {
-        row: 25,
+        row: rows::ROWS,
         values: [0i64; 5],
         rest: 0,
     }
@@ -52,14 +51,14 @@ fn word_end(line: &[u8]) -> usize
     i
 }
 
-// Is a room of so many bytes understood?
-fn is_room(z: i64) -> bool
-    ensures answer { λ r. ⌜ r ≡ not (isNeg z) && leb (natAbs z) 128 ⌝ }
+// Is a room of so many bytes understood, where `most` is the widest?
+fn is_room(z: i64, most: u64) -> bool
+    ensures answer { λ r. ⌜ r ≡ isRoom most z ⌝ }
 {
     if numbers::below_zero(z) {
         return false;
     }
-    numbers::magnitude(z) <= 128
+    numbers::magnitude(z) <= most
 }
 
 // Is this number allowed where a row has this letter?
@@ -70,7 +69,10 @@ fn is_allowed(kind: u8, z: i64) -> bool
         return !numbers::below_zero(z);
     }
     if kind == b'm' {
-        return is_room(z);
+        return is_room(z, 128);
+    }
+    if kind == b'w' {
+        return is_room(z, 1024);
     }
     true
 }
@@ -110,7 +112,7 @@ fn rest_at(line: &[u8], at: usize, kind: u8) -> Rest
 
 // What is asked once the numbers are taken. Asks a row, and one of its letters.
 fn ended(row: usize, line: &[u8], at: usize, k: usize, values: [i64; 5]) -> Asked
-    requires row { ⌜ row < 25 ⌝ }
+    requires row { ⌜ row < rowCount ⌝ }
     requires letter { ⌜ k ≤ 5 ⌝ }
     ensures answer { λ r. ⌜ r ≡ endedAt row (now (line .entry)) at k values ⌝ }
 {
@@ -123,7 +125,7 @@ fn ended(row: usize, line: &[u8], at: usize, k: usize, values: [i64; 5]) -> Aske
 
 // Is a number the k-th word behind the command's? Asks a row.
 fn is_number(row: usize, k: usize) -> bool
-    requires row { ⌜ row < 25 ⌝ }
+    requires row { ⌜ row < rowCount ⌝ }
     ensures answer { λ r. ⌜ r ≡ ltb k 5 && not (isLast (kindOf row k)) ⌝ }
 {
     if k >= 5 {
@@ -141,7 +143,7 @@ fn is_number(row: usize, k: usize) -> bool
 
 // The words behind the command's, from a place on. Asks a row.
 fn words(row: usize, line: &[u8], from: usize) -> Asked
-    requires row { ⌜ row < 25 ⌝ }
+    requires row { ⌜ row < rowCount ⌝ }
     ensures answer { λ r. ⌜ r ≡ wordsFrom 5 row (now (line .entry)) from 0 noValues ⌝ }
 {
     let mut values = [0i64; 5];
@@ -165,7 +167,7 @@ pub fn understand(line: &[u8]) -> Asked
 {
     let end = word_end(line);
     let row = table::row_named(&line[0..end]);
-    if row < 25 {
+    if row < rows::ROWS {
         return words(row, line, end);
     }
     not_understood()

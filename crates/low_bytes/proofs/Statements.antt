@@ -33,6 +33,7 @@ signed-is w z h =
 
 pub signed-one : SignedOne
 signed-one w z l s =
-    let small = below w l (s .long) (s .bytes) in
-    ( back w l (s .long) (s .bytes) ∙ ap (lowBytes w) (sym (twos-signed w (worth l) small) ∙ ap (twosOf w) (s .is))
-    , subst (Within w) (s .is) (signed-within w (worth l) small) )
+    let small = below w l (s .long) (s .bytes) in (
+      back w l (s .long) (s .bytes) ∙ ap (lowBytes w) (sym (twos-signed w (worth l) small) ∙ ap (twosOf w) (s .is)),
+      subst (Within w) (s .is) (signed-within w (worth l) small),
+    )

@@ -15,7 +15,7 @@ use Rattle.low_bytes.specs.Laws.{bytes-take, bytes-drop}
 use Rattle.low_bytes.proofs.Statements.{unsigned-one, signed-one}
 use Rattle.shot_lists.specs.declared.records.Record.{Record}
 use Rattle.shot_lists.specs.declared.records.Record.the-variants.{Rate, Shot, Reel}
-use Rattle.shot_lists.specs.Grammar.{kindOf, BodyOf}
+use Rattle.shot_lists.specs.Grammar.{kindByte, BodyOf}
 use Rattle.shot_lists.specs.Format.{bodyFixed, ofKind, onDisk}
 use Rattle.shot_lists.specs.Laws.{Spells}
 use Rattle.shot_lists.specs.Statements.{KindFixes}
@@ -31,11 +31,12 @@ kind-fixes (Reel n) body u = u .long
 frames-read : (low high m : List ℕ) → length low ≡ 4 → length high ≡ 4
     → (take 4 ((low ++ high) ++ m) ≡ low) × (take 4 (drop 4 ((low ++ high) ++ m)) ≡ high)
 frames-read low high m e f =
-    let apart = append-assoc low high m in
-    ( ap (take 4) apart ∙ take-at low (high ++ m) 4 e
-    , ap (λ (l : List ℕ). take 4 (drop 4 l)) apart ∙ ap (take 4) (drop-at low (high ++ m) 4 e) ∙ take-at high m 4 f )
+    let apart = append-assoc low high m in (
+      ap (take 4) apart ∙ take-at low (high ++ m) 4 e,
+      ap (λ (l : List ℕ). take 4 (drop 4 l)) apart ∙ ap (take 4) (drop-at low (high ++ m) 4 e) ∙ take-at high m 4 f,
+    )
 
-pub made-back : (r : Record) (body : List ℕ) → BodyOf r body → (m : List ℕ) → onDisk .made (kindOf r) (body ++ m) ≡ r
+pub made-back : (r : Record) (body : List ℕ) → BodyOf r body → (m : List ℕ) → onDisk .made (kindByte r) (body ++ m) ≡ r
 unfolding ofKind
 made-back (Rate n) body u m = ap Rate (ap worth (take-at body m 1 (u .long)) ∙ u .is)
 made-back (Shot first end) body f m =
@@ -43,17 +44,17 @@ made-back (Shot first end) body f m =
     rw (f .parts, read .0, read .1) (ap₂ Shot (f .starts .is) (f .ends .is))
 made-back (Reel n) body u m = ap Reel (ap worth (take-at body m 4 (u .long)) ∙ u .is)
 
-body-some : (r : Record) → 0 < onDisk .body (kindOf r)
+body-some : (r : Record) → 0 < onDisk .body (kindByte r)
 unfolding bodyFixed
 body-some (Rate n) = omega arith
 body-some (Shot first end) = omega arith
 body-some (Reel n) = omega arith
 
-pub body-spells : (r : Record) (body : List ℕ) → BodyOf r body → Spells onDisk r (kindOf r ∷ body)
+pub body-spells : (r : Record) (body : List ℕ) → BodyOf r body → Spells onDisk r (kindByte r ∷ body)
 body-spells r body b =
     let long = kind-fixes r body b in
     record {
-      head = kindOf r;
+      head = kindByte r;
       body = body;
       is = refl;
       fixed = sym long;
@@ -77,7 +78,7 @@ body-one (Reel n) b c u v = unsigned-one 4 n b u .0 ∙ sym (unsigned-one 4 n c 
 
 module _ (k : ℕ) (l : List ℕ) (bytes : Bytes l) where
   abbrev there : Record → ℕ → Type 0
-  there r n = (k ≡ kindOf r) × BodyOf r (take n l)
+  there r n = (k ≡ kindByte r) × BodyOf r (take n l)
 
   there-by : (p q s : Bool) → eqb k 1 ≡ p → eqb k 2 ≡ q → eqb k 3 ≡ s → (_≡_ {A = ℕ} (cond p 1 (cond q 8 (cond s 4 0))) 0 → ⊥)
       → cond p 1 (cond q 8 (cond s 4 0)) ≤ length l
@@ -86,20 +87,21 @@ module _ (k : ℕ) (l : List ℕ) (bytes : Bytes l) where
       (cond p 1 (cond q 8 (cond s 4 0)))
   there-by true q s e f g known room =
       (eqb-true k 1 e, record { long = length-take-le 1 l room; bytes = bytes-take 1 l bytes; is = refl })
-  there-by false true s e f g known room =
-      ( eqb-true k 2 f
-      , record {
-        low = take 4 l;
-        high = take 4 (drop 4 l);
-        parts = take-add 4 4 l;
-        starts = record { long = length-take-le 4 l (omega arith); bytes = bytes-take 4 l bytes; is = refl };
-        ends =
-            record {
-              long = length-take-le 4 (drop 4 l) (omega (arith, length-drop 4 l));
-              bytes = bytes-take 4 (drop 4 l) (bytes-drop 4 l bytes);
-              is = refl;
-            };
-      } )
+  there-by false true s e f g known room = (
+    eqb-true k 2 f,
+    record {
+      low = take 4 l;
+      high = take 4 (drop 4 l);
+      parts = take-add 4 4 l;
+      starts = record { long = length-take-le 4 l (omega arith); bytes = bytes-take 4 l bytes; is = refl };
+      ends =
+          record {
+            long = length-take-le 4 (drop 4 l) (omega (arith, length-drop 4 l));
+            bytes = bytes-take 4 (drop 4 l) (bytes-drop 4 l bytes);
+            is = refl;
+          };
+    },
+  )
   there-by false false true e f g known room =
       (eqb-true k 3 g, record { long = length-take-le 4 l room; bytes = bytes-take 4 l bytes; is = refl })
   there-by false false false e f g known room = absurd (known refl)

@@ -12,7 +12,7 @@ use Rattle.shot_lists.specs.declared.records.Record.{Record}
 use Rattle.shot_lists.specs.declared.records.Entry.{Entry}
 use Rattle.shot_lists.specs.declared.records.Entry.the-variants.{Taken, Refused, End}
 use Rattle.shot_lists.specs.Records.{heldAfter, Sound, heldBehind}
-use Rattle.shot_lists.specs.Grammar.{kindOf, BodyOf, OnDisk, none, more}
+use Rattle.shot_lists.specs.Grammar.{kindByte, BodyOf, OnDisk, none, more}
 use Rattle.shot_lists.specs.Format.{onDisk, entryOf}
 use Rattle.shot_lists.specs.Reading.{Reading, AllOf, FaultOf, andThen, onward, readFrom}
 use Rattle.shot_lists.specs.Laws.{TakenAt, taken-told, end-only}
@@ -34,30 +34,31 @@ module _ (held k : ℕ) (l : List ℕ) (r : Record) (after size : ℕ) (h : entr
   n : ℕ
   n = onDisk .body k
 
-  stands : (k ≡ kindOf r) × BodyOf r (take n l)
+  stands : (k ≡ kindByte r) × BodyOf r (take n l)
   unfolding n
   stands =
-      subst (λ (x : Record). (k ≡ kindOf x) × BodyOf x (take (onDisk .body k) l)) (t .made) (body-there k l (bytes-tail k l bytes) (t .known) (t .whole))
+      subst (λ (x : Record). (k ≡ kindByte x) × BodyOf x (take (onDisk .body k) l)) (t .made) (body-there k l (bytes-tail k l bytes) (t .known) (t .whole))
 
-  apart : kindOf r ∷ (take n l ++ drop (size - 1) l) ≡ k ∷ l
+  apart : kindByte r ∷ (take n l ++ drop (size - 1) l) ≡ k ∷ l
   unfolding n
   apart =
       let m : size - 1 ≡ onDisk .body k = omega (arith, t .long) in
       ap₂ _∷_ (sym (stands .0)) (ap (λ (j : ℕ). take (onDisk .body k) l ++ drop j l) m ∙ take-append-drop (onDisk .body k) l)
 
   told-more : (later : Reading) → Told after later (drop (size - 1) l) → Told held (andThen r later) (k ∷ l)
-  told-more (AllOf rs) told =
-      ( subst (OnDisk (r ∷ rs)) apart (more r (take n l) rs (drop (size - 1) l) (stands .1) (told .0))
-      , (t .sound, subst (λ (a : ℕ). Sound a rs) (t .next) (told .1)) )
+  told-more (AllOf rs) told = (
+    subst (OnDisk (r ∷ rs)) apart (more r (take n l) rs (drop (size - 1) l) (stands .1) (told .0)),
+    (t .sound, subst (λ (a : ℕ). Sound a rs) (t .next) (told .1)),
+  )
   told-more (FaultOf e) told =
       record {
         before = r ∷ told .before;
-        front = kindOf r ∷ (take n l ++ told .front);
+        front = kindByte r ∷ (take n l ++ told .front);
         rest = told .rest;
         parts =
             sym apart
-            ∙ ap (λ (m : List ℕ). kindOf r ∷ (take n l ++ m)) (told .parts)
-            ∙ ap (λ (m : List ℕ). kindOf r ∷ m) (sym (append-assoc (take n l) (told .front) (told .rest)));
+            ∙ ap (λ (m : List ℕ). kindByte r ∷ (take n l ++ m)) (told .parts)
+            ∙ ap (λ (m : List ℕ). kindByte r ∷ m) (sym (append-assoc (take n l) (told .front) (told .rest)));
         good = more r (take n l) (told .before) (told .front) (stands .1) (told .good);
         sound = (t .sound, subst (λ (a : ℕ). Sound a (told .before)) (t .next) (told .sound));
         fault = subst (λ (a : ℕ). entryOf onDisk (heldBehind a (told .before)) (told .rest) ≡ Refused e) (t .next) (told .fault);
@@ -91,8 +92,8 @@ pub read-front : (held : ℕ) (rs : List Record) (l m : List ℕ) → OnDisk rs 
     → readFrom onDisk 0 held (l ++ m) ≡ allThen rs (readFrom onDisk 0 (heldBehind held rs) m)
 read-front held rs l m none sound = refl
 read-front held rs l m (more r body rs₂ behind of later) sound =
-    ap (λ (x : List ℕ). readFrom onDisk 0 held (kindOf r ∷ x)) (append-assoc body behind m)
-    ∙ read-spelled onDisk held r (kindOf r ∷ body) (behind ++ m) (body-spells r body of) (sound .0)
+    ap (λ (x : List ℕ). readFrom onDisk 0 held (kindByte r ∷ x)) (append-assoc body behind m)
+    ∙ read-spelled onDisk held r (kindByte r ∷ body) (behind ++ m) (body-spells r body of) (sound .0)
     ∙ ap (andThen r) (read-front (heldAfter held r) rs₂ behind m later (sound .1))
 
 pub all-none : (rs : List Record) → allThen rs (AllOf []) ≡ AllOf rs

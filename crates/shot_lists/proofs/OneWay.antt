@@ -7,7 +7,7 @@ use native.Mathlib.Omega.{arith}
 use lib.ListN.{length, drop}
 use lib.Seq.{drop-at}
 use Rattle.shot_lists.specs.declared.records.Record.{Record}
-use Rattle.shot_lists.specs.Grammar.{kindOf, BodyOf, OnDisk, none, more}
+use Rattle.shot_lists.specs.Grammar.{kindByte, BodyOf, OnDisk, none, more}
 use Rattle.shot_lists.specs.Format.{onDisk}
 use Rattle.shot_lists.specs.Statements.{OneList, OneBytes}
 use Rattle.shot_lists.proofs.Bodies.{kind-fixes, made-back, body-one}
@@ -19,12 +19,12 @@ tail-same : (a b : ℕ) (l m : List ℕ) → a ∷ l ≡ b ∷ m → l ≡ m
 tail-same a b l m e = cc
 
 -- two records with what stands behind them: the same bytes are the same record, and the same behind it
-module _ (r s : Record) (b c l m : List ℕ) (of : BodyOf r b) (os : BodyOf s c) (e : kindOf r ∷ (b ++ l) ≡ kindOf s ∷ (c ++ m)) where
-  kinds : kindOf r ≡ kindOf s
-  kinds = head-same (kindOf r) (kindOf s) (b ++ l) (c ++ m) e
+module _ (r s : Record) (b c l m : List ℕ) (of : BodyOf r b) (os : BodyOf s c) (e : kindByte r ∷ (b ++ l) ≡ kindByte s ∷ (c ++ m)) where
+  kinds : kindByte r ≡ kindByte s
+  kinds = head-same (kindByte r) (kindByte s) (b ++ l) (c ++ m) e
 
   tails : b ++ l ≡ c ++ m
-  tails = tail-same (kindOf r) (kindOf s) (b ++ l) (c ++ m) e
+  tails = tail-same (kindByte r) (kindByte s) (b ++ l) (c ++ m) e
 
   same-record : r ≡ s
   same-record =
@@ -64,7 +64,7 @@ two-forms rs ss l m (more r b rs₂ behind of later) none e = let z : _≡_ {A =
 two-forms rs ss l m (more r b rs₂ behind of later) (more s c ss₂ behind₂ os later₂) e =
     let same = record-same r s rs₂ ss₂ e in
     let body = body-one s b c (subst (λ (x : Record). BodyOf x b) same of) os in
-    ap₂ _∷_ (ap kindOf same) (ap₂ _++_ body (two-forms rs₂ ss₂ behind behind₂ later later₂ (records-same r s rs₂ ss₂ e)))
+    ap₂ _∷_ (ap kindByte same) (ap₂ _++_ body (two-forms rs₂ ss₂ behind behind₂ later later₂ (records-same r s rs₂ ss₂ e)))
 
 pub one-bytes : OneBytes
 one-bytes rs l m p q = two-forms rs rs l m p q refl

@@ -12,22 +12,24 @@ use Rattle.shot_lists.specs.Statements.{ReadExactly, RefusedExactly, Wal
 use Rattle.shot_lists.proofs.Exactly.{Told, told, allThen, read-front, all-none, all-fault}
 
 pub read-exactly : ReadExactly
-read-exactly l rs bytes =
-    ( λ e. subst (λ t. Told 0 t l) e (told 0 0 l bytes)
-    , λ p.
-    ap (readOf onDisk) (sym (append-nil l))
-    ∙ read-front 0 rs l [] (p .0) (p .1)
-    ∙ ap (allThen rs) (read-end onDisk 0 (heldBehind 0 rs))
-    ∙ all-none rs )
+read-exactly l rs bytes = (
+  λ e. subst (λ t. Told 0 t l) e (told 0 0 l bytes),
+  λ p.
+      ap (readOf onDisk) (sym (append-nil l))
+      ∙ read-front 0 rs l [] (p .0) (p .1)
+      ∙ ap (allThen rs) (read-end onDisk 0 (heldBehind 0 rs))
+      ∙ all-none rs,
+)
 
 pub refused-exactly : RefusedExactly
-refused-exactly l e bytes =
-    ( λ h. subst (λ t. Told 0 t l) h (told 0 0 l bytes)
-    , λ p.
-    ap (readOf onDisk) (p .parts)
-    ∙ read-front 0 (p .before) (p .front) (p .rest) (p .good) (p .sound)
-    ∙ ap (allThen (p .before)) (read-refused onDisk (heldBehind 0 (p .before)) (p .rest) e (p .fault))
-    ∙ all-fault (p .before) e )
+refused-exactly l e bytes = (
+  λ h. subst (λ t. Told 0 t l) h (told 0 0 l bytes),
+  λ p.
+      ap (readOf onDisk) (p .parts)
+      ∙ read-front 0 (p .before) (p .front) (p .rest) (p .good) (p .sound)
+      ∙ ap (allThen (p .before)) (read-refused onDisk (heldBehind 0 (p .before)) (p .rest) e (p .fault))
+      ∙ all-fault (p .before) e,
+)
 
 pub walk : Walk
 unfolding entryOf

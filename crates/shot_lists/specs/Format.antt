@@ -39,8 +39,8 @@ onDisk = record {
 }
 
 -- handed over: numbers, one for a rate, two for a shot, one for a reel
-abbrev pub handed : Format ℤ
-handed = record {
+abbrev pub inNumbers : Format ℤ
+inNumbers = record {
   kind = upFrom;
   body = bodyFixed 1 2 1;
   made = λ k l. ofKind k (Rate (upFrom (getD l 0 (pos 0)))) (Shot (getD l 0 (pos 0)) (getD l 1 (pos 0))) (Reel (upFrom (getD l 0 (pos 0))));

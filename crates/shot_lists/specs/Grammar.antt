@@ -9,10 +9,10 @@ use Rattle.shot_lists.specs.declared.records.Record.{Record}
 use Rattle.shot_lists.specs.declared.records.Record.the-variants.{Rate, Shot, Reel}
 
 -- kind 1, a rate; kind 2, a shot; kind 3, a reel
-abbrev pub kindOf : Record → ℕ
-kindOf (Rate n) = 1
-kindOf (Shot first end) = 2
-kindOf (Reel n) = 3
+abbrev pub kindByte : Record → ℕ
+kindByte (Rate n) = 1
+kindByte (Shot first end) = 2
+kindByte (Reel n) = 3
 
 -- 8 bytes, first frame and end frame, each signed 32-bit, low byte first
 pub record Frames (first end : ℤ) (body : List ℕ) : Type 0 where
@@ -31,4 +31,4 @@ BodyOf (Reel n) body = Unsigned 4 n body
 -- the records of a list, and its bytes: none at all is an empty list
 pub data OnDisk : List Record → List ℕ → Type 0 where
   none : OnDisk [] []
-  more : (r : Record) (body : List ℕ) (rs : List Record) (l : List ℕ) → BodyOf r body → OnDisk rs l → OnDisk (r ∷ rs) (kindOf r ∷ (body ++ l))
+  more : (r : Record) (body : List ℕ) (rs : List Record) (l : List ℕ) → BodyOf r body → OnDisk rs l → OnDisk (r ∷ rs) (kindByte r ∷ (body ++ l))

@@ -11,13 +11,13 @@ use Rattle.low_bytes.specs.LowBytes.{Bytes}
 use Rattle.shot_lists.specs.declared.records.Record.{Record}
 use Rattle.shot_lists.specs.declared.records.Entry.the-variants.{Taken, Refused, End}
 use Rattle.shot_lists.specs.Records.{Sound, heldBehind}
-use Rattle.shot_lists.specs.Grammar.{kindOf, BodyOf, OnDisk}
+use Rattle.shot_lists.specs.Grammar.{kindByte, BodyOf, OnDisk}
 use Rattle.shot_lists.specs.Format.{Format, onDisk, against, entryOf}
 use Rattle.shot_lists.specs.Reading.{AllOf, FaultOf, andThen, readFrom, readOf, numberIn}
 
 -- a body has the length that its kind fixes
 abbrev pub KindFixes : Type 0
-KindFixes = (r : Record) (body : List ℕ) → BodyOf r body → length body ≡ onDisk .body (kindOf r)
+KindFixes = (r : Record) (body : List ℕ) → BodyOf r body → length body ≡ onDisk .body (kindByte r)
 
 -- bytes are read as these records exactly when they are their bytes, and nothing speaks against any of them
 abbrev pub ReadExactly : Type 0

@@ -2,12 +2,12 @@
 // Refuses for a record, in this order: 9 no such kind, 10 body cut short, 6 no such rate, 5 a frame or reel out of bounds, 11 a shot
 // before any rate, 12 end before first; of a list, what its earliest record at fault refuses.
 mod disk;
-mod handed;
+mod given;
 mod records;
 
 pub use disk::Checked;
 pub use disk::check_list;
 pub use disk::record_at;
-pub use handed::given_at;
+pub use given::given_at;
 pub use records::Entry;
 pub use records::Record;

@@ -14,7 +14,7 @@ use Rattle.low_bytes.specs.Laws.{low-length}
 use Rattle.shot_lists.specs.declared.records.Record.{Record}
 use Rattle.shot_lists.specs.declared.records.Record.the-variants.{Rate, Shot, Reel}
 use Rattle.shot_lists.specs.declared.records.Entry.the-variants.{Taken, End}
-use Rattle.shot_lists.specs.Format.{bodyFixed, ofKind, handed, entryOf}
+use Rattle.shot_lists.specs.Format.{bodyFixed, ofKind, inNumbers, entryOf}
 use Rattle.shot_lists.specs.Laws.{taken-told, end-apart}
 use Rattle.shot_writer.specs.ListText.{recordBytes}
 
@@ -39,12 +39,12 @@ bound-by false true s n m x y h = omega (arith, shot-long x y)
 bound-by false false true n m x y h = omega (arith, reel-long m)
 bound-by false false false n m x y h = absurd (h refl)
 
-pub taken-bytes : (held : ℕ) (l : List ℤ) (r : Record) (after size : ℕ) → entryOf handed held l ≡ Taken r after size
+pub taken-bytes : (held : ℕ) (l : List ℤ) (r : Record) (after size : ℕ) → entryOf inNumbers held l ≡ Taken r after size
     → length (recordBytes r) ≤ 3 * size
 unfolding entryOf bodyFixed ofKind
 taken-bytes held [] r after size h = absurd (end-apart r after size h)
 taken-bytes held (x ∷ l) r after size h =
-    let t = taken-told handed held x l r after size h in
+    let t = taken-told inNumbers held x l r after size h in
     let k = upFrom x in
     let a = getD l 0 (pos 0) in
     let made = bound-by (eqb k 1) (eqb k 2) (eqb k 3) (upFrom a) (upFrom a) a (getD l 1 (pos 0)) (t .known) in

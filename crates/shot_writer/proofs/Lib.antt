@@ -1,3 +1,6 @@
 pub mod Lengths
 pub mod Measuring
 pub mod Putting
+pub mod OnDisk
+pub mod Statements
+pub mod Determined

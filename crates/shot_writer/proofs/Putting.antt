@@ -14,7 +14,7 @@ use Rattle.lent.specs.Line.{splice, laid}
 use Rattle.lent.proofs.Laws.{laid-in, front-is, splice-length, splice-splice, line-lent, line-laid}
 use Rattle.shot_lists.specs.declared.records.Record.{Record}
 use Rattle.shot_lists.specs.declared.records.Entry.the-variants.{Taken, Refused, End}
-use Rattle.shot_lists.specs.Format.{handed, entryOf}
+use Rattle.shot_lists.specs.Format.{inNumbers, entryOf}
 use Rattle.shot_lists.specs.Reading.{Reading, AllOf, FaultOf, andThen, readFrom, readOf}
 use Rattle.shot_lists.specs.Walk.{Going, begin, turn, stop, over, done}
 use Rattle.shot_writer.specs.ListText.{recordBytes, listBytes, recordsIn}
@@ -28,20 +28,20 @@ textOf t = listBytes (recordsIn t)
 
 pub record Putting (given : List ℤ) (part₀ part : List ℕ) (at held to : ℕ) : Type 0 where
   pub long : length part ≡ length part₀
-  pub fits : length (textOf (readOf handed given)) ≤ length part₀
-  pub good : Going handed given true isGood at held
-  pub size : Going handed given (length (textOf (readOf handed given))) (λ t. to + length (textOf t)) at held
-  pub text : Going handed given (laid part₀ (textOf (readOf handed given))) (λ t. splice part to (textOf t)) at held
+  pub fits : length (textOf (readOf inNumbers given)) ≤ length part₀
+  pub good : Going inNumbers given true isGood at held
+  pub size : Going inNumbers given (length (textOf (readOf inNumbers given))) (λ t. to + length (textOf t)) at held
+  pub text : Going inNumbers given (laid part₀ (textOf (readOf inNumbers given))) (λ t. splice part to (textOf t)) at held
 
-pub putting-start : (given : List ℤ) (part : List ℕ) → readOf handed given ≡ AllOf (recordsIn (readOf handed given))
-    → length (textOf (readOf handed given)) ≤ length part → Putting given part part 0 0 0
+pub putting-start : (given : List ℤ) (part : List ℕ) → readOf inNumbers given ≡ AllOf (recordsIn (readOf inNumbers given))
+    → length (textOf (readOf inNumbers given)) ≤ length part → Putting given part part 0 0 0
 putting-start given part sound room =
     record {
       long = refl;
       fits = room;
-      good = subst (λ (b : Bool). Going handed given b isGood 0 0) (ap isGood sound) (begin handed given isGood);
-      size = record { inside = omega arith; same = sym (zero-add (length (textOf (readOf handed given)))) };
-      text = record { inside = omega arith; same = laid-in part (textOf (readOf handed given)) room ∙ front-is part (textOf (readOf handed given)) };
+      good = subst (λ (b : Bool). Going inNumbers given b isGood 0 0) (ap isGood sound) (begin inNumbers given isGood);
+      size = record { inside = omega arith; same = sym (zero-add (length (textOf (readOf inNumbers given)))) };
+      text = record { inside = omega arith; same = laid-in part (textOf (readOf inNumbers given)) room ∙ front-is part (textOf (readOf inNumbers given)) };
     }
 
 good-more : (r : Record) (t : Reading) → isGood (andThen r t) ≡ isGood t
@@ -63,13 +63,13 @@ text-more part to r (AllOf rs) g h = sym (splice-splice part (recordBytes r) (li
 text-more part to r (FaultOf e) g h = false-apart g
 
 module _ (given : List ℤ) (part₀ part : List ℕ) (at held to : ℕ) (p : Putting given part₀ part at held to) where
-  module _ (r : Record) (after size : ℕ) (h : entryOf handed held (drop at given) ≡ Taken r after size) where
-    good-then : Going handed given true isGood (at + size) after
-    good-then = turn handed given true isGood isGood at held r after size (p .good) h (λ t _. good-more r t)
+  module _ (r : Record) (after size : ℕ) (h : entryOf inNumbers held (drop at given) ≡ Taken r after size) where
+    good-then : Going inNumbers given true isGood (at + size) after
+    good-then = turn inNumbers given true isGood isGood at held r after size (p .good) h (λ t _. good-more r t)
 
-    size-then : Going handed given (length (textOf (readOf handed given))) (λ t. to + length (recordBytes r) + length (textOf t)) (at + size) after
+    size-then : Going inNumbers given (length (textOf (readOf inNumbers given))) (λ t. to + length (recordBytes r) + length (textOf t)) (at + size) after
     size-then =
-        turn handed given (length (textOf (readOf handed given))) (λ t. to + length (textOf t)) (λ t. to + length (recordBytes r) + length (textOf t))
+        turn inNumbers given (length (textOf (readOf inNumbers given))) (λ t. to + length (textOf t)) (λ t. to + length (recordBytes r) + length (textOf t))
         at held r after size (p .size) h (λ t e. size-more to r t (good-then .same ∙ ap isGood e))
 
     -- the record has room
@@ -91,32 +91,32 @@ module _ (given : List ℤ) (part₀ part : List ℕ) (at held to : ℕ) (p : Pu
             good = good-then;
             size = size-then;
             text =
-                turn handed given (laid part₀ (textOf (readOf handed given))) (λ t. splice part to (textOf t))
+                turn inNumbers given (laid part₀ (textOf (readOf inNumbers given))) (λ t. splice part to (textOf t))
                 (λ t. splice put (to + length (recordBytes r)) (textOf t)) at held r after size (p .text) h
                 (λ t e.
                 text-more part to r t (good-then .same ∙ ap isGood e) (rest-fits t e)
                 ∙ ap (λ (m : List ℕ). splice m (to + length (recordBytes r)) (textOf t)) (sym put-is));
           }
         where
-          rest-fits : (t : Reading) → readFrom handed 0 after (drop (at + size) given) ≡ t → to + length (recordBytes r) + length (textOf t) ≤ length part
+          rest-fits : (t : Reading) → readFrom inNumbers 0 after (drop (at + size) given) ≡ t → to + length (recordBytes r) + length (textOf t) ≤ length part
           rest-fits t e = omega (arith, size-then .same ∙ ap (λ (x : Reading). to + length (recordBytes r) + length (textOf x)) e, p .fits, p .long)
 
       pub putting-turn : (n : ℕ) → n ≡ length (recordBytes r) → Putting given part₀ (putMid to (length part - to) part last) (at + size) after (to + n)
       putting-turn n e = subst (λ (m : ℕ). Putting given part₀ put (at + size) after (to + m)) (sym e) laid-down
 
-  pub putting-never : (e : Refusal) → entryOf handed held (drop at given) ≡ Refused e → ⊥
-  putting-never e h = false-apart (stop handed given true isGood at held e (p .good) h)
+  pub putting-never : (e : Refusal) → entryOf inNumbers held (drop at given) ≡ Refused e → ⊥
+  putting-never e h = false-apart (stop inNumbers given true isGood at held e (p .good) h)
 
   text-nil : splice part to [] ≡ part
   unfolding splice
   text-nil = rw (add-zero to) (take-append-drop to part)
 
-  pub putting-over : entryOf handed held (drop at given) ≡ End → part ≡ laid part₀ (textOf (readOf handed given))
+  pub putting-over : entryOf inNumbers held (drop at given) ≡ End → part ≡ laid part₀ (textOf (readOf inNumbers given))
   unfolding listBytes
   putting-over h =
-      sym (over handed given (laid part₀ (textOf (readOf handed given))) (λ t. splice part to (textOf t)) at held (p .text) h ∙ text-nil)
+      sym (over inNumbers given (laid part₀ (textOf (readOf inNumbers given))) (λ t. splice part to (textOf t)) at held (p .text) h ∙ text-nil)
 
-  pub putting-done : length given ≤ at → part ≡ laid part₀ (textOf (readOf handed given))
+  pub putting-done : length given ≤ at → part ≡ laid part₀ (textOf (readOf inNumbers given))
   unfolding listBytes
   putting-done h =
-      sym (done handed given (laid part₀ (textOf (readOf handed given))) (λ t. splice part to (textOf t)) at held (p .text) h ∙ text-nil)
+      sym (done inNumbers given (laid part₀ (textOf (readOf inNumbers given))) (λ t. splice part to (textOf t)) at held (p .text) h ∙ text-nil)

@@ -12,13 +12,13 @@ use Rattle.written.specs.Written.{Text, answerTo, lineTo}
 use Rattle.shot_lists.specs.declared.records.Record.{Record}
 use Rattle.shot_lists.specs.Records.{Sound}
 use Rattle.shot_lists.specs.Grammar.{OnDisk}
-use Rattle.shot_lists.specs.Format.{onDisk, handed}
+use Rattle.shot_lists.specs.Format.{onDisk, inNumbers}
 use Rattle.shot_lists.specs.Reading.{AllOf, readOf}
 use Rattle.shot_writer.specs.ListText.{listBytes, listDraft, listNumbers}
 
 -- every list that nothing speaks against can be handed over
 abbrev pub HandedOver : Type 0
-HandedOver = (rs : List Record) → Sound 0 rs → readOf handed (listNumbers rs) ≡ AllOf rs
+HandedOver = (rs : List Record) → Sound 0 rs → readOf inNumbers (listNumbers rs) ≡ AllOf rs
 
 -- its bytes are those of the format
 abbrev pub BytesOnDisk : Type 0
@@ -28,7 +28,7 @@ BytesOnDisk = (rs : List Record) → Sound 0 rs → OnDisk rs (listBytes rs)
 abbrev pub WrittenThenRead : Type 0
 WrittenThenRead =
     (given : List ℤ) (line : List ℕ) (place n : ℕ) → answerTo line place (listDraft given) ≡ Length n
-    → readOf onDisk (take n (drop place (lineTo line place (listDraft given)))) ≡ readOf handed given
+    → readOf onDisk (take n (drop place (lineTo line place (listDraft given)))) ≡ readOf inNumbers given
 
 -- what is read and written again has the same bytes
 abbrev pub ReadThenWritten : Type 0

@@ -9,7 +9,7 @@ ghost use Rattle.lent.specs.Line.{laid};
 ghost use Rattle.low_bytes.specs.LowBytes.{lowBytes};
 ghost use Rattle.written.specs.Written.{answerTo, lineTo};
 ghost use Rattle.shot_lists.specs.declared.records.Record.the-variants.{Shot};
-ghost use Rattle.shot_lists.specs.Format.{handed};
+ghost use Rattle.shot_lists.specs.Format.{inNumbers};
 ghost use Rattle.shot_lists.specs.Reading.{AllOf, readOf};
 ghost use Rattle.shot_writer.specs.ListText.{recordBytes, listBytes, recordsIn, measuredOf, listDraft};
 use answers::Refusal;
@@ -36,7 +36,7 @@ fn record_length(found: Record) -> usize
 
 // The whole list that is handed over, tested and measured record by record.
 fn measure(given: &[i64]) -> Measured
-    ensures answer { λ r. ⌜ r ≡ measuredOf (readOf handed (now (given .entry))) ⌝ }
+    ensures answer { λ r. ⌜ r ≡ measuredOf (readOf inNumbers (now (given .entry))) ⌝ }
 {
     let mut at: usize = 0;
     let mut held: u64 = 0;
@@ -98,9 +98,9 @@ pub fn put_record(part: &mut [u8], found: Record)
 
 // The bytes of a list that is handed over, at the front of a part; every other byte stays. Asks a list without fault, and room.
 fn put_list(part: &mut [u8], given: &[i64])
-    requires sound { ⌜ readOf handed (now given) ≡ AllOf (recordsIn (readOf handed (now given))) ⌝ }
-    requires room { ⌜ length (listBytes (recordsIn (readOf handed (now given)))) ≤ length (now part) ⌝ }
-    ensures line { λ _. ⌜ now (part .exit) ≡ laid (now (part .entry)) (listBytes (recordsIn (readOf handed (now (given .entry))))) ⌝ }
+    requires sound { ⌜ readOf inNumbers (now given) ≡ AllOf (recordsIn (readOf inNumbers (now given))) ⌝ }
+    requires room { ⌜ length (listBytes (recordsIn (readOf inNumbers (now given)))) ≤ length (now part) ⌝ }
+    ensures line { λ _. ⌜ now (part .exit) ≡ laid (now (part .entry)) (listBytes (recordsIn (readOf inNumbers (now (given .entry))))) ⌝ }
 {
     let mut at: usize = 0;
     let mut held: u64 = 0;

@@ -6,7 +6,7 @@ use native.Mathlib.Omega.{arith}
 use lib.ListN.{length, drop}
 use borrow.Author.Needs.{needs}
 use Rattle.shot_lists.specs.declared.records.Entry.the-variants.{Taken}
-use Rattle.shot_lists.specs.Format.{handed, entryOf}
+use Rattle.shot_lists.specs.Format.{inNumbers, entryOf}
 use Rattle.shot_lists.specs.Reading.{readOf}
 use Rattle.shot_lists.specs.Walk.{Going, begin, turn, stop, over, done, nearer}
 use Rattle.shot_writer.specs.ListText.{recordBytes, measuredOf}
@@ -16,7 +16,7 @@ use Rattle.shot_writer.proofs.measure.Statement.{statement}
 use Rattle.shot_writer.proofs.measure.Tie as tie
 
 abbrev Inv-loop : tie.InvT-loop
-Inv-loop given at₀ held₀ n₀ at held n = (n ≤ 3 * at) × Going handed given (measuredOf (readOf handed given)) (measured n) at held
+Inv-loop given at₀ held₀ n₀ at held n = (n ≤ 3 * at) × Going inNumbers given (measuredOf (readOf inNumbers given)) (measured n) at held
 
 abbrev μ-loop : tie.MeasureT-loop
 μ-loop given at₀ held₀ n₀ at held n = length given - at
@@ -24,13 +24,13 @@ abbrev μ-loop : tie.MeasureT-loop
 loop-holds : tie.Need-loop-holds Inv-loop μ-loop
 loop-holds c =
     let l = c .args .given .now in
-    (omega arith, rw (← measured-zero (readOf handed l)) (begin handed l (measured 0)))
+    (omega arith, rw (← measured-zero (readOf inNumbers l)) (begin inNumbers l (measured 0)))
 
 -- a record was taken
 taken : (c : tie.After-known-told Inv-loop μ-loop)
     → let k = c .before .before .before .before .before in
     let g = c .before .found .given .0 in
-    entryOf handed (k .loop .held) (drop (k .loop .at) (k .before .args .given .now)) ≡ Taken (g .0) (g .1 .0) (g .1 .1 .0)
+    entryOf inNumbers (k .loop .held) (drop (k .loop .at) (k .before .args .given .now)) ≡ Taken (g .0) (g .1 .0) (g .1 .1 .0)
 taken c = sym (c .before .before .before .given-at .ensures) ∙ c .before .found .given .1
 
 nearer-now : (c : tie.After-known-told Inv-loop μ-loop)
@@ -39,7 +39,7 @@ nearer-now : (c : tie.After-known-told Inv-loop μ-loop)
     (0 < size) × (k .loop .at + size ≤ length (k .before .args .given .now))
 nearer-now c =
     let k = c .before .before .before .before .before in
-    nearer handed (k .before .args .given .now) (k .loop .at) (k .loop .held) _ _ _ (taken c)
+    nearer inNumbers (k .before .args .given .now) (k .loop .at) (k .loop .held) _ _ _ (taken c)
 
 -- what was counted stays below what the numbers allow
 bound : (c : tie.After-record-length Inv-loop μ-loop)
@@ -57,18 +57,19 @@ loop-again : tie.Need-loop-again Inv-loop μ-loop
 loop-again c =
     let k = c .before .before .before .before .before .before in
     let l = k .before .args .given .now in
-    let n = k .loop .n in
-    ( bound c
-    , turn handed l (measuredOf (readOf handed l)) (measured n) (measured (n + c .record-length .result)) (k .loop .at) (k .loop .held) _ _ _ (k .loop .inv .1)
-    (taken (c .before))
-    (λ t _. measured-more n _ t ∙ ap (λ (m : ℕ). measured (n + m) t) (sym (c .record-length .ensures))) )
+    let n = k .loop .n in (
+      bound c,
+      turn inNumbers l (measuredOf (readOf inNumbers l)) (measured n) (measured (n + c .record-length .result)) (k .loop .at) (k .loop .held) _ _ _ (k .loop .inv .1)
+          (taken (c .before))
+          (λ t _. measured-more n _ t ∙ ap (λ (m : ℕ). measured (n + m) t) (sym (c .record-length .ensures))),
+    )
 
 returns : tie.Need-returns Inv-loop μ-loop
 returns c =
     let k = c .before .before .before .before .before in
     let l = k .before .args .given .now in
     sym
-    (stop handed l (measuredOf (readOf handed l)) (measured (k .loop .n)) (k .loop .at) (k .loop .held) _ (k .loop .inv .1)
+    (stop inNumbers l (measuredOf (readOf inNumbers l)) (measured (k .loop .n)) (k .loop .at) (k .loop .held) _ (k .loop .inv .1)
     (sym (c .before .before .before .given-at .ensures) ∙ c .before .e .given .1))
 
 returns-2 : tie.Need-returns-2 Inv-loop μ-loop
@@ -76,7 +77,7 @@ returns-2 c =
     let k = c .before .before .before .before in
     let l = k .before .args .given .now in
     sym
-    (over handed l (measuredOf (readOf handed l)) (measured (k .loop .n)) (k .loop .at) (k .loop .held) (k .loop .inv .1)
+    (over inNumbers l (measuredOf (readOf inNumbers l)) (measured (k .loop .n)) (k .loop .at) (k .loop .held) (k .loop .inv .1)
     (sym (c .before .before .given-at .ensures) ∙ c .enum-told .given .1)
     ∙ nothing-left (k .loop .n))
 
@@ -84,7 +85,7 @@ returns-3 : tie.Need-returns-3 Inv-loop μ-loop
 returns-3 c =
     let k = c .before .loop in
     let l = c .before .before .args .given .now in
-    sym (done handed l (measuredOf (readOf handed l)) (measured (k .n)) (k .at) (k .held) (k .inv .1) (omega arith) ∙ nothing-left (k .n))
+    sym (done inNumbers l (measuredOf (readOf inNumbers l)) (measured (k .n)) (k .at) (k .held) (k .inv .1) (omega arith) ∙ nothing-left (k .n))
 
 pub measure-spec : {M : Type 1} → statement M
 measure-spec =

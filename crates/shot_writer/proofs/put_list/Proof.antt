@@ -6,7 +6,7 @@ use native.Mathlib.Omega.{arith}
 use lib.ListN.{length, drop}
 use borrow.Author.Needs.{needs}
 use Rattle.shot_lists.specs.declared.records.Entry.the-variants.{Taken}
-use Rattle.shot_lists.specs.Format.{handed, entryOf}
+use Rattle.shot_lists.specs.Format.{inNumbers, entryOf}
 use Rattle.shot_lists.specs.Walk.{nearer}
 use Rattle.shot_writer.specs.ListText.{recordBytes}
 use Rattle.shot_writer.proofs.Putting.{Putting, putting-start, putting-room, putting-turn, putting-never, putting-over, putting-done}
@@ -26,7 +26,7 @@ loop-holds c = let start = c .before in putting-start _ _ (start .pre .0) (start
 taken : (c : tie.After-known-told Inv-loop μ-loop)
     → let k = c .before .before .before .before .before in
     let g = c .before .found .given .0 in
-    entryOf handed (k .loop .held) (drop (k .loop .at) (k .before .before .args .given .now)) ≡ Taken (g .0) (g .1 .0) (g .1 .1 .0)
+    entryOf inNumbers (k .loop .held) (drop (k .loop .at) (k .before .before .args .given .now)) ≡ Taken (g .0) (g .1 .0) (g .1 .1 .0)
 taken c = sym (c .before .before .before .given-at .ensures) ∙ c .before .found .given .1
 
 nearer-now : (c : tie.After-known-told Inv-loop μ-loop)
@@ -35,7 +35,7 @@ nearer-now : (c : tie.After-known-told Inv-loop μ-loop)
     (0 < size) × (k .loop .at + size ≤ length (k .before .before .args .given .now))
 nearer-now c =
     let k = c .before .before .before .before .before in
-    nearer handed (k .before .before .args .given .now) (k .loop .at) (k .loop .held) _ _ _ (taken c)
+    nearer inNumbers (k .before .before .args .given .now) (k .loop .at) (k .loop .held) _ _ _ (taken c)
 
 -- the record has room
 room : (c : tie.After-known-told Inv-loop μ-loop)

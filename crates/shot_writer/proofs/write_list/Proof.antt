@@ -8,7 +8,7 @@ use borrow.Author.Needs.{needs}
 use Rattle.lent.proofs.Laws.{fits-yes, part-length}
 use Rattle.written.specs.Written.{Text}
 use Rattle.written.proofs.Laws.{meets-same, meets-none, meets-in, meets-out}
-use Rattle.shot_lists.specs.Format.{handed}
+use Rattle.shot_lists.specs.Format.{inNumbers}
 use Rattle.shot_lists.specs.Reading.{AllOf, readOf}
 use Rattle.shot_writer.specs.ListText.{listBytes, recordsIn, draftOf}
 use Rattle.shot_writer.proofs.Measuring.{was-long, was-refused, draft-text}
@@ -17,19 +17,19 @@ use Rattle.shot_writer.proofs.write_list.Tie as tie
 
 -- the list has no fault, and what was measured is its length
 whole : (c : tie.After-known-told)
-    → let t = readOf handed (c .before .before .before .before .before .args .given .now) in
+    → let t = readOf inNumbers (c .before .before .before .before .before .args .given .now) in
     (t ≡ AllOf (recordsIn t)) × (c .before .need .given .0 .0 ≡ length (listBytes (recordsIn t)))
 whole c =
-    was-long (readOf handed (c .before .before .before .before .before .args .given .now)) _
+    was-long (readOf inNumbers (c .before .before .before .before .before .args .given .now)) _
     (sym (c .before .need .given .1) ∙ c .before .before .before .measure .ensures)
 
 -- with room, the list lies within the line
 fit : (c : tie.Then1)
     → let a = c .before .before .before .before .before .before .before .args in
-    a .place + length (listBytes (recordsIn (readOf handed (a .given .now)))) ≤ length (a .line .now)
+    a .place + length (listBytes (recordsIn (readOf inNumbers (a .given .now)))) ≤ length (a .line .now)
 fit c =
     let a = c .before .before .before .before .before .before .before .args in
-    fits-yes (a .line .now) (a .place) (listBytes (recordsIn (readOf handed (a .given .now)))) _ _ (whole (c .before .before) .1) (c .before .room .ensures) (c .if1 .taken)
+    fits-yes (a .line .now) (a .place) (listBytes (recordsIn (readOf inNumbers (a .given .now)))) _ _ (whole (c .before .before) .1) (c .before .room .ensures) (c .if1 .taken)
 
 sub-put-list : tie.Need-sub-put-list
 sub-put-list c = omega (arith, fit c)
@@ -46,7 +46,7 @@ returns : tie.Need-returns
 returns c =
     let tested = c .before .before .before .before in
     let a = tested .before .before .before .before .before .before .before .args in
-    let t = readOf handed (a .given .now) in
+    let t = readOf inNumbers (a .given .now) in
     let w = whole (tested .before .before) in
     meets-same (a .line .now) (a .place) (draftOf t) (Text (listBytes (recordsIn t))) _ _ (draft-text t (w .0))
     (meets-in (a .line .now) (a .place) (listBytes (recordsIn t)) _ _ (w .1) (tested .before .room .ensures) _ (tested .if1 .taken)
@@ -55,7 +55,7 @@ returns c =
 returns-2 : tie.Need-returns-2
 returns-2 c =
     let a = c .before .before .before .before .before .before .before .args in
-    let t = readOf handed (a .given .now) in
+    let t = readOf inNumbers (a .given .now) in
     let w = whole (c .before .before) in
     meets-same (a .line .now) (a .place) (draftOf t) (Text (listBytes (recordsIn t))) _ _ (draft-text t (w .0))
     (meets-out (a .line .now) (a .place) (listBytes (recordsIn t)) _ _ (w .1) (c .before .room .ensures) (c .if1 .left))
@@ -63,7 +63,7 @@ returns-2 c =
 returns-3 : tie.Need-returns-3
 returns-3 c =
     let a = c .before .before .before .before .before .args in
-    let t = readOf handed (a .given .now) in
+    let t = readOf inNumbers (a .given .now) in
     meets-none (a .line .now) (a .place) (draftOf t) _ (was-refused t _ (sym (c .before .e .given .1) ∙ c .before .before .before .measure .ensures))
 
 pub write-list-spec : {M : Type 1} → statement M

@@ -4,6 +4,7 @@ use Prim.Native.Nat.{_-_}
 use mathlib.Core.Path.{refl, sym, _∙_}
 use native.Mathlib.Omega.{arith}
 use borrow.Author.Needs.{needs}
+use Rattle.asking.specs.Table.{rowCount}
 use Rattle.asking.proofs.Named.{Seeking, seeking-found, seeking-turn, seeking-none}
 use Rattle.asking.proofs.table.row_named.Statement.{statement}
 use Rattle.asking.proofs.table.row_named.Tie as tie
@@ -12,7 +13,7 @@ abbrev Inv-loop : tie.InvT-loop
 Inv-loop word i₀ i = Seeking word i
 
 abbrev μ-loop : tie.MeasureT-loop
-μ-loop word i₀ i = 25 - i
+μ-loop word i₀ i = rowCount - i
 
 loop-holds : tie.Need-loop-holds Inv-loop μ-loop
 loop-holds c = record { within = omega arith; same-from = refl }

@@ -10,12 +10,14 @@ use Rattle.asking.proofs.words.is_room.Statement.{statement}
 use Rattle.asking.proofs.words.is_room.Tie as tie
 
 returns : tie.Need-returns
-returns c = room-below (c .before .before .args .z) (sym (ap isNeg (toZ-ofZ (c .before .before .fits .z))) ∙ sym (c .before .below-zero .ensures) ∙ c .if1 .taken)
+returns c =
+    let start = c .before .before in
+    room-below (start .args .most) (start .args .z) (sym (ap isNeg (toZ-ofZ (start .fits .z))) ∙ sym (c .before .below-zero .ensures) ∙ c .if1 .taken)
 
 returns-2 : tie.Need-returns-2
 returns-2 c =
     let start = c .before .before .before in
-    room-not (start .args .z) _
+    room-not (start .args .most) (start .args .z) _
     (sym (ap isNeg (toZ-ofZ (start .fits .z))) ∙ sym (c .before .before .below-zero .ensures) ∙ c .before .if1 .left)
     (c .magnitude .ensures ∙ ap natAbs (toZ-ofZ (start .fits .z)))
 

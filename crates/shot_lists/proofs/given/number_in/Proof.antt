@@ -1,4 +1,4 @@
--- `shot_lists::handed::number_in` meets its contract: past the end there is none.
+-- `shot_lists::given::number_in` meets its contract: past the end there is none.
 -- Assumes nothing.
 use mathlib.Core.Path.{_≡_, sym}
 use native.Mathlib.Omega.{arith}
@@ -6,8 +6,8 @@ use lib.IntN.{pos}
 use lib.ListN.{getD}
 use borrow.Author.Needs.{needs}
 use Rattle.shot_lists.proofs.ByKind.{past-end}
-use Rattle.shot_lists.proofs.handed.number_in.Statement.{statement}
-use Rattle.shot_lists.proofs.handed.number_in.Tie as tie
+use Rattle.shot_lists.proofs.given.number_in.Statement.{statement}
+use Rattle.shot_lists.proofs.given.number_in.Tie as tie
 
 returns-2 : tie.Need-returns-2
 returns-2 c = sym (past-end (c .before .args .given .now) (c .before .args .at) (c .if1 .left))

@@ -1,4 +1,4 @@
--- `shot_lists::handed::given_at` meets its contract: what speaks against the record, in its order, and the record itself.
+-- `shot_lists::given::given_at` meets its contract: what speaks against the record, in its order, and the record itself.
 -- Assumes nothing.
 use Prim.Native.Nat.{ℕ, _+_, _<_}
 use mathlib.Core.Path.{_≡_, sym, ap, _∙_}
@@ -9,10 +9,10 @@ use borrow.Author.Needs.{needs}
 use Rattle.numbers.specs.Sign.{upFrom}
 use mir.Syntax.{w64}
 use mir.Val.{toZ, ofZ}
-use Rattle.shot_lists.specs.Format.{bodyFixed, handed, ruled}
+use Rattle.shot_lists.specs.Format.{bodyFixed, inNumbers, ruled}
 use Rattle.shot_lists.specs.Laws.{entry-end, entry-unknown, entry-cut, entry-whole}
-use Rattle.shot_lists.proofs.handed.given_at.Statement.{statement}
-use Rattle.shot_lists.proofs.handed.given_at.Tie as tie
+use Rattle.shot_lists.proofs.given.given_at.Statement.{statement}
+use Rattle.shot_lists.proofs.given.given_at.Tie as tie
 
 inside : (c : tie.Else1) → let a = c .before .args in a .at < length (a .given .now)
 inside c = omega arith
@@ -33,20 +33,20 @@ body-is : (c : tie.After-body-fixed)
 body-is c = c .body-fixed .ensures ∙ ap (bodyFixed 1 2 1) (kind-is (c .before))
 
 returns : tie.Need-returns
-returns c = let a = c .before .args in sym (entry-end handed (a .held) (a .given .now) (a .at) (c .if1 .taken))
+returns c = let a = c .before .args in sym (entry-end inNumbers (a .held) (a .given .now) (a .at) (c .if1 .taken))
 
 returns-2 : tie.Need-returns-2
 returns-2 c =
     let a = c .before .before .before .before .before .args in
     sym
-    (entry-unknown handed (a .held) (a .given .now) (a .at) (pos 0) (inside (c .before .before .before .before)) (sym (body-is (c .before)) ∙ c .if2 .taken))
+    (entry-unknown inNumbers (a .held) (a .given .now) (a .at) (pos 0) (inside (c .before .before .before .before)) (sym (body-is (c .before)) ∙ c .if2 .taken))
 
 returns-3 : tie.Need-returns-3
 returns-3 c =
     let a = c .before .before .before .before .before .before .args in
     let body = body-is (c .before .before) in
     sym
-    (entry-cut handed (a .held) (a .given .now) (a .at) (pos 0) (inside (c .before .before .before .before .before)) (λ e. c .before .if2 .left (body ∙ e))
+    (entry-cut inNumbers (a .held) (a .given .now) (a .at) (pos 0) (inside (c .before .before .before .before .before)) (λ e. c .before .if2 .left (body ∙ e))
     (omega (arith, body)))
 
 returns-4 : tie.Need-returns-4
@@ -56,9 +56,9 @@ returns-4 c =
     let kind = kind-is (body .before) in
     c .rule .ensures
     ∙ ap (λ r. ruled (a .held) r (body .body-fixed .result + 1))
-    (c .before .from-numbers .ensures ∙ ap (λ (k : ℕ). handed .made k (drop (a .at + 1) (a .given .now))) kind)
+    (c .before .from-numbers .ensures ∙ ap (λ (k : ℕ). inNumbers .made k (drop (a .at + 1) (a .given .now))) kind)
     ∙ sym
-    (entry-whole handed (a .held) (a .given .now) (a .at) (pos 0) (inside (body .before .before .before)) (body .body-fixed .result) (body-is body)
+    (entry-whole inNumbers (a .held) (a .given .now) (a .at) (pos 0) (inside (body .before .before .before)) (body .body-fixed .result) (body-is body)
     (c .before .before .before .if2 .left) (c .before .before .if3 .left))
 
 pub given-at-spec : {M : Type 1} → statement M

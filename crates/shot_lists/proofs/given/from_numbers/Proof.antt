@@ -1,4 +1,4 @@
--- `shot_lists::handed::from_numbers` meets its contract: by the kind.
+-- `shot_lists::given::from_numbers` meets its contract: by the kind.
 -- Assumes nothing.
 use Prim.Native.Nat.{ℕ, _+_}
 use mathlib.Core.Path.{_≡_, sym, ap, ap₂, _∙_}
@@ -14,8 +14,8 @@ use mir.Facts.{toZ-ofZ}
 use Rattle.numbers.specs.Sign.{upFrom}
 use Rattle.shot_lists.specs.declared.records.Record.the-variants.{Rate, Shot, Reel}
 use Rattle.shot_lists.proofs.ByKind.{of-rate, of-shot, of-reel}
-use Rattle.shot_lists.proofs.handed.from_numbers.Statement.{statement}
-use Rattle.shot_lists.proofs.handed.from_numbers.Tie as tie
+use Rattle.shot_lists.proofs.given.from_numbers.Statement.{statement}
+use Rattle.shot_lists.proofs.given.from_numbers.Tie as tie
 
 -- the number at the place is the first behind it
 number : (c : tie.After-number-in)

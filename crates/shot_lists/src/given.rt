@@ -4,7 +4,7 @@ ghost use mathlib.Core.Path.{_≡_};
 ghost use Prim.Native.Nat.{_≤_};
 ghost use lib.ListN.{length, drop, getD};
 ghost use lib.IntN.{pos};
-ghost use Rattle.shot_lists.specs.Format.{handed, entryOf};
+ghost use Rattle.shot_lists.specs.Format.{inNumbers, entryOf};
 use crate::records;
 use crate::records::Entry;
 use crate::records::Record;
@@ -22,7 +22,7 @@ fn number_in(given: &[i64], at: usize) -> i64
 // The record of a kind, by the numbers from a place on. Asks a place of the numbers, or their end.
 fn from_numbers(given: &[i64], kind: u64, at: usize) -> Record
     requires within { ⌜ at ≤ length (now given) ⌝ }
-    ensures answer { λ r. ⌜ r ≡ handed .made kind (drop at (now (given .entry))) ⌝ }
+    ensures answer { λ r. ⌜ r ≡ inNumbers .made kind (drop at (now (given .entry))) ⌝ }
 {
     let x = number_in(given, at);
     if kind == 1 {
@@ -39,7 +39,7 @@ fn from_numbers(given: &[i64], kind: u64, at: usize) -> Record
 
 // The record at a place of the numbers, given the rate held (any number that is no rate: none is).
 pub fn given_at(given: &[i64], at: usize, held: u64) -> Entry
-    ensures answer { λ r. ⌜ r ≡ entryOf handed held (drop at (now (given .entry))) ⌝ }
+    ensures answer { λ r. ⌜ r ≡ entryOf inNumbers held (drop at (now (given .entry))) ⌝ }
 {
     if given.len() <= at {
         return Entry::End;
