@@ -60,6 +60,12 @@ use Rattle.exports.proofs.writes.tzq_write_footage as tzq-write-footage
 use Rattle.exports.proofs.writes.tzq_write_footage.Reads as tzq-write-footage-reads
 use Rattle.exports.proofs.writes.tzq_write_runtime as tzq-write-runtime
 use Rattle.exports.proofs.writes.tzq_write_runtime.Reads as tzq-write-runtime-reads
+use Rattle.exports.proofs.lists.tzq_record_at as tzq-record-at
+use Rattle.exports.proofs.lists.tzq_record_at.Reads as tzq-record-at-reads
+use Rattle.exports.proofs.lists.tzq_check_list as tzq-check-list
+use Rattle.exports.proofs.lists.tzq_check_list.Reads as tzq-check-list-reads
+use Rattle.exports.proofs.lists.tzq_write_list as tzq-write-list
+use Rattle.exports.proofs.lists.tzq_write_list.Reads as tzq-write-list-reads
 
 pub tzq-read-determined : Determined tzq-read.ended tzq-read-reads.Asked tzq-read-reads.Learnt
 tzq-read-determined κs a asked x y p q = ap (λ z. (z, x .1)) (p ∙ sym q)
@@ -148,3 +154,13 @@ tzq-write-footage-determined κs a asked x y p q =
 pub tzq-write-runtime-determined : Determined tzq-write-runtime.ended tzq-write-runtime-reads.Asked tzq-write-runtime-reads.Learnt
 tzq-write-runtime-determined κs a asked x y p q =
     ap (λ z. (z, x .1)) (p .0 ∙ sym (q .0)) ∙ ap (λ z. (y .0, (x .1 .0, (x .1 .1 .0, (z, x .1 .1 .1 .1))))) (p .1 ∙ sym (q .1))
+
+pub tzq-record-at-determined : Determined tzq-record-at.ended tzq-record-at-reads.Asked tzq-record-at-reads.Learnt
+tzq-record-at-determined κs a asked x y p q = ap (λ z. (z, x .1)) (p ∙ sym q)
+
+pub tzq-check-list-determined : Determined tzq-check-list.ended tzq-check-list-reads.Asked tzq-check-list-reads.Learnt
+tzq-check-list-determined κs a asked x y p q = ap (λ z. (z, x .1)) (p ∙ sym q)
+
+pub tzq-write-list-determined : Determined tzq-write-list.ended tzq-write-list-reads.Asked tzq-write-list-reads.Learnt
+tzq-write-list-determined κs a asked x y p q =
+    ap (λ z. (z, x .1)) (p .0 ∙ sym (q .0)) ∙ ap (λ z. (y .0, (x .1 .0, (z, x .1 .1 .1)))) (p .1 ∙ sym (q .1))

@@ -105,7 +105,7 @@ pub struct TzqFormat {
 }
 
 // A byte as a number.
-fn wide(n: u8) -> u64
+pub(crate) fn wide(n: u8) -> u64
     ensures answer { λ r. ⌜ r ≡ n ⌝ }
 {
     n as u64
