@@ -1,4 +1,4 @@
-/* Tzaquedda for C: timecode, feet and frames, runtimes, ticks and seconds as frame counts at twelve rates.
+/* Tzaquedda for C: timecode, feet and frames, runtimes, ticks and seconds as frame counts at twelve rates, and shot lists.
  *
  * Link with the static library that `bin/prove --library exports` makes (target/staticlib/libexports.a, x86-64 Linux):
  *
@@ -14,7 +14,8 @@
  *
  * Each answer begins with `refused`: 0, or one of the numbers below, and then every other number of the answer is 0 (but the place in
  * the text that tzq_read and tzq_read_as answer with 1 and 2), a fraction 0/1, and no byte of the line has changed. Of several refusals
- * the first is given in the order 6, 5 (of an input), 7, 1, 2, 4, 3, 5 (of the resulting count), 8.
+ * the first is given in the order 6, 5 (of an input), 7, 1, 2, 4, 3, 5 (of the resulting count), 8; of a shot list the earliest record at
+ * fault decides, and for a record the order is 9, 10, 6, 5, 11, 12; where a list is written, 8 comes last.
  */
 #ifndef TZAQUEDDA_H
 #define TZAQUEDDA_H
@@ -37,7 +38,11 @@ enum {
     TZQ_OUT_OF_BOUNDS = 5, /* an input number or the resulting count is outside its bounds */
     TZQ_NO_SUCH = 6,       /* no such rate (1 to 12) or film format (1 to 4) */
     TZQ_ZERO_DIVISOR = 7,  /* the divisor is zero */
-    TZQ_NO_ROOM = 8        /* place plus text length exceeds the line's length */
+    TZQ_NO_ROOM = 8,       /* place plus the length of what is written exceeds the line's length */
+    TZQ_NO_SUCH_KIND = 9,  /* a record of a shot list has no such kind (1 to 3) */
+    TZQ_CUT_SHORT = 10,    /* the body of a record is cut short */
+    TZQ_NO_RATE_YET = 11,  /* a shot before any rate */
+    TZQ_END_BEFORE_FIRST = 12 /* a shot's end before its first frame */
 };
 
 /* ---- Numbers that are passed and answered ---- */
@@ -81,6 +86,20 @@ typedef struct {
     uint64_t perfs_per_frame, perfs_per_foot;
     bool perf_field; /* whether a footage of this format may have a perf field */
 } tzq_format_facts;
+
+/* A record of a shot list: kind 1 a rate, 2 a shot, 3 a reel, with its own numbers by name, the rate that is held behind it, and how many
+ * bytes it has. Kind 0 with refused 0: the list is over. Numbers that are not the record's own are 0. */
+typedef struct {
+    uint64_t refused;
+    uint64_t kind;
+    uint64_t rate;      /* kind 1: the rate, 1 to 12 */
+    int64_t first, end; /* kind 2: first frame and end frame, the end not included */
+    uint64_t reel;      /* kind 3: the reel, 0 to 4294967295 */
+    uint64_t held;      /* the rate that is held behind the record; 0: none yet */
+    size_t size;        /* the next record begins so many bytes on */
+} tzq_record;
+
+typedef struct { uint64_t refused; size_t records; } tzq_checked;
 
 /* ---- Reading ---- */
 
@@ -175,6 +194,32 @@ tzq_count tzq_abs(tzq_timecode tc);
 
 /* The same count, taken at another rate. Refuses 6: either rate; 5: the count. */
 tzq_count tzq_rebase(tzq_timecode tc, uint64_t rate);
+
+/* ---- Shot lists: records one after the other, each a byte of kind and a body whose length the kind fixes ----
+ *
+ *     kind 1, a rate:  1 byte
+ *     kind 2, a shot:  8 bytes, first frame and end frame, each signed 32-bit, low byte first; the end is not included
+ *     kind 3, a reel:  4 bytes, unsigned 32-bit, low byte first
+ *
+ * A rate holds until the next one. Equal first and end is an empty shot, no byte at all an empty list; both are allowed. */
+
+/* The record at byte `at` of a list, given the rate held: 0 before the first record, then what the record before it answered (any number
+ * that is no rate counts as none). At or past the list's end: kind 0. To walk a list:
+ *     for (r = tzq_record_at(list, length, at = 0, 0); r.kind; r = tzq_record_at(list, length, at += r.size, r.held)) ..
+ * after which r.refused says whether the walk came to the end (0) or to a record at fault.
+ * Refuses 9, 10, 6, 5, 11, 12. */
+tzq_record tzq_record_at(const uint8_t *list, size_t length, size_t at, uint64_t held);
+
+/* How many records a list has, all of them tested, in time proportional to its length.
+ * Refuses what its earliest record at fault is refused: 9, 10, 6, 5, 11, 12; never 8. */
+tzq_checked tzq_check_list(const uint8_t *list, size_t length);
+
+/* Writes a list from `place` on. It is handed over in `count` numbers: for each record its kind and then its own numbers, 1 RATE, 2 FIRST
+ * END or 3 REEL. The whole list is tested before a byte is written. Answers how many bytes it has.
+ * Refuses what the earliest record at fault is refused, 9 (any other kind), 10 (its numbers are cut short), 6, 5 (a frame past
+ * 400,000,000 either side of zero, a reel that is no unsigned 32-bit number), 11, 12; then 8: place plus the list's length exceeds
+ * `length`. */
+tzq_length tzq_write_list(const int64_t *numbers, size_t count, uint8_t *line, size_t length, size_t place);
 
 /* ---- The constant tables ---- */
 

@@ -181,10 +181,67 @@ static void tables(void) {
     counted("minute 1440", tzq_minute_start(1440));
 }
 
+/* a list record by record, as a loader walks it */
+static void walk(const uint8_t *list, size_t length) {
+    size_t at = 0;
+    tzq_record r = tzq_record_at(list, length, at, 0);
+    for (; r.kind; r = tzq_record_at(list, length, at += r.size, r.held)) {
+        if (r.kind == 1)
+            printf(" rate %" PRIu64, r.rate);
+        else if (r.kind == 2)
+            printf(" shot %" PRId64 " %" PRId64 " at rate %" PRIu64, r.first, r.end, r.held);
+        else
+            printf(" reel %" PRIu64, r.reel);
+    }
+    if (r.refused)
+        printf(" refused %" PRIu64 " at byte %zu\n", r.refused, at);
+    else
+        printf(" end at byte %zu\n", at);
+}
+
+static void check(const uint8_t *list, size_t length) {
+    tzq_checked c = tzq_check_list(list, length);
+    printf("list of %zu bytes: %" PRIu64 " %zu:", length, c.refused, c.records);
+    walk(list, length);
+}
+
+static void write_list(const int64_t *numbers, size_t count, size_t room, size_t place) {
+    uint8_t line[32];
+    tzq_length a = tzq_write_list(numbers, count, dots(line, sizeof line), room, place);
+    printf("write: %" PRIu64 " %zu ", a.refused, a.length);
+    for (size_t i = 0; i < room; i++)
+        printf("%02x", line[i]);
+    printf("\n");
+}
+
+/* README's list: reel 7, rate 5, a shot of 110 frames, an empty one */
+static void lists(void) {
+    static const uint8_t list[] = {3, 7, 0, 0, 0, 1, 5, 2, 0xf6, 0xff, 0xff, 0xff, 100, 0, 0, 0, 2, 100, 0, 0, 0, 100, 0, 0, 0};
+    check(list, sizeof list);
+    check(list, 0);
+    check(list, 20);     /* a body cut short: 10 */
+    check(list + 7, 9);  /* a shot before any rate: 11 */
+    static const uint8_t unknown[] = {1, 5, 4};
+    check(unknown, sizeof unknown);
+    static const int64_t records[] = {3, 7, 1, 5, 2, -10, 100, 2, 100, 100};
+    write_list(records, 10, 32, 2);
+    write_list(records, 10, 27, 2);
+    write_list(records, 10, 26, 2); /* one byte short: 8, and nothing is written */
+    write_list(records, 9, 32, 0);  /* the last shot's end is missing: 10 */
+    static const int64_t wrong[] = {1, 300, 2, 5, 4};
+    write_list(wrong, 5, 8, 0);
+    write_list(wrong + 2, 3, 8, 0);
+    static const int64_t backward[] = {1, 2, 2, 5, 4};
+    write_list(backward, 5, 8, 0);
+    static const int64_t reel[] = {3, 4294967296};
+    write_list(reel, 2, 8, 0);
+}
+
 int main(void) {
     texts();
     times();
     arithmetic();
     tables();
+    lists();
     return 0;
 }

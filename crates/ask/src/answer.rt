@@ -1,6 +1,7 @@
 // The answer to a line: by the row of its command (asking's table).
 ghost use Prim.Native.Nat.{_≤_};
 use crate::convert;
+use crate::lists;
 use crate::read;
 use crate::sheet;
 use crate::work;
@@ -29,10 +30,12 @@ fn to_line(line: &[u8], out: &mut [u8], used: usize) -> usize {
     let v = a.values;
     let n = asking::numbers_of(v);
     let tc = timecodes::new(n.n2, n.up1);
-    if write::writes(row) {
-        return write::written(row, tc, n, out, used);
+    match row {
+        rows::LABEL..=rows::RUNTIME => write::written(row, tc, n, out, used),
+        rows::READ_LIST => lists::read_list(line, a.rest, out, used),
+        rows::WRITE_LIST => lists::write_list(n, line, a.rest, out, used),
+        _ => showing::show(out, used, shown(row, tc, n, line, a.rest)),
     }
-    showing::show(out, used, shown(row, tc, n, line, a.rest))
 }
 
 // How many bytes the buffer has of a line that it could hold; 0 of another. (That more is kept than it holds cannot be.)

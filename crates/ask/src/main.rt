@@ -7,6 +7,7 @@ use streams::Step;
 
 mod answer;
 mod convert;
+mod lists;
 mod read;
 mod sheet;
 mod work;

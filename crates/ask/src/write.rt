@@ -5,14 +5,6 @@ use asking::rows;
 use timecodes::Timecode;
 use written::Written;
 
-// Is this the row of such a command?
-pub(crate) fn writes(row: usize) -> bool {
-    match row {
-        rows::LABEL..=rows::RUNTIME => true,
-        _ => false,
-    }
-}
-
 // RATE COUNT PLACE, FORMAT RATE COUNT PLACE, RATE COUNT PRECISION PLACE: the text, laid into the line.
 fn laid(row: usize, tc: Timecode, n: Numbers, line: &mut [u8]) -> Written {
     match row {

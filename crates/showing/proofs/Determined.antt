@@ -22,6 +22,10 @@ use Rattle.showing.proofs.show as show
 use Rattle.showing.proofs.show.Reads as show-reads
 use Rattle.showing.proofs.show_written as show-written
 use Rattle.showing.proofs.show_written.Reads as show-written-reads
+use Rattle.showing.proofs.show_written_hex as show-written-hex
+use Rattle.showing.proofs.show_written_hex.Reads as show-written-hex-reads
+use Rattle.showing.proofs.lists.show_list as show-list
+use Rattle.showing.proofs.lists.show_list.Reads as show-list-reads
 
 pub only-word-determined : Determined only-word.ended only-word-reads.Asked only-word-reads.Learnt
 only-word-determined κs a asked x y p q = ap (λ z. (z, x .1)) (p ∙ sym q)
@@ -52,3 +56,9 @@ show-determined κs a asked x y p q = ap (λ z. (z, x .1)) (p .0 ∙ sym (q .0))
 
 pub show-written-determined : Determined show-written.ended show-written-reads.Asked show-written-reads.Learnt
 show-written-determined κs a asked x y p q = ap (λ z. (z, x .1)) (p .0 ∙ sym (q .0)) ∙ ap (λ z. (y .0, (z, x .1 .1))) (p .1 ∙ sym (q .1))
+
+pub show-written-hex-determined : Determined show-written-hex.ended show-written-hex-reads.Asked show-written-hex-reads.Learnt
+show-written-hex-determined κs a asked x y p q = ap (λ z. (z, x .1)) (p .0 ∙ sym (q .0)) ∙ ap (λ z. (y .0, (z, x .1 .1))) (p .1 ∙ sym (q .1))
+
+pub show-list-determined : Determined show-list.ended show-list-reads.Asked show-list-reads.Learnt
+show-list-determined κs a asked x y p q = ap (λ z. (z, x .1)) (p .0 ∙ sym (q .0)) ∙ ap (λ z. (y .0, (z, x .1 .1))) (p .1 ∙ sym (q .1))

@@ -1,3 +1,4 @@
 pub mod Putting
+pub mod ListPutting
 pub mod Statements
 pub mod Determined

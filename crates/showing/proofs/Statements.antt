@@ -7,16 +7,21 @@ use mathlib.Core.Bool.{Bool, true, false, cond}
 use native.Mathlib.Omega.{arith}
 use lib.Dec.{eqb}
 use lib.ListN.{length, length-append}
+use Rattle.digits.specs.Digits.{decimal, digitsOf, width, widthBy}
 use Rattle.written.specs.declared.Written.{Written}
 use Rattle.written.specs.declared.Written.the-variants.{Length, Refused}
 use Rattle.written.specs.Parts.{signedText}
+use Rattle.shot_lists.specs.declared.records.Record.{Record}
+use Rattle.shot_lists.specs.declared.records.Record.the-variants.{Rate, Shot, Reel}
 use Rattle.streams.specs.Sheet.{Sheet, textOn, putOn}
 use Rattle.streams.proofs.Putting.{Laid, put-is}
+use Rattle.hex.specs.Hex.{hexText}
 use Rattle.asking.specs.Table.{spelt}
 use Rattle.showing.specs.declared.Shown.{Shown}
 use Rattle.showing.specs.Shown.{countText, wordText, helpText, saidText, secondText, partsText, shownText, lengthText, writtenText, wordOn, saidOn, secondOn, firstOn, partsOn, shownOn, lengthOn, writtenOn}
 use Rattle.showing.specs.Each.{ofRefusal}
-use Rattle.showing.specs.Statements.{ShownLine, WrittenLine, TextRefusedShown}
+use Rattle.showing.specs.Lists.{recordText, recordsText, listText, numberedOn, framesOn, recordOn, recordsOn, listOn}
+use Rattle.showing.specs.Statements.{ShownLine, WrittenLine, HexWrittenLine, TextRefusedShown, ListLine, ListRefusedLine, ListWords}
 
 -- ---- texts one behind the other
 laid-none : (s : Sheet) → Laid s s []
@@ -118,7 +123,54 @@ written-line s w line h =
     let laid = laid-put s (putOn (putOn (lengthOn s w) (32 ∷ [])) line) (t ++ (32 ∷ line)) (10 ∷ []) two (omega (arith, h, ap length same)) in
     laid .is ∙ ap (λ z. textOn s ++ z) same
 
+pub hex-written-line : HexWrittenLine
+hex-written-line s w line h = written-line s w (hexText line) h
+
 -- ---- a text that is refused
 pub text-refused-shown : TextRefusedShown
 unfolding wordText partsText shownText
 text-refused-shown e = refl
+
+-- ---- a shot list
+numbered-laid : (s : Sheet) (word : List ℕ) (n : ℕ) → s .used + length (word ++ signedText false n) ≤ length (s .bytes)
+    → Laid s (numberedOn s word n) (word ++ signedText false n)
+unfolding numberedOn
+numbered-laid s word n h =
+    laid-put s (putOn s word) word (signedText false n) (put-is s word (omega (arith, h, length-append word (signedText false n)))) h
+
+record-laid : (s : Sheet) (r : Record) → s .used + length (recordText r) ≤ length (s .bytes) → Laid s (recordOn s r) (recordText r)
+unfolding recordText framesOn
+record-laid s (Rate n) h = numbered-laid s (spelt " rate ") n h
+record-laid s (Shot first end) h =
+    let w = spelt " shot " in
+    let x = countText first in
+    marked-laid s (putOn (putOn s w) x) w x (countText end) 32 (λ k. laid-put s (putOn s w) w x (put-is s w (omega (arith, k, length-append w x))) k) h
+record-laid s (Reel n) h = numbered-laid s (spelt " reel ") n h
+
+records-laid : (s : Sheet) (rs : List Record) → s .used + length (recordsText rs) ≤ length (s .bytes) → Laid s (recordsOn s rs) (recordsText rs)
+unfolding recordsText recordsOn
+records-laid s [] h = laid-none s
+records-laid s (r ∷ rs) h =
+    let t = recordText r in
+    let u = recordsText rs in
+    let one = record-laid s r (omega (arith, h, length-append t u)) in
+    laid-two s (recordOn s r) (recordsOn (recordOn s r) rs) t u one
+    (records-laid (recordOn s r) rs (omega (arith, h, one .more, one .long, length-append t u)))
+
+pub list-line : ListLine
+unfolding listText listOn
+list-line s rs h =
+    let n = signedText false (length rs) in
+    let t = recordsText rs in
+    let all : length ((n ++ t) ++ (10 ∷ [])) ≡ length n + length t + 1 = simp length-append (omega arith) in
+    let one = put-is s n (omega (arith, h, all)) in
+    let two = records-laid (putOn s n) rs (omega (arith, h, all, one .more, one .long)) in
+    laid-put s (recordsOn (putOn s n) rs) (n ++ t) (10 ∷ []) (laid-two s (putOn s n) (recordsOn (putOn s n) rs) n t one two) h .is
+
+pub list-refused-line : ListRefusedLine
+unfolding wordText partsText shownText listOn
+list-refused-line s e h = shown-line s (ofRefusal e) h
+
+pub list-words : ListWords
+unfolding listText recordsText recordText decimal digitsOf width widthBy
+list-words = (refl, refl)

@@ -1,3 +1,4 @@
 pub mod Each
 pub mod Shown
+pub mod Lists
 pub mod Statements

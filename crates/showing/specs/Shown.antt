@@ -10,6 +10,7 @@ use Rattle.written.specs.declared.Written.{Written}
 use Rattle.written.specs.declared.Written.the-variants.{Length, Refused}
 use Rattle.written.specs.Parts.{signedText}
 use Rattle.streams.specs.Sheet.{Sheet, putOn}
+use Rattle.hex.specs.Hex.{hexText}
 use Rattle.asking.specs.Table.{spelt}
 use Rattle.showing.specs.declared.Shown.{Shown}
 use Rattle.showing.specs.Each.{ofRefusal}
@@ -48,7 +49,9 @@ helpText =
     ∷ spelt "neg, abs RATE COUNT: COUNT" ++ (10
     ∷ spelt "rebase RATE COUNT RATE: COUNT" ++ (10
     ∷ spelt "convert RATE COUNT RATE ..: COUNT RATE" ++ (10
-    ∷ spelt "A refusal is: refused N; of read and read_as: refused N PLACE")))))))))))))))))))
+    ∷ spelt "read_list HEX: N RECORDS" ++ (10
+    ∷ spelt "write_list PLACE ROOM RECORDS: LENGTH HEX" ++ (10
+    ∷ spelt "A refusal is: refused N; of read and read_as: refused N PLACE")))))))))))))))))))))
 
 -- a word alone
 unfoldable pub saidText : (word : ℕ) → List ℕ
@@ -108,3 +111,7 @@ lengthOn s (Refused e) = partsOn s (ofRefusal e)
 
 unfoldable pub writtenOn : Sheet → Written → (line : List ℕ) → Sheet
 writtenOn s w line = putOn (putOn (putOn (lengthOn s w) (32 ∷ [])) line) (10 ∷ [])
+
+-- the same with the line as HEX
+abbrev pub hexWrittenOn : Sheet → Written → (line : List ℕ) → Sheet
+hexWrittenOn s w line = writtenOn s w (hexText line)

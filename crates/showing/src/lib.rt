@@ -2,10 +2,11 @@
 ghost use mathlib.Core.Path.{_≡_};
 ghost use Rattle.streams.specs.Sheet.{sheet, putOn};
 ghost use Rattle.showing.specs.Each.{onlyWord, oneNumber, twoNumbers};
-ghost use Rattle.showing.specs.Shown.{countText, helpText, wordOn, saidOn, secondOn, partsOn, shownOn, lengthOn, writtenOn};
+ghost use Rattle.showing.specs.Shown.{countText, helpText, wordOn, saidOn, secondOn, partsOn, shownOn, lengthOn, writtenOn, hexWrittenOn};
 use written::Written;
 
 mod each;
+mod lists;
 
 pub use each::of_answer;
 pub use each::of_compared;
@@ -14,6 +15,7 @@ pub use each::of_counted;
 pub use each::of_read;
 pub use each::of_ticked;
 pub use each::of_timed;
+pub use lists::show_list;
 
 // What is shown: a word (`l` label, `f` footage, `r` refused, `h` the commands in short, `?` not understood, 0 none), and behind it so many
 // numbers, two of them with a mark between them.
@@ -112,6 +114,8 @@ div, rem RATE COUNT N: COUNT
 neg, abs RATE COUNT: COUNT
 rebase RATE COUNT RATE: COUNT
 convert RATE COUNT RATE ..: COUNT RATE
+read_list HEX: N RECORDS
+write_list PLACE ROOM RECORDS: LENGTH HEX
 A refusal is: refused N; of read and read_as: refused N PLACE",
     )
 }
@@ -180,5 +184,16 @@ pub fn show_written(out: &mut [u8], used: usize, w: Written, line: &[u8]) -> usi
     let a = put_length(out, used, w);
     let b = streams::put_byte(out, a, b' ');
     let c = streams::put_text(out, b, line);
+    streams::put_byte(out, c, b'\n')
+}
+
+// The answer of a writer of bytes as a line behind what the sheet has, with the whole line that it wrote into as HEX; and how much it has then.
+pub fn show_written_hex(out: &mut [u8], used: usize, w: Written, line: &[u8]) -> usize
+    ensures answer { λ r. ⌜ r ≡ hexWrittenOn (sheet (now (out .entry)) used) w (now (line .entry)) .used ⌝ }
+    ensures sheet { λ r. ⌜ now (out .exit) ≡ hexWrittenOn (sheet (now (out .entry)) used) w (now (line .entry)) .bytes ⌝ }
+{
+    let a = put_length(out, used, w);
+    let b = streams::put_byte(out, a, b' ');
+    let c = hex::put(out, b, line);
     streams::put_byte(out, c, b'\n')
 }
