@@ -270,11 +270,11 @@ def jobs(quick):
 def again(command, answer):
     """What was read, to be written again, and the answer that has the same bytes."""
     word, _, rest = command.partition(b" ")
-    if word != b"read_list" or not answer[:1].isdigit() or len(answer) > 2_000:
+    if word != b"read_list" or not answer[:1].isdigit():
         return None
     data = b"" if rest == b"-" else bytes.fromhex(rest.decode())
-    left = answer.split(b" ", 1)[1:]
-    return b" ".join([b"write_list 0 %d" % min(1024, len(data)), *left]), b"%d %s" % (len(data), shown(data))
+    made = b" ".join([b"write_list 0 %d" % len(data), *answer.split(b" ", 1)[1:]])
+    return (made, b"%d %s" % (len(data), shown(data))) if len(data) <= 1024 and len(made) <= 4096 else None
 
 
 def work(job):
@@ -284,10 +284,10 @@ def work(job):
     asked = list(dict.fromkeys(make(*arguments)))
     answers = list(comparison.answers(ask, asked))
     wrong = [(command, ours, wanted) for command, ours in zip(asked, answers) if ours != (wanted := right(command))]
-    back = [made for command, ours in zip(asked, answers) if (made := again(command, ours)) and len(made[1]) < 2_040]
-    for (command, wanted), ours in zip(back, comparison.answers(ask, [command for command, _ in back])):
-        if ours != wanted:
-            wrong.append((command, ours, wanted))
+    back = [made for command, ours in zip(asked, answers) if (made := again(command, ours))]
+    if back:
+        read_back = zip(back, comparison.answers(ask, [command for command, _ in back]))
+        wrong += [(command, ours, wanted) for (command, wanted), ours in read_back if ours != wanted]
     return len(asked) + len(back), wrong
 
 
