@@ -60,7 +60,13 @@ fn written_list(l: Listed, given: &[i64], n: Numbers, out: &mut [u8], used: usiz
 }
 
 // PLACE ROOM, and the records as words from a place of the line on.
-pub(crate) fn write_list(n: Numbers, line: &[u8], from: usize, out: &mut [u8], used: usize) -> usize {
+pub(crate) fn write_list(
+    n: Numbers,
+    line: &[u8],
+    from: usize,
+    out: &mut [u8],
+    used: usize,
+) -> usize {
     let mut given = [0i64; 1400];
     let l = asking::records(line, from, &mut given);
     written_list(l, &given, n, out, used)

@@ -1,7 +1,7 @@
 -- A record and its bytes: a body of the grammar is read as its record, whatever stands behind it, and what is read is a body of the grammar.
 -- Assumes nothing.
 use Prim.Native.Nat.{ℕ, suc, _+_, _≤_, _<_}
-use mathlib.Core.Path.{_≡_, refl, sym, ap, ap₂, _∙_}
+use mathlib.Core.Path.{_≡_, refl, sym, ap, ap₂, _∙_, subst}
 use mathlib.Core.List.{List, [], _∷_, _++_, append-assoc}
 use mathlib.Core.Bool.{Bool, true, false, cond}
 use native.Mathlib.Omega.{arith}
@@ -15,9 +15,10 @@ use Rattle.low_bytes.specs.Laws.{bytes-take, bytes-drop}
 use Rattle.low_bytes.proofs.Statements.{unsigned-one, signed-one}
 use Rattle.shot_lists.specs.declared.records.Record.{Record}
 use Rattle.shot_lists.specs.declared.records.Record.the-variants.{Rate, Shot, Reel}
-use Rattle.shot_lists.specs.Grammar.{kindByte, BodyOf}
-use Rattle.shot_lists.specs.Format.{bodyFixed, ofKind, onDisk}
-use Rattle.shot_lists.specs.Laws.{Spells}
+use Rattle.shot_lists.specs.declared.records.Entry.the-variants.{Taken}
+use Rattle.shot_lists.specs.Grammar.{kindByte, BodyOf, OneOnDisk}
+use Rattle.shot_lists.specs.Format.{bodyFixed, ofKind, onDisk, entryOf}
+use Rattle.shot_lists.specs.Laws.{Spells, taken-told}
 use Rattle.shot_lists.specs.Statements.{KindFixes}
 
 pub kind-fixes : KindFixes
@@ -50,16 +51,16 @@ body-some (Rate n) = omega arith
 body-some (Shot first end) = omega arith
 body-some (Reel n) = omega arith
 
-pub body-spells : (r : Record) (body : List ℕ) → BodyOf r body → Spells onDisk r (kindByte r ∷ body)
-body-spells r body b =
-    let long = kind-fixes r body b in
+pub disk-spells : (r : Record) (part : List ℕ) → OneOnDisk r part → Spells onDisk r part
+disk-spells r part one =
+    let long = kind-fixes r (one .body) (one .of) in
     record {
       head = kindByte r;
-      body = body;
-      is = refl;
+      body = one .body;
+      is = one .is;
       fixed = sym long;
       some = omega (arith, body-some r);
-      made = made-back r body b;
+      made = made-back r (one .body) (one .of);
     }
 
 -- ---- and has one form
@@ -106,6 +107,16 @@ module _ (k : ℕ) (l : List ℕ) (bytes : Bytes l) where
       (eqb-true k 3 g, record { long = length-take-le 4 l room; bytes = bytes-take 4 l bytes; is = refl })
   there-by false false false e f g known room = absurd (known refl)
 
-  pub body-there : (onDisk .body k ≡ 0 → ⊥) → onDisk .body k ≤ length l → there (onDisk .made k l) (onDisk .body k)
+  body-there : (onDisk .body k ≡ 0 → ⊥) → onDisk .body k ≤ length l → there (onDisk .made k l) (onDisk .body k)
   unfolding bodyFixed ofKind
   body-there known room = there-by (eqb k 1) (eqb k 2) (eqb k 3) refl refl refl known room
+
+  pub disk-spelt : (held : ℕ) (r : Record) (after size : ℕ) → entryOf onDisk held (k ∷ l) ≡ Taken r after size → OneOnDisk r (take size (k ∷ l))
+  disk-spelt held r after size h =
+      let t = taken-told onDisk held k l r after size h in
+      let stands : there r (onDisk .body k) = subst (λ (x : Record). there x (onDisk .body k)) (t .made) (body-there (t .known) (t .whole)) in
+      record {
+        body = take (onDisk .body k) l;
+        is = ap (λ (n : ℕ). take n (k ∷ l)) (t .long) ∙ ap (λ (b : ℕ). b ∷ take (onDisk .body k) l) (stands .0);
+        of = stands .1;
+      }

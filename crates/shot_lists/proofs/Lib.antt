@@ -1,6 +1,7 @@
 pub mod ByKind
 pub mod Counting
 pub mod Bodies
+pub mod OwnNumbers
 pub mod Exactly
 pub mod Numbers
 pub mod OneWay

@@ -7,7 +7,7 @@ use native.Mathlib.Omega.{arith}
 use lib.ListN.{length, drop}
 use lib.Seq.{drop-at}
 use Rattle.shot_lists.specs.declared.records.Record.{Record}
-use Rattle.shot_lists.specs.Grammar.{kindByte, BodyOf, OnDisk, none, more}
+use Rattle.shot_lists.specs.Grammar.{none, more, kindByte, BodyOf, OneOnDisk, OnDisk}
 use Rattle.shot_lists.specs.Format.{onDisk}
 use Rattle.shot_lists.specs.Statements.{OneList, OneBytes}
 use Rattle.shot_lists.proofs.Bodies.{kind-fixes, made-back, body-one}
@@ -40,16 +40,27 @@ module _ (r s : Record) (b c l m : List ℕ) (of : BodyOf r b) (os : BodyOf s c)
       ∙ ap (λ (n : ℕ). drop n (c ++ m)) long
       ∙ drop-at c m (length c) refl
 
+-- the same of two parts of the grammar
+alike : (r s : Record) (p q l m : List ℕ) → OneOnDisk r p → OneOnDisk s q → p ++ l ≡ q ++ m → (r ≡ s) × (l ≡ m)
+alike r s p q l m one two e =
+    let f = sym (ap (λ (x : List ℕ). x ++ l) (one .is)) ∙ e ∙ ap (λ (x : List ℕ). x ++ m) (two .is) in
+    (same-record r s (one .body) (two .body) l m (one .of) (two .of) f, same-behind r s (one .body) (two .body) l m (one .of) (two .of) f)
+
+part-some : (r : Record) (p l : List ℕ) → OneOnDisk r p → p ++ l ≡ [] → ⊥
+part-some r p l one e = let f = sym (ap (λ (x : List ℕ). x ++ l) (one .is)) ∙ e in omega (arith, ap length f)
+
 two-lists : (rs ss : List Record) (l m : List ℕ) → OnDisk rs l → OnDisk ss m → l ≡ m → rs ≡ ss
 two-lists rs ss l m none none e = refl
-two-lists rs ss l m none (more s c ss₂ behind os later) e = let z : _≡_ {A = ℕ} 0 1 = cc in absurd (omega arith)
-two-lists rs ss l m (more r b rs₂ behind of later) none e = let z : _≡_ {A = ℕ} 0 1 = cc in absurd (omega arith)
-two-lists rs ss l m (more r b rs₂ behind of later) (more s c ss₂ behind₂ os later₂) e =
-    ap₂ _∷_ (same-record r s b c behind behind₂ of os e)
-    (two-lists rs₂ ss₂ behind behind₂ later later₂ (same-behind r s b c behind behind₂ of os e))
+two-lists rs ss l m none (more s q ss₂ behind two later) e = absurd (part-some s q behind two (sym e))
+two-lists rs ss l m (more r p rs₂ behind one later) none e = absurd (part-some r p behind one e)
+two-lists rs ss l m (more r p rs₂ behind one later) (more s q ss₂ behind₂ two later₂) e =
+    let same = alike r s p q behind behind₂ one two e in
+    ap₂ _∷_ (same .0) (two-lists rs₂ ss₂ behind behind₂ later later₂ (same .1))
 
 pub one-list : OneList
 one-list l rs ss p q = two-lists rs ss l l p q refl
+
+-- ---- and the other way
 
 record-same : (r s : Record) (rs ss : List Record) → r ∷ rs ≡ s ∷ ss → r ≡ s
 record-same r s rs ss e = cc
@@ -57,14 +68,18 @@ record-same r s rs ss e = cc
 records-same : (r s : Record) (rs ss : List Record) → r ∷ rs ≡ s ∷ ss → rs ≡ ss
 records-same r s rs ss e = cc
 
+part-one : (r s : Record) (p q : List ℕ) → OneOnDisk r p → OneOnDisk s q → r ≡ s → p ≡ q
+part-one r s p q one two same =
+    one .is
+    ∙ ap₂ _∷_ (ap kindByte same) (body-one s (one .body) (two .body) (subst (λ (x : Record). BodyOf x (one .body)) same (one .of)) (two .of))
+    ∙ sym (two .is)
+
 two-forms : (rs ss : List Record) (l m : List ℕ) → OnDisk rs l → OnDisk ss m → rs ≡ ss → l ≡ m
 two-forms rs ss l m none none e = refl
-two-forms rs ss l m none (more s c ss₂ behind os later) e = let z : _≡_ {A = ℕ} 0 1 = cc in absurd (omega arith)
-two-forms rs ss l m (more r b rs₂ behind of later) none e = let z : _≡_ {A = ℕ} 0 1 = cc in absurd (omega arith)
-two-forms rs ss l m (more r b rs₂ behind of later) (more s c ss₂ behind₂ os later₂) e =
-    let same = record-same r s rs₂ ss₂ e in
-    let body = body-one s b c (subst (λ (x : Record). BodyOf x b) same of) os in
-    ap₂ _∷_ (ap kindByte same) (ap₂ _++_ body (two-forms rs₂ ss₂ behind behind₂ later later₂ (records-same r s rs₂ ss₂ e)))
+two-forms rs ss l m none (more s q ss₂ behind two later) e = let z : _≡_ {A = ℕ} 0 1 = cc in absurd (omega arith)
+two-forms rs ss l m (more r p rs₂ behind one later) none e = let z : _≡_ {A = ℕ} 0 1 = cc in absurd (omega arith)
+two-forms rs ss l m (more r p rs₂ behind one later) (more s q ss₂ behind₂ two later₂) e =
+    ap₂ _++_ (part-one r s p q one two (record-same r s rs₂ ss₂ e)) (two-forms rs₂ ss₂ behind behind₂ later later₂ (records-same r s rs₂ ss₂ e))
 
 pub one-bytes : OneBytes
 one-bytes rs l m p q = two-forms rs rs l m p q refl

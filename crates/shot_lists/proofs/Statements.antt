@@ -1,35 +1,70 @@
--- What a list gives is what the grammar has of it, both ways; and it is given record by record.
+-- What a list gives is what the grammar has of it, both ways; so is what numbers that are handed over give; and it is given record by record.
 -- Assumes nothing.
-use mathlib.Core.Path.{_≡_, sym, ap, _∙_, subst}
-use mathlib.Core.List.{List, [], append-nil}
 use Prim.Native.Nat.{ℕ}
-use Rattle.shot_lists.specs.Records.{heldBehind}
-use Rattle.shot_lists.specs.Format.{onDisk, entryOf}
-use Rattle.shot_lists.specs.Reading.{readFrom, readOf}
+use mathlib.Core.Path.{_≡_, refl, sym, ap, _∙_, subst}
+use mathlib.Core.List.{List}
+use lib.IntN.{ℤ}
+use Rattle.low_bytes.specs.LowBytes.{Bytes}
+use Rattle.low_bytes.specs.Laws.{bytes-tail}
+use Rattle.shot_lists.specs.declared.records.Record.{Record}
+use Rattle.shot_lists.specs.Grammar.{InTurn, OneOnDisk, listNumbers}
+use Rattle.shot_lists.specs.Format.{onDisk, inNumbers, entryOf}
 use Rattle.shot_lists.specs.Laws.{end-only}
-use Rattle.shot_lists.specs.Walk.{read-taken, read-refused, read-end}
-use Rattle.shot_lists.specs.Statements.{ReadExactly, RefusedExactly, Walk}
-use Rattle.shot_lists.proofs.Exactly.{Told, told, allThen, read-front, all-none, all-fault}
+use Rattle.shot_lists.specs.Walk.{read-taken, read-refused}
+use Rattle.shot_lists.specs.Statements.{ReadExactly, RefusedExactly, GivenExactly, GivenRefused, Walk}
+use Rattle.shot_lists.proofs.Bodies.{disk-spells, disk-spelt}
+use Rattle.shot_lists.proofs.OwnNumbers.{Own, numbers-spell, numbers-spelt, own-list, list-own}
+use Rattle.shot_lists.proofs.Exactly.{exactly, refused}
 
 pub read-exactly : ReadExactly
-read-exactly l rs bytes = (
-  λ e. subst (λ t. Told 0 t l) e (told 0 0 l bytes),
-  λ p.
-      ap (readOf onDisk) (sym (append-nil l))
-      ∙ read-front 0 rs l [] (p .0) (p .1)
-      ∙ ap (allThen rs) (read-end onDisk 0 (heldBehind 0 rs))
-      ∙ all-none rs,
-)
+read-exactly l rs bytes =
+    exactly onDisk OneOnDisk disk-spells Bytes bytes-tail (λ held x m r after size ok h. disk-spelt x m (bytes-tail x m ok) held r after size h) l rs bytes
 
 pub refused-exactly : RefusedExactly
-refused-exactly l e bytes = (
-  λ h. subst (λ t. Told 0 t l) h (told 0 0 l bytes),
-  λ p.
-      ap (readOf onDisk) (p .parts)
-      ∙ read-front 0 (p .before) (p .front) (p .rest) (p .good) (p .sound)
-      ∙ ap (allThen (p .before)) (read-refused onDisk (heldBehind 0 (p .before)) (p .rest) e (p .fault))
-      ∙ all-fault (p .before) e,
-)
+refused-exactly l e bytes =
+    refused onDisk OneOnDisk disk-spells Bytes bytes-tail (λ held x m r after size ok h. disk-spelt x m (bytes-tail x m ok) held r after size h) l e bytes
+
+-- ---- numbers, of which nothing is known
+
+abbrev Any : List ℤ → Type 0
+Any l = Unit {0}
+
+list-is : (rs : List Record) (l : List ℤ) → l ≡ listNumbers rs → InTurn Own rs l
+list-is rs l e = subst (InTurn Own rs) (sym e) (list-own rs)
+
+pub given-exactly : GivenExactly
+given-exactly l rs =
+    let both = exactly inNumbers Own numbers-spell Any (λ x m ok. tt) (λ held x m r after size ok h. numbers-spelt held x m r after size h) l rs tt in
+    (λ h. (own-list rs l (both .0 h .0), both .0 h .1), λ p. both .1 (list-is rs l (p .0), p .1))
+
+pub given-refused : GivenRefused
+given-refused l e =
+    let both = refused inNumbers Own numbers-spell Any (λ x m ok. tt) (λ held x m r after size ok h. numbers-spelt held x m r after size h) l e tt in (
+      λ h.
+          let p = both .0 h in
+          record {
+            before = p .before;
+            front = p .front;
+            rest = p .rest;
+            parts = p .parts;
+            good = own-list (p .before) (p .front) (p .good);
+            sound = p .sound;
+            fault = p .fault;
+          },
+      λ p.
+          both .1
+          record {
+            before = p .before;
+            front = p .front;
+            rest = p .rest;
+            parts = p .parts;
+            good = list-is (p .before) (p .front) (p .good);
+            sound = p .sound;
+            fault = p .fault;
+          },
+    )
+
+-- ---- record by record
 
 pub walk : Walk
 unfolding entryOf

@@ -4,6 +4,7 @@ use Prim.Native.Nat.{ℕ}
 use mathlib.Core.Path.{_≡_}
 use mathlib.Core.Logic.{_↔_}
 use mathlib.Core.List.{List, [], _∷_, _++_}
+use lib.IntN.{ℤ}
 use lib.ListN.{length, drop}
 use Rattle.answers.specs.declared.Refusal.{Refusal}
 use Rattle.answers.specs.Order.{first}
@@ -11,8 +12,8 @@ use Rattle.low_bytes.specs.LowBytes.{Bytes}
 use Rattle.shot_lists.specs.declared.records.Record.{Record}
 use Rattle.shot_lists.specs.declared.records.Entry.the-variants.{Taken, Refused, End}
 use Rattle.shot_lists.specs.Records.{Sound, heldBehind}
-use Rattle.shot_lists.specs.Grammar.{kindByte, BodyOf, OnDisk}
-use Rattle.shot_lists.specs.Format.{Format, onDisk, against, entryOf}
+use Rattle.shot_lists.specs.Grammar.{kindByte, BodyOf, OnDisk, listNumbers}
+use Rattle.shot_lists.specs.Format.{Format, onDisk, inNumbers, against, entryOf}
 use Rattle.shot_lists.specs.Reading.{AllOf, FaultOf, andThen, readFrom, readOf, numberIn}
 
 -- a body has the length that its kind fixes
@@ -24,18 +25,28 @@ abbrev pub ReadExactly : Type 0
 ReadExactly = (l : List ℕ) (rs : List Record) → Bytes l → (readOf onDisk l ≡ AllOf rs) ↔ (OnDisk rs l × Sound 0 rs)
 
 -- the earliest record at fault: records that nothing speaks against stand before it, and this is the refusal of the record there
-pub record Earliest (held : ℕ) (l : List ℕ) (e : Refusal) : Type 0 where
+pub record Earliest {A : Type 0} (f : Format A) (Listed : List Record → List A → Type 0) (l : List A) (e : Refusal) : Type 0 where
   pub before : List Record
-  pub front : List ℕ
-  pub rest : List ℕ
+  pub front : List A
+  pub rest : List A
   pub parts : l ≡ front ++ rest
-  pub good : OnDisk before front
-  pub sound : Sound held before
-  pub fault : entryOf onDisk (heldBehind held before) rest ≡ Refused e
+  pub good : Listed before front
+  pub sound : Sound 0 before
+  pub fault : entryOf f (heldBehind 0 before) rest ≡ Refused e
 
 -- a list is refused exactly what its earliest record at fault is refused
 abbrev pub RefusedExactly : Type 0
-RefusedExactly = (l : List ℕ) (e : Refusal) → Bytes l → (readOf onDisk l ≡ FaultOf e) ↔ Earliest 0 l e
+RefusedExactly = (l : List ℕ) (e : Refusal) → Bytes l → (readOf onDisk l ≡ FaultOf e) ↔ Earliest onDisk OnDisk l e
+
+-- numbers are taken as these records exactly when they are each one's kind and own numbers, and nothing speaks against any of them
+abbrev pub GivenExactly : Type 0
+GivenExactly = (given : List ℤ) (rs : List Record) → (readOf inNumbers given ≡ AllOf rs) ↔ ((given ≡ listNumbers rs) × Sound 0 rs)
+
+-- and are refused exactly what the earliest record at fault is refused
+abbrev pub GivenRefused : Type 0
+GivenRefused =
+    (given : List ℤ) (e : Refusal)
+    → (readOf inNumbers given ≡ FaultOf e) ↔ Earliest inNumbers (λ rs l. l ≡ listNumbers rs) given e
 
 -- a record is refused what speaks against it first: 9, 10, 6 and 5 on its numbers, 11, 12; in every format
 abbrev pub EntryWhen : Type 1

@@ -2,7 +2,7 @@
 -- over the records: what is wanted, from what the rest of the list gives.
 -- Assumes nothing.
 use Prim.Native.Nat.{ℕ, zero, suc, _+_, _-_, _≤_, _<_}
-use mathlib.Core.Path.{_≡_, refl, sym, ap, _∙_, subst}
+use mathlib.Core.Path.{_≡_, refl, ap, _∙_}
 use mathlib.Core.List.{List, [], _∷_, _++_}
 use native.Mathlib.Omega.{arith}
 use lib.ListN.{length, drop, length-drop, drop-of-length-le}
@@ -10,12 +10,11 @@ use lib.Seq.{drop-drop, drop-at}
 use Rattle.answers.specs.declared.Refusal.{Refusal}
 use Rattle.answers.specs.Order.{Clear}
 use Rattle.shot_lists.specs.declared.records.Record.{Record}
-use Rattle.shot_lists.specs.declared.records.Entry.{Entry}
 use Rattle.shot_lists.specs.declared.records.Entry.the-variants.{Taken, Refused, End}
-use Rattle.shot_lists.specs.Records.{heldAfter, faults, Sound}
+use Rattle.shot_lists.specs.Records.{heldAfter, faults}
 use Rattle.shot_lists.specs.Format.{Format, entryOf}
-use Rattle.shot_lists.specs.Reading.{Reading, AllOf, FaultOf, andThen, onward, readFrom, readOf}
-use Rattle.shot_lists.specs.Laws.{taken-told, taken-size, end-apart, end-only, Spells, entry-spelled}
+use Rattle.shot_lists.specs.Reading.{Reading, AllOf, FaultOf, andThen, readFrom, readOf}
+use Rattle.shot_lists.specs.Laws.{taken-size, end-apart, end-only, Spells, entry-spelled}
 
 module _ {A : Type 0} (f : Format A) where
   pub read-skip : (skip held : ℕ) (l : List A) → readFrom f skip held l ≡ readFrom f 0 held (drop skip l)
@@ -42,34 +41,6 @@ module _ {A : Type 0} (f : Format A) where
   unfolding readFrom
   read-end zero held = refl
   read-end (suc skip) held = refl
-
-  -- ---- nothing speaks against the records that are read
-
-  abbrev SoundIn : (held : ℕ) → Reading → Type 0
-  SoundIn held (AllOf rs) = Sound held rs
-  SoundIn held (FaultOf e) = Unit {0}
-
-  sound-more : (held after : ℕ) (r : Record) (later : Reading) → Clear (faults held r) → after ≡ heldAfter held r → SoundIn after later → SoundIn held (andThen r later)
-  sound-more held after r (AllOf rs) clear e h = (clear, subst (λ (a : ℕ). Sound a rs) e h)
-  sound-more held after r (FaultOf x) clear e h = tt
-
-  sound-by : (held : ℕ) (x : A) (l : List A) (found : Entry) → entryOf f held (x ∷ l) ≡ found
-      → ((skip after : ℕ) → SoundIn after (readFrom f skip after l)) → SoundIn held (onward found (λ after size. readFrom f (size - 1) after l))
-  sound-by held x l (Taken r after size) h later =
-      let t = taken-told f held x l r after size h in
-      sound-more held after r (readFrom f (size - 1) after l) (t .sound) (t .next) (later (size - 1) after)
-  sound-by held x l (Refused e) h later = tt
-  sound-by held x l End h later = tt
-
-  sound-in : (skip held : ℕ) (l : List A) → SoundIn held (readFrom f skip held l)
-  unfolding readFrom
-  sound-in zero held [] = tt
-  sound-in (suc skip) held [] = tt
-  sound-in (suc skip) held (x ∷ l) = sound-in skip held l
-  sound-in zero held (x ∷ l) = sound-by held x l (entryOf f held (x ∷ l)) refl (λ skip after. sound-in skip after l)
-
-  pub read-sound : (held : ℕ) (l : List A) (rs : List Record) → readFrom f 0 held l ≡ AllOf rs → Sound held rs
-  read-sound held l rs h = subst (SoundIn held) h (sound-in 0 held l)
 
   -- what stands for a record is read as that record, before whatever comes behind it
   pub read-spelled : (held : ℕ) (r : Record) (l m : List A) → Spells f r l → Clear (faults held r)

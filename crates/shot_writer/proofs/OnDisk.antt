@@ -1,14 +1,13 @@
--- A record's bytes are its body in the grammar, and its numbers stand for it; so do those of a whole list.
+-- The bytes of a record that nothing speaks against are those of the grammar, and so are a list's.
 -- Assumes nothing.
-use Prim.Native.Nat.{ℕ, _*_, _≤_, _<_, _^_}
-use mathlib.Core.Path.{_≡_, refl, sym, ap, _∙_}
-use mathlib.Core.List.{List, [], _∷_, _++_, append-assoc, append-nil}
+use Prim.Native.Nat.{ℕ, _<_, _^_}
+use mathlib.Core.Path.{_≡_, refl}
+use mathlib.Core.List.{List, [], _∷_, _++_}
 use mathlib.Core.Bool.{true, and-eq-true-iff}
 use native.Mathlib.Omega.{arith}
 use borrow.Author.Tests.{ltb-true, leb-true}
 use lib.Dec.{ltb, leb}
 use lib.IntN.{ℤ, pos, negsuc, natAbs}
-use lib.ListN.{length}
 use Rattle.answers.specs.Order.{Clear}
 use Rattle.answers.specs.OrderLaws.{not-in}
 use Rattle.answers.specs.Refusals.{isCount, mostCount}
@@ -19,12 +18,8 @@ use Rattle.low_bytes.proofs.Statements.{unsigned-is, signed-is}
 use Rattle.shot_lists.specs.declared.records.Record.{Record}
 use Rattle.shot_lists.specs.declared.records.Record.the-variants.{Rate, Shot, Reel}
 use Rattle.shot_lists.specs.Records.{heldAfter, faults, Sound}
-use Rattle.shot_lists.specs.Grammar.{OnDisk, none, more}
-use Rattle.shot_lists.specs.Format.{bodyFixed, ofKind, inNumbers}
-use Rattle.shot_lists.specs.Reading.{AllOf, andThen, readFrom}
-use Rattle.shot_lists.specs.Laws.{Spells}
-use Rattle.shot_lists.specs.Walk.{read-spelled, read-end}
-use Rattle.shot_writer.specs.ListText.{recordBytes, listBytes, recordNumbers, listNumbers}
+use Rattle.shot_lists.specs.Grammar.{none, more, Frames, OnDisk}
+use Rattle.shot_writer.specs.ListText.{recordBytes, listBytes}
 
 -- ---- numbers that nothing speaks against fit their bytes
 
@@ -39,19 +34,20 @@ count-within (negsuc n) e = let most = leb-true (natAbs (negsuc n)) mostCount e 
 -- a record's bytes, behind them what is behind them
 record-on : (held : ℕ) (r : Record) (rs : List Record) (l : List ℕ) → Clear (faults held r) → OnDisk rs l → OnDisk (r ∷ rs) (recordBytes r ++ l)
 unfolding recordBytes faults
-record-on held (Rate n) rs l clear later = more (Rate n) _ rs l (unsigned-is 1 n (rate-below n (not-in (isRate n) (clear .0)))) later
+record-on held (Rate n) rs l clear later =
+    more (Rate n) _ rs l record { body = _; is = refl; of = unsigned-is 1 n (rate-below n (not-in (isRate n) (clear .0))) } later
 record-on held (Shot first end) rs l clear later =
-    more (Shot first end) _ rs l
+    let frames : Frames first end (signedBytes 4 first ++ signedBytes 4 end) =
     record {
-      low = _;
-      high = _;
+      low = signedBytes 4 first;
+      high = signedBytes 4 end;
       parts = refl;
       starts = signed-is 4 first (count-within first (not-in (isCount first) (clear .0)));
       ends = signed-is 4 end (count-within end (not-in (isCount end) (clear .1 .0)));
-    }
-    later
+    } in
+    more (Shot first end) _ rs l record { body = _; is = refl; of = frames } later
 record-on held (Reel n) rs l clear later =
-    more (Reel n) _ rs l (unsigned-is 4 n (ltb-true n (256 ^ 4) (not-in (ltb n (256 ^ 4)) (clear .0)))) later
+    more (Reel n) _ rs l record { body = _; is = refl; of = unsigned-is 4 n (ltb-true n (256 ^ 4) (not-in (ltb n (256 ^ 4)) (clear .0))) } later
 
 pub list-on : (held : ℕ) (rs : List Record) → Sound held rs → OnDisk rs (listBytes rs)
 unfolding listBytes
@@ -75,18 +71,3 @@ pub list-bytes : (rs : List Record) → Bytes (listBytes rs)
 unfolding listBytes
 list-bytes [] = bytes-nil
 list-bytes (r ∷ rs) = bytes-append (recordBytes r) (listBytes rs) (record-bytes r) (list-bytes rs)
-
--- ---- the numbers of a record stand for it
-
-numbers-spell : (r : Record) → Spells inNumbers r (recordNumbers r)
-unfolding bodyFixed ofKind
-numbers-spell (Rate n) = record { head = pos 1; body = pos n ∷ []; is = refl; fixed = refl; some = omega arith; made = λ m. refl }
-numbers-spell (Shot first end) = record { head = pos 2; body = first ∷ end ∷ []; is = refl; fixed = refl; some = omega arith; made = λ m. refl }
-numbers-spell (Reel n) = record { head = pos 3; body = pos n ∷ []; is = refl; fixed = refl; some = omega arith; made = λ m. refl }
-
-pub numbers-read : (held : ℕ) (rs : List Record) → Sound held rs → readFrom inNumbers 0 held (listNumbers rs) ≡ AllOf rs
-unfolding listNumbers
-numbers-read held [] sound = read-end inNumbers 0 held
-numbers-read held (r ∷ rs) sound =
-    read-spelled inNumbers held r (recordNumbers r) (listNumbers rs) (numbers-spell r) (sound .0)
-    ∙ ap (andThen r) (numbers-read (heldAfter held r) rs (sound .1))

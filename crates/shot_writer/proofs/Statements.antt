@@ -1,4 +1,4 @@
--- What is written is in the format; written and read again it has the same records, read and written again the same bytes.
+-- What is refused; what is written is in the format; written and read again it has the same records, read and written again the same bytes.
 -- Assumes nothing.
 use Prim.Native.Nat.{ℕ, _+_, _≤_}
 use mathlib.Core.Path.{_≡_, refl, sym, ap, _∙_, subst}
@@ -15,19 +15,27 @@ use Rattle.low_bytes.specs.LowBytes.{Bytes}
 use Rattle.written.specs.declared.Written.the-variants.{Length, Refused}
 use Rattle.written.specs.Written.{Text, badRoom, answerTo, lineTo}
 use Rattle.written.proofs.Laws.{text-written}
+use Rattle.written.proofs.Statements.{no-room-exactly}
 use Rattle.shot_lists.specs.declared.records.Record.{Record}
 use Rattle.shot_lists.specs.Records.{Sound}
 use Rattle.shot_lists.specs.Format.{onDisk, inNumbers}
 use Rattle.shot_lists.specs.Reading.{Reading, AllOf, FaultOf, readOf}
-use Rattle.shot_lists.specs.Walk.{read-sound}
-use Rattle.shot_lists.proofs.Statements.{read-exactly}
+use Rattle.shot_lists.specs.Grammar.{listNumbers}
+use Rattle.shot_lists.proofs.Statements.{read-exactly, given-exactly}
 use Rattle.shot_lists.proofs.OneWay.{one-bytes}
-use Rattle.shot_writer.specs.ListText.{listBytes, draftOf, listNumbers}
-use Rattle.shot_writer.specs.Statements.{HandedOver, BytesOnDisk, WrittenThenRead, ReadThenWritten}
-use Rattle.shot_writer.proofs.OnDisk.{list-on, list-bytes, numbers-read}
+use Rattle.shot_writer.specs.ListText.{listBytes, draftOf}
+use Rattle.shot_writer.specs.Statements.{ListRefused, RoomRefused, BytesOnDisk, WrittenThenRead, ReadThenWritten}
+use Rattle.shot_writer.proofs.OnDisk.{list-on, list-bytes}
 
-pub handed-over : HandedOver
-handed-over rs sound = numbers-read 0 rs sound
+pub list-refused : ListRefused
+unfolding answerTo
+list-refused given line place e h = ap (λ (t : Reading). answerTo line place (draftOf t)) h
+
+pub room-refused : RoomRefused
+room-refused given rs line place h =
+    let same = ap (λ (t : Reading). answerTo line place (draftOf t)) h in
+    let exactly = no-room-exactly line place (listBytes rs) in
+    (λ e. exactly .0 (sym same ∙ e), λ k. same ∙ exactly .1 k)
 
 pub bytes-on-disk : BytesOnDisk
 bytes-on-disk rs sound = list-on 0 rs sound
@@ -63,11 +71,11 @@ written-by line place n (AllOf rs) sound h =
     ∙ read-exactly text rs (list-bytes rs) .1 (list-on 0 rs good, good)
 
 pub written-then-read : WrittenThenRead
-written-then-read given line place n h = written-by line place n (readOf inNumbers given) (λ rs e. read-sound inNumbers 0 given rs e) h
+written-then-read given line place n h = written-by line place n (readOf inNumbers given) (λ rs e. given-exactly given rs .0 e .1) h
 
 -- ---- read, then written
 
 pub read-then-written : ReadThenWritten
 read-then-written l rs bytes h =
     let told = read-exactly l rs bytes .0 h in
-    ap draftOf (numbers-read 0 rs (told .1)) ∙ ap Text (one-bytes rs (listBytes rs) l (list-on 0 rs (told .1)) (told .0))
+    ap draftOf (given-exactly (listNumbers rs) rs .1 (refl, told .1)) ∙ ap Text (one-bytes rs (listBytes rs) l (list-on 0 rs (told .1)) (told .0))

@@ -1,9 +1,9 @@
--- A shot list as it is written (BEHAVIOUR: Shot lists): the bytes of its records one after the other, and the numbers in which it is handed over.
+-- A shot list as it is written (BEHAVIOUR: Shot lists): the bytes of its records one after the other.
 -- Assumes nothing.
 use Prim.Native.Nat.{ℕ}
 use mathlib.Core.List.{List, [], _∷_, _++_}
 use lib.ListN.{length}
-use lib.IntN.{ℤ, pos}
+use lib.IntN.{ℤ}
 use Rattle.low_bytes.specs.LowBytes.{lowBytes, signedBytes}
 use Rattle.written.specs.Written.{Draft, Text, NoText}
 use Rattle.shot_lists.specs.declared.records.Record.{Record}
@@ -42,14 +42,3 @@ measuredOf (FaultOf e) = Refused e
 abbrev pub recordsIn : Reading → List Record
 recordsIn (AllOf rs) = rs
 recordsIn (FaultOf e) = []
-
--- ---- the numbers in which records are handed over: the kind, then the record's own
-
-abbrev pub recordNumbers : Record → List ℤ
-recordNumbers (Rate n) = pos 1 ∷ pos n ∷ []
-recordNumbers (Shot first end) = pos 2 ∷ first ∷ end ∷ []
-recordNumbers (Reel n) = pos 3 ∷ pos n ∷ []
-
-unfoldable pub listNumbers : List Record → List ℤ
-listNumbers [] = []
-listNumbers (r ∷ rs) = recordNumbers r ++ listNumbers rs

@@ -1,26 +1,36 @@
 -- What holds of writing a shot list (BEHAVIOUR: Shot lists), for lists of any length: what is written is in the format, what is written and read again has the
 -- same records, what is read and written again has the same bytes. Proofs: proofs/Statements.antt.
 -- Assumes nothing.
-use Prim.Native.Nat.{ℕ}
+use Prim.Native.Nat.{ℕ, _+_, _<_}
 use mathlib.Core.Path.{_≡_}
+use mathlib.Core.Logic.{_↔_}
 use mathlib.Core.List.{List}
-use lib.ListN.{take, drop}
+use lib.ListN.{length, take, drop}
 use lib.IntN.{ℤ}
+use Rattle.answers.specs.declared.Refusal.{Refusal}
+use Rattle.answers.specs.Refusals.{noRoom}
 use Rattle.low_bytes.specs.LowBytes.{Bytes}
-use Rattle.written.specs.declared.Written.the-variants.{Length}
+use Rattle.written.specs.declared.Written.the-variants.{Length, Refused}
 use Rattle.written.specs.Written.{Text, answerTo, lineTo}
 use Rattle.shot_lists.specs.declared.records.Record.{Record}
 use Rattle.shot_lists.specs.Records.{Sound}
-use Rattle.shot_lists.specs.Grammar.{OnDisk}
+use Rattle.shot_lists.specs.Grammar.{OnDisk, listNumbers}
 use Rattle.shot_lists.specs.Format.{onDisk, inNumbers}
-use Rattle.shot_lists.specs.Reading.{AllOf, readOf}
-use Rattle.shot_writer.specs.ListText.{listBytes, listDraft, listNumbers}
+use Rattle.shot_lists.specs.Reading.{AllOf, FaultOf, readOf}
+use Rattle.shot_writer.specs.ListText.{listBytes, listDraft}
 
--- every list that nothing speaks against can be handed over
-abbrev pub HandedOver : Type 0
-HandedOver = (rs : List Record) → Sound 0 rs → readOf inNumbers (listNumbers rs) ≡ AllOf rs
+-- a list with a record at fault is refused what that record is refused, whatever the line and the place: 8 comes last
+abbrev pub ListRefused : Type 0
+ListRefused =
+    (given : List ℤ) (line : List ℕ) (place : ℕ) (e : Refusal) → readOf inNumbers given ≡ FaultOf e → answerTo line place (listDraft given) ≡ Refused e
 
--- its bytes are those of the format
+-- any other is refused 8 exactly when place plus its length exceeds the line's length
+abbrev pub RoomRefused : Type 0
+RoomRefused =
+    (given : List ℤ) (rs : List Record) (line : List ℕ) (place : ℕ) → readOf inNumbers given ≡ AllOf rs
+    → (answerTo line place (listDraft given) ≡ Refused noRoom) ↔ (length line < place + length (listBytes rs))
+
+-- the bytes of a list that nothing speaks against are those of the format
 abbrev pub BytesOnDisk : Type 0
 BytesOnDisk = (rs : List Record) → Sound 0 rs → OnDisk rs (listBytes rs)
 
