@@ -9,6 +9,8 @@ use Rattle.runtime_writer.proofs.Determined as runtime-writer-determined
 use Rattle.time.proofs.Determined as time-determined
 use Rattle.arithmetic.proofs.Determined as arithmetic-determined
 use Rattle.chains.proofs.Determined as chains-determined
+use Rattle.shot_lists.proofs.Determined as shot-lists-determined
+use Rattle.shot_writer.proofs.Determined as shot-writer-determined
 use Rattle.answers.proofs.Determined as answers-determined
 use Rattle.timecodes.proofs.Determined as timecodes-determined
 use Rattle.written.proofs.Determined as written-determined
@@ -44,6 +46,11 @@ one-answer = record {
   abs = record { asks-nothing = λ κs a. tt; one-outcome = arithmetic-determined.abs-determined };
   rebase = record { asks-nothing = λ κs a. tt; one-outcome = arithmetic-determined.rebase-determined };
   convert = record { asks-nothing = λ κs a. tt; one-outcome = chains-determined.convert-determined };
+  record-at = record { asks-nothing = λ κs a. tt; one-outcome = shot-lists-determined.record-at-determined };
+  check-list = record { asks-nothing = λ κs a. tt; one-outcome = shot-lists-determined.check-list-determined };
+  given-at = record { asks-nothing = λ κs a. tt; one-outcome = shot-lists-determined.given-at-determined };
+  put-record = record { asks-nothing = λ κs a. tt; one-outcome = shot-writer-determined.put-record-determined };
+  write-list = record { asks-nothing = λ κs a. tt; one-outcome = shot-writer-determined.write-list-determined };
   answers-number = record { asks-nothing = λ κs a. tt; one-outcome = answers-determined.number-determined };
   answers-count = record { asks-nothing = λ κs a. tt; one-outcome = answers-determined.count-determined };
   timecodes-number = record { asks-nothing = λ κs a. tt; one-outcome = timecodes-determined.number-determined };

@@ -29,6 +29,9 @@ one-answer-c = record {
   tzq-abs = record { asks-nothing = λ κs a. tt; one-outcome = exports-determined.tzq-abs-determined };
   tzq-rebase = record { asks-nothing = λ κs a. tt; one-outcome = exports-determined.tzq-rebase-determined };
   tzq-convert = record { asks-nothing = λ κs a. tt; one-outcome = exports-determined.tzq-convert-determined };
+  tzq-record-at = record { asks-nothing = λ κs a. tt; one-outcome = exports-determined.tzq-record-at-determined };
+  tzq-check-list = record { asks-nothing = λ κs a. tt; one-outcome = exports-determined.tzq-check-list-determined };
+  tzq-write-list = record { asks-nothing = λ κs a. tt; one-outcome = exports-determined.tzq-write-list-determined };
   tzq-rate = record { asks-nothing = λ κs a. tt; one-outcome = exports-determined.tzq-rate-determined };
   tzq-drop-frames-per-minute = record { asks-nothing = λ κs a. tt; one-outcome = exports-determined.tzq-drop-frames-per-minute-determined };
   tzq-format = record { asks-nothing = λ κs a. tt; one-outcome = exports-determined.tzq-format-determined };

@@ -27,6 +27,11 @@ use Rattle.arithmetic.specs.Sum.{joined}
 use Rattle.arithmetic.specs.Truncating.{divOf}
 use Rattle.arithmetic.specs.Flooring.{divqOf}
 use Rattle.chains.specs.Chain.{convertOf}
+use Rattle.low_bytes.specs.LowBytes.{worth, signedOf, lowBytes, twosOf}
+use Rattle.shot_lists.specs.Records.{faults}
+use Rattle.shot_lists.specs.Format.{bodyFixed, ofKind, entryOf}
+use Rattle.shot_lists.specs.Reading.{readFrom}
+use Rattle.shot_writer.specs.ListText.{recordBytes, listBytes}
 use Rattle.promises.specs.Cases.{All, cases, StarredCases}
 
 pub starred-cases : StarredCases
@@ -34,7 +39,10 @@ unfolding nearestN valueFrom span digitsOf widthBy width decimal held rates isRa
     dropFrames isDrop isFormat formatAt footageCount footageOf labelCount isDropped fieldsAt droppedBefore sectionsOf
     fieldThen byteThen signOf tailOf fieldsIn fieldsFound textScan labelScan footageScan labelRead footageRead readText labelFields
     labelSections clockText sectionsText labelText feetText footageText isFraction instant joined divOf divqOf convertOf
+    worth signedOf lowBytes twosOf bodyFixed ofKind faults entryOf readFrom recordBytes listBytes
 starred-cases =
+    let of-lists : All (drop 20 cases) =
+    ((refl, refl), ((refl, refl), ((refl, refl), (refl, (refl, (refl, (refl, (refl, (refl, tt))))))))) in
     let behind-labels : All (drop 9 cases) =
-    ((refl, λ rate r. simp r), ((refl, λ rate r. simp r), (λ rate r. simp r, (λ rate r. simp r, (refl, (refl, (refl, (refl, (refl, (refl, (refl, tt))))))))))) in
+    ((refl, λ rate r. simp r), ((refl, λ rate r. simp r), (λ rate r. simp r, (λ rate r. simp r, (refl, (refl, (refl, (refl, (refl, (refl, (refl, of-lists))))))))))) in
     ((refl, refl), ((refl, refl), (refl, ((refl, refl), ((refl, refl), ((refl, refl), ((refl, refl), ((refl, refl), (refl, behind-labels)))))))))

@@ -39,6 +39,7 @@ use Rattle.label_writer.specs.Sections as fields
 use Rattle.label_writer.specs.LabelText.{labelDraft}
 use Rattle.footage_writer.specs.FootageText.{footageDraft}
 use Rattle.runtime_writer.specs.RuntimeText.{runtimeDraft}
+use Rattle.shot_writer.specs.ListText.{listDraft}
 use Rattle.promises.specs.Demand1.{noSections, RefusedZero, KeepsLine, RefusedKeepsLine}
 
 -- ---- numbers
@@ -105,4 +106,5 @@ refused-keeps-line = record {
   label = λ tc. keeps-line (labelDraft tc);
   footage = λ tc format. keeps-line (footageDraft tc format);
   runtime = λ tc precision. keeps-line (runtimeDraft tc precision);
+  list = λ given. keeps-line (listDraft given);
 }

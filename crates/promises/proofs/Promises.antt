@@ -1,5 +1,12 @@
 -- Every promise is kept: the record's value, each part by the proof that bears its name.
 -- Assumes nothing.
+use Rattle.low_bytes.proofs.Statements as low-bytes
+use Rattle.shot_lists.proofs.Statements as shot-lists
+use Rattle.shot_lists.proofs.Bodies as shot-bodies
+use Rattle.shot_lists.proofs.Numbers as shot-numbers
+use Rattle.shot_lists.proofs.OneWay as shot-ways
+use Rattle.shot_writer.proofs.Statements as shot-writer
+use Rattle.hex.proofs.Statements as hex
 use Rattle.promises.specs.Promises.{Promises}
 use Rattle.beginnings.proofs.Statements as beginnings
 use Rattle.numbers.proofs.Statements as numbers
@@ -32,6 +39,7 @@ use Rattle.promises.proofs.CallsC.{one-answer-c}
 use Rattle.promises.proofs.Ties.{ties}
 use Rattle.promises.proofs.TiesC.{ties-c}
 use Rattle.promises.proofs.ReadC.{read-for-c}
+use Rattle.promises.proofs.ListsC.{lists-for-c}
 use Rattle.promises.proofs.When.{refused-when}
 use Rattle.promises.proofs.Demand1.{refused-zero, refused-keeps-line}
 use Rattle.promises.proofs.Demand2.{demand2-at5, demand2-at11}
@@ -184,6 +192,26 @@ promises = record {
   quotient-floor = arithmetic.quotient-floor;
   remainder-nearest = arithmetic.remainder-nearest;
   compare-is-order = arithmetic.compare-is-order;
+  unsigned-is = low-bytes.unsigned-is;
+  unsigned-one = low-bytes.unsigned-one;
+  signed-is = low-bytes.signed-is;
+  signed-one = low-bytes.signed-one;
+  kind-fixes = shot-bodies.kind-fixes;
+  read-exactly = shot-lists.read-exactly;
+  refused-exactly = shot-lists.refused-exactly;
+  given-exactly = shot-lists.given-exactly;
+  given-refused = shot-lists.given-refused;
+  entry-when = shot-numbers.entry-when;
+  never-eight = shot-numbers.never-eight;
+  one-list = shot-ways.one-list;
+  one-bytes = shot-ways.one-bytes;
+  walk = shot-lists.walk;
+  list-refused = shot-writer.list-refused;
+  room-refused = shot-writer.room-refused;
+  bytes-on-disk = shot-writer.bytes-on-disk;
+  written-then-read = shot-writer.written-then-read;
+  read-then-written = shot-writer.read-then-written;
+  lists-for-c = lists-for-c;
   two-chunks = streams.two-chunks;
   any-chunks = streams.any-chunks;
   fold-finds = streams.fold-finds;
@@ -197,7 +225,16 @@ promises = record {
   stopped-full = feeding.stopped-full;
   understood = asking.understood;
   only-understood = asking.only-understood;
+  records-exactly = asking.records-exactly;
+  hex-exactly = hex.hex-exactly;
+  hex-one = hex.hex-one;
+  hex-back = hex.hex-back;
+  hex-bytes = hex.hex-bytes;
   shown-line = showing.shown-line;
   written-line = showing.written-line;
   text-refused-shown = showing.text-refused-shown;
+  hex-written-line = showing.hex-written-line;
+  list-line = showing.list-line;
+  list-refused-line = showing.list-refused-line;
+  list-words = showing.list-words;
 }

@@ -44,7 +44,10 @@ use Rattle.label_writer.specs.Sections.{sectioned}
 use Rattle.label_writer.specs.LabelText.{labelText, labelWhen, labelDraft}
 use Rattle.footage_writer.specs.FootageText.{footageText, footageWhen, footageDraft}
 use Rattle.runtime_writer.specs.RuntimeText.{runtimeText, runtimeWhen, runtimeDraft}
-use Rattle.promises.specs.Given.{noRefusal, inCount, inAnswer, inTicks, inSeconds, inOrder, inWritten, inSections, inRow, inFormat, Given}
+use Rattle.shot_lists.specs.declared.records.Entry.the-variants as entered
+use Rattle.shot_lists.specs.Format.{onDisk, inNumbers, against, entryOf}
+use Rattle.shot_lists.proofs.Numbers.{against-nowhere}
+use Rattle.promises.specs.Given.{noRefusal, inCount, inAnswer, inTicks, inSeconds, inOrder, inWritten, inSections, inRow, inFormat, inEntry, Given}
 use Rattle.promises.specs.When.{givenBy, RefusedWhen}
 
 -- behind conditions none of which has a place, for any kind of answer
@@ -91,7 +94,7 @@ second-given tc answer h = by (judged (admits tc)) refl answer h
 
 pub refused-when : RefusedWhen
 unfolding labelDraft footageDraft runtimeDraft sectioned framesAt ticksAt secondsAt ticksOf
-    joined compareOf mulOf divOf remOf divqOf remqOf negOf absOf rebaseOf convertOf rateAt formatAt minuteAt
+    joined compareOf mulOf divOf remOf divqOf remqOf negOf absOf rebaseOf convertOf entryOf rateAt formatAt minuteAt
 refused-when = record {
   write-label = λ tc line place. laid (labelWhen tc) line place (labelText (tc .rate) (tc .count)) (refl, (refl, (refl, tt)));
   write-footage = λ tc format line place. laid (footageWhen tc format) line place (footageText (formatIn format) (tc .count)) (refl, (refl, (refl, (refl, tt))));
@@ -115,6 +118,8 @@ refused-when = record {
   abs = λ tc. at (admits tc) (refl, (refl, tt)) _;
   rebase = λ tc rate. at (rebaseWhen tc rate) (refl, (refl, (refl, tt))) _;
   convert = λ tc list. at (convertWhen tc list) (refl, (refl, (refl, (refl, tt)))) _;
+  record-at = λ held b l. given inEntry entered.Refused (λ e. refl) (against onDisk held b l) (against-nowhere onDisk held b l) _ refl;
+  given-at = λ held z l. given inEntry entered.Refused (λ e. refl) (against inNumbers held z l) (against-nowhere inNumbers held z l) _ refl;
   framerate-at = λ rate. given inRow rated.Refused (λ e. refl) (badRate rate ∷ []) (refl, tt) _ refl;
   format-at = λ format. given inFormat filmed.Refused (λ e. refl) (badFormat format ∷ []) (refl, tt) _ refl;
   minute-start = λ minute. given inCount counted.Refused (λ e. refl) (badMinute minute ∷ []) (refl, tt) _ refl;

@@ -53,6 +53,16 @@ use Rattle.arithmetic.proofs.rebase as rebase
 use Rattle.arithmetic.proofs.rebase.Reads as rebase-reads
 use Rattle.chains.proofs.convert as convert
 use Rattle.chains.proofs.convert.Reads as convert-reads
+use Rattle.shot_lists.proofs.record_at as record-at
+use Rattle.shot_lists.proofs.record_at.Reads as record-at-reads
+use Rattle.shot_lists.proofs.check_list as check-list
+use Rattle.shot_lists.proofs.check_list.Reads as check-list-reads
+use Rattle.shot_lists.proofs.given_at as given-at
+use Rattle.shot_lists.proofs.given_at.Reads as given-at-reads
+use Rattle.shot_writer.proofs.put_record as put-record
+use Rattle.shot_writer.proofs.put_record.Reads as put-record-reads
+use Rattle.shot_writer.proofs.write_list as write-list
+use Rattle.shot_writer.proofs.write_list.Reads as write-list-reads
 use Rattle.answers.proofs.number as answers-number
 use Rattle.answers.proofs.number.Reads as answers-number-reads
 use Rattle.answers.proofs.count as answers-count
@@ -105,6 +115,12 @@ pub record OneAnswer : Type 0 where
   pub rebase : Answers rebase.ended rebase-reads.Asked rebase-reads.Learnt
   -- chains
   pub convert : Answers convert.ended convert-reads.Asked convert-reads.Learnt
+  -- shot lists
+  pub record-at : Answers record-at.ended record-at-reads.Asked record-at-reads.Learnt
+  pub check-list : Answers check-list.ended check-list-reads.Asked check-list-reads.Learnt
+  pub given-at : Answers given-at.ended given-at-reads.Asked given-at-reads.Learnt
+  pub put-record : Answers put-record.ended put-record-reads.Asked put-record-reads.Learnt
+  pub write-list : Answers write-list.ended write-list-reads.Asked write-list-reads.Learnt
   -- what an answer holds
   pub answers-number : Answers answers-number.ended answers-number-reads.Asked answers-number-reads.Learnt
   pub answers-count : Answers answers-count.ended answers-count-reads.Asked answers-count-reads.Learnt

@@ -49,6 +49,12 @@ use Rattle.exports.proofs.sums.tzq_rebase as tzq-rebase
 use Rattle.exports.proofs.sums.tzq_rebase.Reads as tzq-rebase-reads
 use Rattle.exports.proofs.times.tzq_convert as tzq-convert
 use Rattle.exports.proofs.times.tzq_convert.Reads as tzq-convert-reads
+use Rattle.exports.proofs.lists.tzq_record_at as tzq-record-at
+use Rattle.exports.proofs.lists.tzq_record_at.Reads as tzq-record-at-reads
+use Rattle.exports.proofs.lists.tzq_check_list as tzq-check-list
+use Rattle.exports.proofs.lists.tzq_check_list.Reads as tzq-check-list-reads
+use Rattle.exports.proofs.lists.tzq_write_list as tzq-write-list
+use Rattle.exports.proofs.lists.tzq_write_list.Reads as tzq-write-list-reads
 use Rattle.exports.proofs.tables.tzq_rate as tzq-rate
 use Rattle.exports.proofs.tables.tzq_rate.Reads as tzq-rate-reads
 use Rattle.exports.proofs.tables.tzq_drop_frames_per_minute as tzq-drop-frames-per-minute
@@ -89,6 +95,10 @@ pub record OneAnswerC : Type 0 where
   pub tzq-rebase : Answers tzq-rebase.ended tzq-rebase-reads.Asked tzq-rebase-reads.Learnt
   -- chains
   pub tzq-convert : Answers tzq-convert.ended tzq-convert-reads.Asked tzq-convert-reads.Learnt
+  -- shot lists
+  pub tzq-record-at : Answers tzq-record-at.ended tzq-record-at-reads.Asked tzq-record-at-reads.Learnt
+  pub tzq-check-list : Answers tzq-check-list.ended tzq-check-list-reads.Asked tzq-check-list-reads.Learnt
+  pub tzq-write-list : Answers tzq-write-list.ended tzq-write-list-reads.Asked tzq-write-list-reads.Learnt
   -- the tables
   pub tzq-rate : Answers tzq-rate.ended tzq-rate-reads.Asked tzq-rate-reads.Learnt
   pub tzq-drop-frames-per-minute : Answers tzq-drop-frames-per-minute.ended tzq-drop-frames-per-minute-reads.Asked tzq-drop-frames-per-minute-reads.Learnt

@@ -5,7 +5,7 @@ use Prim.Native.Nat.{ℕ, _<_}
 use mathlib.Core.Path.{_≡_}
 use mathlib.Core.Bool.{false}
 use mathlib.Core.List.{List}
-use lib.IntN.{pos}
+use lib.IntN.{ℤ, pos}
 use Rattle.answers.specs.declared.Counted.{Counted}
 use Rattle.answers.specs.Refusals as counted
 use Rattle.rates.specs.declared.Rated.{Rated}
@@ -32,6 +32,7 @@ use Rattle.label_writer.specs.Sections as sectioned
 use Rattle.label_writer.specs.LabelText.{labelDraft}
 use Rattle.footage_writer.specs.FootageText.{footageDraft}
 use Rattle.runtime_writer.specs.RuntimeText.{runtimeDraft}
+use Rattle.shot_writer.specs.ListText.{listDraft}
 
 -- the sections of no label: all 0
 abbrev pub noSections : TimecodeSections
@@ -60,3 +61,4 @@ pub record RefusedKeepsLine : Type 0 where
   pub label : (tc : Timecode) → KeepsLine (labelDraft tc)
   pub footage : (tc : Timecode) (format : ℕ) → KeepsLine (footageDraft tc format)
   pub runtime : (tc : Timecode) (precision : ℕ) → KeepsLine (runtimeDraft tc precision)
+  pub list : (given : List ℤ) → KeepsLine (listDraft given)

@@ -21,6 +21,8 @@ use Rattle.arithmetic.specs.declared.Compared.{Compared}
 use Rattle.arithmetic.specs.declared.Compared.the-variants as compared
 use Rattle.label_writer.specs.declared.Sectioned.{Sectioned}
 use Rattle.label_writer.specs.declared.Sectioned.the-variants as sectioned
+use Rattle.shot_lists.specs.declared.records.Entry.{Entry}
+use Rattle.shot_lists.specs.declared.records.Entry.the-variants as entered
 use Rattle.written.specs.declared.Written.{Written}
 use Rattle.written.specs.declared.Written.the-variants as written
 
@@ -64,6 +66,11 @@ inRow (rated.Refused e) = e
 abbrev pub inFormat : Filmed → Refusal
 inFormat (filmed.Format f) = noRefusal
 inFormat (filmed.Refused e) = e
+
+abbrev pub inEntry : Entry → Refusal
+inEntry (entered.Taken r held size) = noRefusal
+inEntry (entered.Refused e) = e
+inEntry entered.End = noRefusal
 
 -- what is given behind conditions that speak of no text: the number of the first that holds, 0 where none does, and place 0
 pub record Given (conditions : List Condition) (e : Refusal) : Type 0 where

@@ -4,6 +4,7 @@ pub mod CallsC
 pub mod Ties
 pub mod TiesC
 pub mod ReadC
+pub mod ListsC
 pub mod Demand1
 pub mod Given
 pub mod When

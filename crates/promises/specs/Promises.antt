@@ -21,6 +21,11 @@ use Rattle.runtime_writer.specs.Statements as runtime-writer
 use Rattle.time.specs.Statements as time
 use Rattle.arithmetic.specs.Statements as arithmetic
 use Rattle.chains.specs.Demand3 as chains
+use Rattle.low_bytes.specs.Statements as low-bytes
+use Rattle.shot_lists.specs.Statements as shot-lists
+use Rattle.shot_writer.specs.Statements as shot-writer
+use Rattle.hex.specs.Statements as hex
+use Rattle.asking.specs.RecordStatements as asking-records
 use Rattle.streams.specs.Statements as streams
 use Rattle.lines.specs.Statements as lines
 use Rattle.feeding.specs.Statements as feeding
@@ -31,6 +36,7 @@ use Rattle.promises.specs.CallsC.{OneAnswerC}
 use Rattle.promises.specs.Ties.{Ties}
 use Rattle.promises.specs.TiesC.{TiesC}
 use Rattle.promises.specs.ReadC.{ReadForC}
+use Rattle.promises.specs.ListsC.{ListsForC}
 use Rattle.promises.specs.When.{RefusedWhen}
 use Rattle.promises.specs.Demand1.{RefusedZero, RefusedKeepsLine}
 use Rattle.promises.specs.Demand2.{Demand2At5, Demand2At11}
@@ -192,6 +198,27 @@ pub record Promises : Type 1 where
   pub quotient-floor : arithmetic.QuotientFloor
   pub remainder-nearest : arithmetic.RemainderNearest
   pub compare-is-order : arithmetic.CompareIsOrder
+  -- shot lists
+  pub unsigned-is : low-bytes.UnsignedIs
+  pub unsigned-one : low-bytes.UnsignedOne
+  pub signed-is : low-bytes.SignedIs
+  pub signed-one : low-bytes.SignedOne
+  pub kind-fixes : shot-lists.KindFixes
+  pub read-exactly : shot-lists.ReadExactly
+  pub refused-exactly : shot-lists.RefusedExactly
+  pub given-exactly : shot-lists.GivenExactly
+  pub given-refused : shot-lists.GivenRefused
+  pub entry-when : shot-lists.EntryWhen
+  pub never-eight : shot-lists.NeverEight
+  pub one-list : shot-lists.OneList
+  pub one-bytes : shot-lists.OneBytes
+  pub walk : shot-lists.Walk
+  pub list-refused : shot-writer.ListRefused
+  pub room-refused : shot-writer.RoomRefused
+  pub bytes-on-disk : shot-writer.BytesOnDisk
+  pub written-then-read : shot-writer.WrittenThenRead
+  pub read-then-written : shot-writer.ReadThenWritten
+  pub lists-for-c : ListsForC
   -- the programs
   pub two-chunks : streams.TwoChunks
   pub any-chunks : streams.AnyChunks
@@ -206,6 +233,15 @@ pub record Promises : Type 1 where
   pub stopped-full : feeding.StoppedFull
   pub understood : asking.Understood
   pub only-understood : asking.OnlyUnderstood
+  pub records-exactly : asking-records.RecordsExactly
+  pub hex-exactly : hex.HexExactly
+  pub hex-one : hex.HexOne
+  pub hex-back : hex.HexBack
+  pub hex-bytes : hex.HexBytes
   pub shown-line : showing.ShownLine
   pub written-line : showing.WrittenLine
   pub text-refused-shown : showing.TextRefusedShown
+  pub hex-written-line : showing.HexWrittenLine
+  pub list-line : showing.ListLine
+  pub list-refused-line : showing.ListRefusedLine
+  pub list-words : showing.ListWords

@@ -1,6 +1,7 @@
 -- The promises speak of what runs: whatever the contract of a function that users call allows is what its definition says.
 -- Assumes nothing.
 use mathlib.Core.Path.{_≡_}
+use lib.ListN.{drop}
 use Rattle.outcomes.specs.Outcome.{Gives}
 use Rattle.arithmetic.specs.Compare.{compareOf}
 use Rattle.arithmetic.specs.Count.{absOf, negOf, rebaseOf}
@@ -25,6 +26,9 @@ use Rattle.time.specs.Frames.{framesAt, secondsAt, ticksAt}
 use Rattle.time.specs.Seconds.{SecondsOf}
 use Rattle.time.specs.Ticks.{ticksOf}
 use Rattle.written.specs.Written.{answerTo, lineTo}
+use Rattle.shot_lists.specs.Format.{onDisk, inNumbers, entryOf}
+use Rattle.shot_lists.specs.Reading.{checkedOf, readOf}
+use Rattle.shot_writer.specs.ListText.{recordBytes, listDraft}
 use Rattle.answers.specs.Refusals as answers
 use Rattle.timecodes.specs.Timecode as timecodes
 use Rattle.written.specs.Written as written
@@ -80,6 +84,16 @@ use Rattle.arithmetic.proofs.rebase as rebase
 use Rattle.arithmetic.proofs.rebase.Reads as rebase-reads
 use Rattle.chains.proofs.convert as convert
 use Rattle.chains.proofs.convert.Reads as convert-reads
+use Rattle.shot_lists.proofs.record_at as record-at
+use Rattle.shot_lists.proofs.record_at.Reads as record-at-reads
+use Rattle.shot_lists.proofs.check_list as check-list
+use Rattle.shot_lists.proofs.check_list.Reads as check-list-reads
+use Rattle.shot_lists.proofs.given_at as given-at
+use Rattle.shot_lists.proofs.given_at.Reads as given-at-reads
+use Rattle.shot_writer.proofs.put_record as put-record
+use Rattle.shot_writer.proofs.put_record.Reads as put-record-reads
+use Rattle.shot_writer.proofs.write_list as write-list
+use Rattle.shot_writer.proofs.write_list.Reads as write-list-reads
 use Rattle.answers.proofs.number as answers-number
 use Rattle.answers.proofs.number.Reads as answers-number-reads
 use Rattle.answers.proofs.count as answers-count
@@ -138,6 +152,14 @@ pub record Ties : Type 0 where
   pub rebase : Gives rebase.ended rebase-reads.Learnt (λ κs a x. x .0 ≡ rebaseOf (a .0) (a .1 .0))
   -- chains
   pub convert : Gives convert.ended convert-reads.Learnt (λ κs a x. x .0 ≡ convertOf (a .0) (a .1 .0 .now))
+  -- shot lists
+  pub record-at : Gives record-at.ended record-at-reads.Learnt (λ κs a x. x .0 ≡ entryOf onDisk (a .1 .1 .0) (drop (a .1 .0) (a .0 .now)))
+  pub check-list : Gives check-list.ended check-list-reads.Learnt (λ κs a x. x .0 ≡ checkedOf (readOf onDisk (a .0 .now)))
+  pub given-at : Gives given-at.ended given-at-reads.Learnt (λ κs a x. x .0 ≡ entryOf inNumbers (a .1 .1 .0) (drop (a .1 .0) (a .0 .now)))
+  pub put-record : Gives put-record.ended put-record-reads.Learnt (λ κs a x. x .1 .0 ≡ laid (a .0 .now) (recordBytes (a .1 .0)))
+  pub write-list : Gives write-list.ended write-list-reads.Learnt (λ κs a x.
+      (x .0 ≡ answerTo (a .1 .0 .now) (a .1 .1 .0) (listDraft (a .0 .now)))
+      × (x .1 .1 .0 ≡ lineTo (a .1 .0 .now) (a .1 .1 .0) (listDraft (a .0 .now))))
   -- what an answer holds
   pub answers-number : Gives answers-number.ended answers-number-reads.Learnt (λ κs a x. x .0 ≡ answers.numberOf (a .0))
   pub answers-count : Gives answers-count.ended answers-count-reads.Learnt (λ κs a x. x .0 ≡ answers.countOf (a .0))

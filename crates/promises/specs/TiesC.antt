@@ -1,6 +1,7 @@
 -- The promises speak of what runs, from C: whatever the contract of a function for C allows is the answer of the definition, handed over.
 -- Assumes nothing.
 use mathlib.Core.Path.{_≡_}
+use lib.ListN.{drop}
 use Rattle.outcomes.specs.Outcome.{Gives}
 use Rattle.arithmetic.specs.Compare.{compareOf}
 use Rattle.arithmetic.specs.Count.{absOf, negOf, rebaseOf}
@@ -10,6 +11,10 @@ use Rattle.arithmetic.specs.Remainder.{remqOf}
 use Rattle.arithmetic.specs.Sum.{addOf, subOf}
 use Rattle.arithmetic.specs.Truncating.{divOf, remOf}
 use Rattle.chains.specs.Chain.{convertOf}
+use Rattle.shot_lists.specs.Format.{onDisk, entryOf}
+use Rattle.shot_lists.specs.Reading.{checkedOf, readOf}
+use Rattle.shot_writer.specs.ListText.{listDraft}
+use Rattle.exports.specs.HandedLists.{handedEntry, handedChecked}
 use Rattle.exports.specs.Handed.{SecondsHanded, handedAnswer, handedCount, handedFormat, handedLength, handedOrder, handedRate, handedRead, handedSections, handedTicks, handedTimecode, timecodeFrom}
 use Rattle.film.specs.Film.{formatAt}
 use Rattle.footage_writer.specs.FootageText.{footageDraft}
@@ -72,6 +77,12 @@ use Rattle.exports.proofs.sums.tzq_rebase as tzq-rebase
 use Rattle.exports.proofs.sums.tzq_rebase.Reads as tzq-rebase-reads
 use Rattle.exports.proofs.times.tzq_convert as tzq-convert
 use Rattle.exports.proofs.times.tzq_convert.Reads as tzq-convert-reads
+use Rattle.exports.proofs.lists.tzq_record_at as tzq-record-at
+use Rattle.exports.proofs.lists.tzq_record_at.Reads as tzq-record-at-reads
+use Rattle.exports.proofs.lists.tzq_check_list as tzq-check-list
+use Rattle.exports.proofs.lists.tzq_check_list.Reads as tzq-check-list-reads
+use Rattle.exports.proofs.lists.tzq_write_list as tzq-write-list
+use Rattle.exports.proofs.lists.tzq_write_list.Reads as tzq-write-list-reads
 use Rattle.exports.proofs.tables.tzq_rate as tzq-rate
 use Rattle.exports.proofs.tables.tzq_rate.Reads as tzq-rate-reads
 use Rattle.exports.proofs.tables.tzq_drop_frames_per_minute as tzq-drop-frames-per-minute
@@ -118,6 +129,12 @@ pub record TiesC : Type 0 where
   pub tzq-rebase : Gives tzq-rebase.ended tzq-rebase-reads.Learnt (λ κs a x. x .0 ≡ handedAnswer (rebaseOf (timecodeFrom (a .0)) (a .1 .0)))
   -- chains
   pub tzq-convert : Gives tzq-convert.ended tzq-convert-reads.Learnt (λ κs a x. x .0 ≡ handedTimecode (convertOf (timecodeFrom (a .0)) (a .1 .0 .now)))
+  -- shot lists
+  pub tzq-record-at : Gives tzq-record-at.ended tzq-record-at-reads.Learnt (λ κs a x. x .0 ≡ handedEntry (entryOf onDisk (a .1 .1 .0) (drop (a .1 .0) (a .0 .now))))
+  pub tzq-check-list : Gives tzq-check-list.ended tzq-check-list-reads.Learnt (λ κs a x. x .0 ≡ handedChecked (checkedOf (readOf onDisk (a .0 .now))))
+  pub tzq-write-list : Gives tzq-write-list.ended tzq-write-list-reads.Learnt (λ κs a x.
+      (x .0 ≡ handedLength (answerTo (a .1 .0 .now) (a .1 .1 .0) (listDraft (a .0 .now))))
+      × (x .1 .1 .0 ≡ lineTo (a .1 .0 .now) (a .1 .1 .0) (listDraft (a .0 .now))))
   -- the tables
   pub tzq-rate : Gives tzq-rate.ended tzq-rate-reads.Learnt (λ κs a x. x .0 ≡ handedRate (rateAt (a .0)))
   pub tzq-drop-frames-per-minute : Gives tzq-drop-frames-per-minute.ended tzq-drop-frames-per-minute-reads.Learnt (λ κs a x. x .0 ≡ dropFrames (a .0))

@@ -21,12 +21,13 @@ use Rattle.arithmetic.specs.Remainder.{remqWhen, remqOf}
 use Rattle.arithmetic.specs.Compare.{compareOf}
 use Rattle.arithmetic.specs.Count.{negOf, absOf, rebaseWhen, rebaseOf}
 use Rattle.chains.specs.Chain.{convertWhen, convertOf}
+use Rattle.shot_lists.specs.Format.{onDisk, inNumbers, against, entryOf}
 use Rattle.written.specs.Written.{Draft, writtenWhen, answerTo}
 use Rattle.label_writer.specs.Sections.{sectioned}
 use Rattle.label_writer.specs.LabelText.{labelText, labelWhen, labelDraft}
 use Rattle.footage_writer.specs.FootageText.{footageText, footageWhen, footageDraft}
 use Rattle.runtime_writer.specs.RuntimeText.{runtimeText, runtimeWhen, runtimeDraft}
-use Rattle.promises.specs.Given.{inCount, inAnswer, inTicks, inSeconds, inOrder, inWritten, inSections, inRow, inFormat, Given}
+use Rattle.promises.specs.Given.{inCount, inAnswer, inTicks, inSeconds, inOrder, inWritten, inSections, inRow, inFormat, inEntry, Given}
 
 -- the refusal that a writer gives
 abbrev pub givenBy : Draft → (line : List ℕ) (place : ℕ) → Refusal
@@ -67,6 +68,9 @@ pub record RefusedWhen : Type 0 where
   pub rebase : (tc : Timecode) (rate : ℕ) → Given (rebaseWhen tc rate) (inAnswer (rebaseOf tc rate))
   -- chains
   pub convert : (tc : Timecode) (list : List ℕ) → Given (convertWhen tc list) (inAnswer (convertOf tc list))
+  -- shot lists: a record on disk, and one that is handed over (of a whole list: specs/Statements.antt of `shot_lists` and `shot_writer`)
+  pub record-at : (held b : ℕ) (l : List ℕ) → Given (against onDisk held b l) (inEntry (entryOf onDisk held (b ∷ l)))
+  pub given-at : (held : ℕ) (z : ℤ) (l : List ℤ) → Given (against inNumbers held z l) (inEntry (entryOf inNumbers held (z ∷ l)))
   -- the tables
   pub framerate-at : (rate : ℕ) → Given (badRate rate ∷ []) (inRow (rateAt rate))
   pub format-at : (format : ℕ) → Given (badFormat format ∷ []) (inFormat (formatAt format))

@@ -12,7 +12,7 @@ use Rattle.shot_lists.specs.declared.records.Record.{Record}
 use Rattle.shot_lists.specs.declared.records.Entry.{Entry}
 use Rattle.shot_lists.specs.declared.records.Entry.the-variants.{Taken, Refused, End}
 use Rattle.shot_lists.specs.Records.{heldAfter, Sound, heldBehind}
-use Rattle.shot_lists.specs.Grammar.{InTurn, none, more}
+use Rattle.shot_lists.specs.Grammar.{OneByOne, none, more}
 use Rattle.shot_lists.specs.Format.{Format, entryOf}
 use Rattle.shot_lists.specs.Reading.{Reading, AllOf, FaultOf, andThen, onward, readFrom, readOf}
 use Rattle.shot_lists.specs.Laws.{taken-told, taken-size, end-only, Spells}
@@ -51,12 +51,12 @@ module _ {A : Type 0} (f : Format A) (Spelt : Record → List A → Type 0) (spe
     front : List A
     rest : List A
     parts : l ≡ front ++ rest
-    good : InTurn Spelt before front
+    good : OneByOne Spelt before front
     sound : Sound held before
     fault : entryOf f (heldBehind held before) rest ≡ Refused e
 
   abbrev Told : (held : ℕ) → Reading → List A → Type 0
-  Told held (AllOf rs) l = InTurn Spelt rs l × Sound held rs
+  Told held (AllOf rs) l = OneByOne Spelt rs l × Sound held rs
   Told held (FaultOf e) l = FaultIn held l e
 
   -- the record in front of what is told of the rest
@@ -75,7 +75,7 @@ module _ {A : Type 0} (f : Format A) (Spelt : Record → List A → Type 0) (spe
     told-more : (rest : Reading) → Told after rest (drop (size - 1) l) → Told held (andThen r rest) (x ∷ l)
     told-more (AllOf rs) told =
         let t = taken-told f held x l r after size h in (
-          subst (InTurn Spelt (r ∷ rs)) apart (more r part rs (drop (size - 1) l) spelt (told .0)),
+          subst (OneByOne Spelt (r ∷ rs)) apart (more r part rs (drop (size - 1) l) spelt (told .0)),
           (t .sound, subst (λ (a : ℕ). Sound a rs) (t .next) (told .1)),
         )
     told-more (FaultOf e) told =
@@ -109,7 +109,7 @@ module _ {A : Type 0} (f : Format A) (Spelt : Record → List A → Type 0) (spe
 
   -- ---- and back: what is spelt so is read, before whatever comes behind it
 
-  read-front : (held : ℕ) (rs : List Record) (l m : List A) → InTurn Spelt rs l → Sound held rs
+  read-front : (held : ℕ) (rs : List Record) (l m : List A) → OneByOne Spelt rs l → Sound held rs
       → readFrom f 0 held (l ++ m) ≡ allThen rs (readFrom f 0 (heldBehind held rs) m)
   read-front held rs l m none sound = refl
   read-front held rs l m (more r part rs₂ behind spelt rest) sound =
@@ -117,7 +117,7 @@ module _ {A : Type 0} (f : Format A) (Spelt : Record → List A → Type 0) (spe
       ∙ read-spelled f held r part (behind ++ m) (spells r part spelt) (sound .0)
       ∙ ap (andThen r) (read-front (heldAfter held r) rs₂ behind m rest (sound .1))
 
-  pub exactly : (l : List A) (rs : List Record) → Ok l → (readOf f l ≡ AllOf rs) ↔ (InTurn Spelt rs l × Sound 0 rs)
+  pub exactly : (l : List A) (rs : List Record) → Ok l → (readOf f l ≡ AllOf rs) ↔ (OneByOne Spelt rs l × Sound 0 rs)
   exactly l rs ok = (
     λ e. subst (λ (t : Reading). Told 0 t l) e (told 0 0 l ok),
     λ p.
@@ -127,7 +127,7 @@ module _ {A : Type 0} (f : Format A) (Spelt : Record → List A → Type 0) (spe
         ∙ all-none rs,
   )
 
-  pub refused : (l : List A) (e : Refusal) → Ok l → (readOf f l ≡ FaultOf e) ↔ Earliest f (InTurn Spelt) l e
+  pub refused : (l : List A) (e : Refusal) → Ok l → (readOf f l ≡ FaultOf e) ↔ Earliest f (OneByOne Spelt) l e
   refused l e ok = (
     λ h.
         let p : FaultIn 0 l e = subst (λ (t : Reading). Told 0 t l) h (told 0 0 l ok) in

@@ -1,4 +1,4 @@
--- Which numbers a record's refusal has: 8 is none of them.
+-- Which numbers a record's refusal has: 8 is none of them; and no place in a text.
 -- Assumes nothing.
 use Prim.Native.Nat.{ℕ, zero, suc, _-_}
 use mathlib.Core.Path.{_≡_, refl, sym, ap, _∙_, subst}
@@ -6,15 +6,15 @@ use mathlib.Core.List.{List, [], _∷_}
 use mathlib.Core.Bool.{Bool, true, false, cond}
 use native.Mathlib.Omega.{arith}
 use Rattle.answers.specs.declared.Refusal.{Refusal}
-use Rattle.answers.specs.Order.{Condition, first}
-use Rattle.answers.specs.OrderLaws.{unless-number}
+use Rattle.answers.specs.Order.{Condition, first, NoPlaces}
+use Rattle.answers.specs.OrderLaws.{unless-number, unless-place}
 use Rattle.shot_lists.specs.declared.records.Record.{Record}
 use Rattle.shot_lists.specs.declared.records.Record.the-variants.{Rate, Shot, Reel}
 use Rattle.shot_lists.specs.declared.records.Entry.{Entry}
 use Rattle.shot_lists.specs.declared.records.Entry.the-variants.{Taken, Refused, End}
 use Rattle.shot_lists.specs.Records.{heldAfter, faults}
 use Rattle.shot_lists.specs.Format.{Format, against, entryOf}
-use Rattle.shot_lists.specs.Reading.{Reading, AllOf, FaultOf, andThen, onward, readFrom, numberIn}
+use Rattle.shot_lists.specs.Reading.{Reading, AllOf, FaultOf, andThen, onward, readFrom, numberIn, placeIn}
 use Rattle.shot_lists.specs.Statements.{EntryWhen, NeverEight}
 
 pub entry-when : EntryWhen
@@ -42,10 +42,26 @@ faults-but held (Rate n) = (λ e. omega arith, tt)
 faults-but held (Shot first end) = (λ e. omega arith, (λ e. omega arith, (λ e. omega arith, (λ e. omega arith, tt))))
 faults-but held (Reel n) = (λ e. omega arith, tt)
 
--- the refusal that was read, if any, has another number
+-- and none has a place in a text
+nowhere : (held : ℕ) (r : Record) → NoPlaces (faults held r)
+unfolding faults
+nowhere held (Rate n) = (refl, tt)
+nowhere held (Shot first end) = (refl, (refl, (refl, (refl, tt))))
+nowhere held (Reel n) = (refl, tt)
+
+pub against-nowhere : {A : Type 0} (f : Format A) (held : ℕ) (x : A) (l : List A) → NoPlaces (against f held x l)
+against-nowhere f held x l = (refl, (refl, nowhere held (f .made (f .kind x) l)))
+
+entry-nowhere : {A : Type 0} (f : Format A) (held : ℕ) (x : A) (l : List A) → placeIn (entryOf f held (x ∷ l)) ≡ 0
+unfolding entryOf
+entry-nowhere f held x l =
+    let r = f .made (f .kind x) l in
+    unless-place placeIn Refused (λ e. refl) (against f held x l) (against-nowhere f held x l) (Taken r (heldAfter held r) (suc (f .body (f .kind x)))) refl
+
+-- the refusal that was read, if any, has another number, and place 0
 abbrev Other : Reading → Type 0
 Other (AllOf rs) = Unit {0}
-Other (FaultOf e) = e .number ≡ 8 → ⊥
+Other (FaultOf e) = (e .number ≡ 8 → ⊥) × (e .place ≡ 0)
 
 other-more : (r : Record) (later : Reading) → Other later → Other (andThen r later)
 other-more r (AllOf rs) h = tt
@@ -55,10 +71,12 @@ module _ {A : Type 0} (f : Format A) where
   other-by : (held : ℕ) (x : A) (l : List A) (found : Entry) → entryOf f held (x ∷ l) ≡ found
       → ((skip after : ℕ) → Other (readFrom f skip after l)) → Other (onward found (λ after size. readFrom f (size - 1) after l))
   other-by held x l (Taken r after size) h later = other-more r (readFrom f (size - 1) after l) (later (size - 1) after)
-  other-by held x l (Refused e) h later =
-      λ n.
-      first-but 7 (against f held x l) (λ z. omega arith, (λ z. omega arith, faults-but held (f .made (f .kind x) l)))
-      (sym (entry-when A f held x l) ∙ ap numberIn h ∙ n)
+  other-by held x l (Refused e) h later = (
+    λ n.
+        first-but 7 (against f held x l) (λ z. omega arith, (λ z. omega arith, faults-but held (f .made (f .kind x) l)))
+        (sym (entry-when A f held x l) ∙ ap numberIn h ∙ n),
+    sym (ap placeIn h) ∙ entry-nowhere f held x l,
+  )
   other-by held x l End h later = tt
 
   other : (skip held : ℕ) (l : List A) → Other (readFrom f skip held l)

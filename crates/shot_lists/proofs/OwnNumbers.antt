@@ -17,7 +17,7 @@ use Rattle.shot_lists.specs.declared.records.Record.{Record}
 use Rattle.shot_lists.specs.declared.records.Record.the-variants.{Rate, Shot, Reel}
 use Rattle.shot_lists.specs.declared.records.Entry.the-variants.{Taken}
 use Rattle.shot_lists.specs.Records.{faults}
-use Rattle.shot_lists.specs.Grammar.{InTurn, none, more, recordNumbers, listNumbers}
+use Rattle.shot_lists.specs.Grammar.{OneByOne, none, more, recordNumbers, listNumbers}
 use Rattle.shot_lists.specs.Format.{bodyFixed, ofKind, inNumbers, entryOf}
 use Rattle.shot_lists.specs.Laws.{Spells, taken-told}
 
@@ -75,12 +75,12 @@ module _ (held : ℕ) (x : ℤ) where
 abbrev pub Own : Record → List ℤ → Type 0
 Own r l = l ≡ recordNumbers r
 
-pub own-list : (rs : List Record) (l : List ℤ) → InTurn Own rs l → l ≡ listNumbers rs
+pub own-list : (rs : List Record) (l : List ℤ) → OneByOne Own rs l → l ≡ listNumbers rs
 unfolding listNumbers
 own-list rs l none = refl
 own-list rs l (more r part rs₂ behind own rest) = ap₂ _++_ own (own-list rs₂ behind rest)
 
-pub list-own : (rs : List Record) → InTurn Own rs (listNumbers rs)
+pub list-own : (rs : List Record) → OneByOne Own rs (listNumbers rs)
 unfolding listNumbers
 list-own [] = none
 list-own (r ∷ rs) = more r (recordNumbers r) rs (listNumbers rs) refl (list-own rs)

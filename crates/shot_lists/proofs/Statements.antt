@@ -7,7 +7,7 @@ use lib.IntN.{ℤ}
 use Rattle.low_bytes.specs.LowBytes.{Bytes}
 use Rattle.low_bytes.specs.Laws.{bytes-tail}
 use Rattle.shot_lists.specs.declared.records.Record.{Record}
-use Rattle.shot_lists.specs.Grammar.{InTurn, OneOnDisk, listNumbers}
+use Rattle.shot_lists.specs.Grammar.{OneByOne, OneOnDisk, listNumbers}
 use Rattle.shot_lists.specs.Format.{onDisk, inNumbers, entryOf}
 use Rattle.shot_lists.specs.Laws.{end-only}
 use Rattle.shot_lists.specs.Walk.{read-taken, read-refused}
@@ -29,8 +29,8 @@ refused-exactly l e bytes =
 abbrev Any : List ℤ → Type 0
 Any l = Unit {0}
 
-list-is : (rs : List Record) (l : List ℤ) → l ≡ listNumbers rs → InTurn Own rs l
-list-is rs l e = subst (InTurn Own rs) (sym e) (list-own rs)
+list-is : (rs : List Record) (l : List ℤ) → l ≡ listNumbers rs → OneByOne Own rs l
+list-is rs l e = subst (OneByOne Own rs) (sym e) (list-own rs)
 
 pub given-exactly : GivenExactly
 given-exactly l rs =

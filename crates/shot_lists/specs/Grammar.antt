@@ -9,9 +9,9 @@ use Rattle.shot_lists.specs.declared.records.Record.{Record}
 use Rattle.shot_lists.specs.declared.records.Record.the-variants.{Rate, Shot, Reel}
 
 -- records one after the other, each spelt so; none at all is an empty list
-pub data InTurn {A : Type 0} (Spelt : Record → List A → Type 0) : List Record → List A → Type 0 where
-  none : InTurn Spelt [] []
-  more : (r : Record) (part : List A) (rs : List Record) (l : List A) → Spelt r part → InTurn Spelt rs l → InTurn Spelt (r ∷ rs) (part ++ l)
+pub data OneByOne {A : Type 0} (Spelt : Record → List A → Type 0) : List Record → List A → Type 0 where
+  none : OneByOne Spelt [] []
+  more : (r : Record) (part : List A) (rs : List Record) (l : List A) → Spelt r part → OneByOne Spelt rs l → OneByOne Spelt (r ∷ rs) (part ++ l)
 
 -- ---- on disk
 
@@ -22,7 +22,7 @@ kindByte (Shot first end) = 2
 kindByte (Reel n) = 3
 
 -- 8 bytes, first frame and end frame, each signed 32-bit, low byte first
-pub record Frames (first end : ℤ) (body : List ℕ) : Type 0 where
+pub record TwoFrames (first end : ℤ) (body : List ℕ) : Type 0 where
   pub low : List ℕ
   pub high : List ℕ
   pub parts : body ≡ low ++ high
@@ -32,7 +32,7 @@ pub record Frames (first end : ℤ) (body : List ℕ) : Type 0 where
 -- a rate, 1 byte; a shot, 8 bytes; a reel, 4 bytes, unsigned, low byte first
 abbrev pub BodyOf : Record → List ℕ → Type 0
 BodyOf (Rate n) body = Unsigned 1 n body
-BodyOf (Shot first end) body = Frames first end body
+BodyOf (Shot first end) body = TwoFrames first end body
 BodyOf (Reel n) body = Unsigned 4 n body
 
 -- one byte of kind and then a body
@@ -43,7 +43,7 @@ pub record OneOnDisk (r : Record) (part : List ℕ) : Type 0 where
 
 -- the records of a list, and its bytes
 abbrev pub OnDisk : List Record → List ℕ → Type 0
-OnDisk = InTurn OneOnDisk
+OnDisk = OneByOne OneOnDisk
 
 -- ---- handed over to be written
 

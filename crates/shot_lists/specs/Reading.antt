@@ -40,8 +40,13 @@ abbrev pub checkedOf : Reading → Checked
 checkedOf (AllOf rs) = checked.Records (length rs)
 checkedOf (FaultOf e) = checked.Refused e
 
--- the number of an entry's refusal; 0: not refused
+-- the number of an entry's refusal (0: not refused), and its place
 abbrev pub numberIn : Entry → ℕ
 numberIn (entry.Taken r held size) = 0
 numberIn (entry.Refused e) = e .number
 numberIn entry.End = 0
+
+abbrev pub placeIn : Entry → ℕ
+placeIn (entry.Taken r held size) = 0
+placeIn (entry.Refused e) = e .place
+placeIn entry.End = 0

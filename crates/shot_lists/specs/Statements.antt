@@ -52,9 +52,9 @@ GivenRefused =
 abbrev pub EntryWhen : Type 1
 EntryWhen = (A : Type 0) (f : Format A) (held : ℕ) (x : A) (l : List A) → numberIn (entryOf f held (x ∷ l)) ≡ first (against f held x l)
 
--- the reader never gives 8
+-- the reader never gives 8, and its refusals have no place in a text
 abbrev pub NeverEight : Type 1
-NeverEight = (A : Type 0) (f : Format A) (l : List A) (e : Refusal) → readOf f l ≡ FaultOf e → e .number ≡ 8 → ⊥
+NeverEight = (A : Type 0) (f : Format A) (l : List A) (e : Refusal) → readOf f l ≡ FaultOf e → (e .number ≡ 8 → ⊥) × (e .place ≡ 0)
 
 -- no bytes are two lists
 abbrev pub OneList : Type 0

@@ -18,7 +18,7 @@ use Rattle.low_bytes.proofs.Statements.{unsigned-is, signed-is}
 use Rattle.shot_lists.specs.declared.records.Record.{Record}
 use Rattle.shot_lists.specs.declared.records.Record.the-variants.{Rate, Shot, Reel}
 use Rattle.shot_lists.specs.Records.{heldAfter, faults, Sound}
-use Rattle.shot_lists.specs.Grammar.{none, more, Frames, OnDisk}
+use Rattle.shot_lists.specs.Grammar.{none, more, TwoFrames, OnDisk}
 use Rattle.shot_writer.specs.ListText.{recordBytes, listBytes}
 
 -- ---- numbers that nothing speaks against fit their bytes
@@ -37,7 +37,7 @@ unfolding recordBytes faults
 record-on held (Rate n) rs l clear later =
     more (Rate n) _ rs l record { body = _; is = refl; of = unsigned-is 1 n (rate-below n (not-in (isRate n) (clear .0))) } later
 record-on held (Shot first end) rs l clear later =
-    let frames : Frames first end (signedBytes 4 first ++ signedBytes 4 end) =
+    let frames : TwoFrames first end (signedBytes 4 first ++ signedBytes 4 end) =
     record {
       low = signedBytes 4 first;
       high = signedBytes 4 end;
