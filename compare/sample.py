@@ -4,7 +4,7 @@
 `python3 compare/sample.py DIR` writes DIR/stdin and DIR/stdout, the same on every run. An answer is the crate's where the
 crate and the model agree, and the model's where the difference is of a listed kind (kinds.py); an unlisted one ends
 the run. Our own program is not asked. What the crate has nothing for (minutes out of bounds, lines that are no commands) is
-as docs/BEHAVIOUR.md and compare/README.md say.
+as docs/BEHAVIOUR.md and compare/README.md say; shot lists are lists.py's.
 """
 
 import subprocess
@@ -16,6 +16,7 @@ import all as comparison
 import commands
 import forms
 import kinds
+import lists
 import model
 import texts
 
@@ -116,6 +117,16 @@ def of_operations():
     yield from commands.minutes()[-1:]
 
 
+def of_lists():
+    """Shot lists: each record at each bound, faults in pairs, lists cut at every byte, records as words, and what is not understood."""
+    yield from [*lists.at_bounds()][::9]
+    yield from [*lists.pairs()][::23]
+    yield from lists.cut(100, 4)
+    yield from lists.damaged(100, 60)
+    yield from lists.written(100, 120)
+    yield from (command for command in lists.MALFORMED if b"\xe9" not in command)
+
+
 def is_plain(command):
     """Whether a file of such lines reads well: lines of no bytes and the byte 0 are left to the comparison."""
     return b"\0" not in command and not (command.startswith(forms.WRITERS) and command.endswith(b" 0"))
@@ -138,6 +149,9 @@ def main():
     made = dict.fromkeys([*of_cases(), *of_readers(), *of_writers(), *of_operations()])
     asked = [command for command in made if is_plain(command)]
     answered = list(right_answers(judge, asked))
+    for command in dict.fromkeys(of_lists()):
+        asked.append(command)
+        answered.append(lists.right(command))
     for minute in (-1, 1440, 2**63 - 1):
         asked.append(b"minute %d" % minute)
         answered.append(b"refused 5")

@@ -9,7 +9,7 @@ use lib.Seq.{drop-at}
 use Rattle.shot_lists.specs.declared.records.Record.{Record}
 use Rattle.shot_lists.specs.Grammar.{none, more, kindByte, BodyOf, OneOnDisk, OnDisk}
 use Rattle.shot_lists.specs.Format.{onDisk}
-use Rattle.shot_lists.specs.Statements.{OneList, OneBytes}
+use Rattle.shot_lists.specs.Statements.{OneBytes}
 use Rattle.shot_lists.proofs.Bodies.{kind-fixes, made-back, body-one}
 
 head-same : (a b : ℕ) (l m : List ℕ) → a ∷ l ≡ b ∷ m → a ≡ b
@@ -57,8 +57,8 @@ two-lists rs ss l m (more r p rs₂ behind one later) (more s q ss₂ behind₂ 
     let same = alike r s p q behind behind₂ one two e in
     ap₂ _∷_ (same .0) (two-lists rs₂ ss₂ behind behind₂ later later₂ (same .1))
 
-pub one-list : OneList
-one-list l rs ss p q = two-lists rs ss l l p q refl
+pub one-way : (l : List ℕ) (rs ss : List Record) → OnDisk rs l → OnDisk ss l → rs ≡ ss
+one-way l rs ss p q = two-lists rs ss l l p q refl
 
 -- ---- and the other way
 

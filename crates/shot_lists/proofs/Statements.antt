@@ -11,10 +11,11 @@ use Rattle.shot_lists.specs.Grammar.{OneByOne, OneOnDisk, listNumbers}
 use Rattle.shot_lists.specs.Format.{onDisk, inNumbers, entryOf}
 use Rattle.shot_lists.specs.Laws.{end-only}
 use Rattle.shot_lists.specs.Walk.{read-taken, read-refused}
-use Rattle.shot_lists.specs.Statements.{ReadExactly, RefusedExactly, GivenExactly, GivenRefused, Walk}
+use Rattle.shot_lists.specs.Statements.{ReadExactly, RefusedExactly, OneList, GivenExactly, GivenRefused, Walk}
 use Rattle.shot_lists.proofs.Bodies.{disk-spells, disk-spelt}
 use Rattle.shot_lists.proofs.OwnNumbers.{Own, numbers-spell, numbers-spelt, own-list, list-own}
 use Rattle.shot_lists.proofs.Exactly.{exactly, refused}
+use Rattle.shot_lists.proofs.OneWay.{one-way}
 
 pub read-exactly : ReadExactly
 read-exactly l rs bytes =
@@ -23,6 +24,9 @@ read-exactly l rs bytes =
 pub refused-exactly : RefusedExactly
 refused-exactly l e bytes =
     refused onDisk OneOnDisk disk-spells Bytes bytes-tail (λ held x m r after size ok h. disk-spelt x m (bytes-tail x m ok) held r after size h) l e bytes
+
+pub one-list : OneList
+one-list = record { bytes = one-way; read = λ l rs ss bytes h on. one-way l rs ss (read-exactly l rs bytes .0 h .0) on }
 
 -- ---- numbers, of which nothing is known
 

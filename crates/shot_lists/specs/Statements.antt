@@ -56,9 +56,10 @@ EntryWhen = (A : Type 0) (f : Format A) (held : ℕ) (x : A) (l : List A) → nu
 abbrev pub NeverEight : Type 1
 NeverEight = (A : Type 0) (f : Format A) (l : List A) (e : Refusal) → readOf f l ≡ FaultOf e → (e .number ≡ 8 → ⊥) × (e .place ≡ 0)
 
--- no bytes are two lists
-abbrev pub OneList : Type 0
-OneList = (l : List ℕ) (rs ss : List Record) → OnDisk rs l → OnDisk ss l → rs ≡ ss
+-- no bytes are two lists, and what is read is the one list that they are
+pub record OneList : Type 0 where
+  pub bytes : (l : List ℕ) (rs ss : List Record) → OnDisk rs l → OnDisk ss l → rs ≡ ss
+  pub read : (l : List ℕ) (rs ss : List Record) → Bytes l → readOf onDisk l ≡ AllOf rs → OnDisk ss l → rs ≡ ss
 
 -- and no list has bytes of two kinds
 abbrev pub OneBytes : Type 0

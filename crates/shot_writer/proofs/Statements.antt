@@ -20,7 +20,7 @@ use Rattle.shot_lists.specs.declared.records.Record.{Record}
 use Rattle.shot_lists.specs.Records.{Sound}
 use Rattle.shot_lists.specs.Format.{onDisk, inNumbers}
 use Rattle.shot_lists.specs.Reading.{Reading, AllOf, FaultOf, readOf}
-use Rattle.shot_lists.specs.Grammar.{listNumbers}
+use Rattle.shot_lists.specs.Grammar.{OnDisk, listNumbers}
 use Rattle.shot_lists.proofs.Statements.{read-exactly, given-exactly}
 use Rattle.shot_lists.proofs.OneWay.{one-bytes}
 use Rattle.shot_writer.specs.ListText.{listBytes, draftOf}
@@ -37,8 +37,12 @@ room-refused given rs line place h =
     let exactly = no-room-exactly line place (listBytes rs) in
     (λ e. exactly .0 (sym same ∙ e), λ k. same ∙ exactly .1 k)
 
+text-same : (l m : List ℕ) → Text l ≡ Text m → l ≡ m
+text-same l m e = cc
+
 pub bytes-on-disk : BytesOnDisk
-bytes-on-disk rs sound = list-on 0 rs sound
+bytes-on-disk given rs l h d =
+    subst (OnDisk rs) (text-same (listBytes rs) l (sym (ap draftOf h) ∙ d)) (list-on 0 rs (given-exactly given rs .0 h .1))
 
 -- ---- written, then read
 

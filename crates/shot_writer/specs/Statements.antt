@@ -13,7 +13,6 @@ use Rattle.low_bytes.specs.LowBytes.{Bytes}
 use Rattle.written.specs.declared.Written.the-variants.{Length, Refused}
 use Rattle.written.specs.Written.{Text, answerTo, lineTo}
 use Rattle.shot_lists.specs.declared.records.Record.{Record}
-use Rattle.shot_lists.specs.Records.{Sound}
 use Rattle.shot_lists.specs.Grammar.{OnDisk, listNumbers}
 use Rattle.shot_lists.specs.Format.{onDisk, inNumbers}
 use Rattle.shot_lists.specs.Reading.{AllOf, FaultOf, readOf}
@@ -30,9 +29,10 @@ RoomRefused =
     (given : List ℤ) (rs : List Record) (line : List ℕ) (place : ℕ) → readOf inNumbers given ≡ AllOf rs
     → (answerTo line place (listDraft given) ≡ Refused noRoom) ↔ (length line < place + length (listBytes rs))
 
--- the bytes of a list that nothing speaks against are those of the format
+-- what is written for these records is their bytes in the format
 abbrev pub BytesOnDisk : Type 0
-BytesOnDisk = (rs : List Record) → Sound 0 rs → OnDisk rs (listBytes rs)
+BytesOnDisk =
+    (given : List ℤ) (rs : List Record) (l : List ℕ) → readOf inNumbers given ≡ AllOf rs → listDraft given ≡ Text l → OnDisk rs l
 
 -- what is written and read again has the same records: the bytes that now stand in the line are read as what was handed over
 abbrev pub WrittenThenRead : Type 0
