@@ -2,7 +2,7 @@
 ghost use mathlib.Core.Path.{_≡_};
 ghost use lib.ListN.{drop};
 ghost use Rattle.written.specs.Written.{answerTo, lineTo};
-ghost use Rattle.shot_lists.specs.Format.{onDisk, entryOf};
+ghost use Rattle.shot_lists.specs.Entries.{onDisk, entryOf};
 ghost use Rattle.shot_lists.specs.Reading.{checkedOf, readOf};
 ghost use Rattle.shot_writer.specs.ListText.{listDraft};
 ghost use Rattle.exports.specs.Handed.{handedLength};

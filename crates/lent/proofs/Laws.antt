@@ -1,14 +1,15 @@
 -- Texts laid down one behind the other are one text, also where the rest of the line is lent on for the next.
 -- Assumes nothing.
-use Prim.Native.Nat.{ℕ, _+_, _-_, _≤_, _<_}
+use Prim.Native.Nat.{ℕ, suc, _+_, _-_, _≤_, _<_}
 use mathlib.Core.Path.{_≡_, refl, sym, ap, _∙_}
 use mathlib.Core.List.{List, [], _∷_, _++_, append-assoc, append-nil}
 use mathlib.Core.Bool.{Bool, true, false}
 use native.Mathlib.Omega.{arith}
-use native.Mathlib.Nat.{zero-add}
-use lib.ListN.{length, take, drop, set, length-append, length-take, length-drop, drop-of-length-le}
+use native.Mathlib.Numerals.{add-one}
+use native.Mathlib.Nat.{add-zero, zero-add}
+use lib.ListN.{length, take, drop, set, length-append, length-take, length-drop, drop-of-length-le, take-append-drop}
 use lib.Dec.{leb}
-use lib.Seq.{take-all, drop-drop, take-at, drop-at}
+use lib.Seq.{take-all, drop-drop, take-at, drop-at, take-suc-set, drop-set-lt}
 use borrow.Author.Tests.{le-leb, lt-leb, leb-true, leb-false}
 use borrow.Rule.Slice.PartMut.{putMid, midOf}
 use Rattle.lent.specs.Line.{front, laid, splice, hasRoom, fits, lineAfter}
@@ -56,6 +57,19 @@ splice-length l t at h = simp (length-append, length-drop, length-take) (omega a
 
 pub front-length : (l t : List ℕ) → length t ≤ length l → length (front l t) ≡ length l
 front-length l t h = ap length (front-is l t) ∙ splice-length l t 0 (omega arith)
+
+-- the first byte of a text is set, the rest goes behind it
+pub splice-set : (l : List ℕ) (k x : ℕ) (t : List ℕ) → k < length l → splice l k (x ∷ t) ≡ splice (set l k x) (k + 1) t
+unfolding splice
+splice-set l k x t h =
+    let s : k + 1 ≡ suc k = add-one k in
+    let n : k + suc (length t) ≡ suc k + length t = omega arith in
+    sym (rw (s, take-suc-set l k x h, drop-set-lt (suc k + length t) l k x (omega arith), append-assoc, ← n))
+
+-- no text at all changes nothing
+pub splice-nil : (l : List ℕ) (k : ℕ) → splice l k [] ≡ l
+unfolding splice
+splice-nil l k = rw (add-zero k) (take-append-drop k l)
 
 -- a text, and then another right behind it, are the two as one text
 pub splice-splice : (l t u : List ℕ) (at b : ℕ) → at + length t ≡ b → b + length u ≤ length l

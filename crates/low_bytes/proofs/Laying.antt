@@ -1,29 +1,14 @@
 -- The loop of `put_number`: what is left to be laid down, on the part as it is, makes the part that is wanted.
 -- Assumes nothing.
-use Prim.Native.Nat.{ℕ, zero, suc, _+_, _-_, _/_, _%_, _≤_, _<_}
+use Prim.Native.Nat.{ℕ, suc, _+_, _-_, _/_, _%_, _≤_, _<_}
 use mathlib.Core.Path.{_≡_, refl, sym, ap, _∙_}
-use mathlib.Core.List.{List, [], _∷_, append-assoc}
+use mathlib.Core.List.{List}
 use native.Mathlib.Omega.{arith}
-use native.Mathlib.Numerals.{add-one}
-use native.Mathlib.Nat.{add-zero}
-use lib.ListN.{length, take, drop, set, length-set, take-append-drop}
-use lib.Seq.{take-suc-set, drop-set-lt}
-use Rattle.lent.specs.Line.{front, splice, laid}
-use Rattle.lent.proofs.Laws.{laid-in, front-is}
+use lib.ListN.{length, set, length-set}
+use Rattle.lent.specs.Line.{splice, laid}
+use Rattle.lent.proofs.Laws.{laid-in, front-is, splice-set, splice-nil}
 use Rattle.low_bytes.specs.LowBytes.{lowBytes}
 use Rattle.low_bytes.specs.Laws.{low-length}
-
--- the first byte of a text is set, the rest goes behind it
-splice-set : (l : List ℕ) (k x : ℕ) (t : List ℕ) → k < length l → splice l k (x ∷ t) ≡ splice (set l k x) (k + 1) t
-unfolding splice
-splice-set l k x t h =
-    let s : k + 1 ≡ suc k = add-one k in
-    let n : k + suc (length t) ≡ suc k + length t = omega arith in
-    sym (rw (s, take-suc-set l k x h, drop-set-lt (suc k + length t) l k x (omega arith), append-assoc, ← n))
-
-splice-nil : (l : List ℕ) (k : ℕ) → splice l k [] ≡ l
-unfolding splice
-splice-nil l k = rw (add-zero k) (take-append-drop k l)
 
 pub record Laying (part₀ : List ℕ) (width n : ℕ) (part : List ℕ) (rest i : ℕ) : Type 0 where
   pub long : length part ≡ length part₀

@@ -29,7 +29,7 @@ use Rattle.arithmetic.specs.Flooring.{divqOf}
 use Rattle.chains.specs.Chain.{convertOf}
 use Rattle.low_bytes.specs.LowBytes.{worth, signedOf, lowBytes, twosOf}
 use Rattle.shot_lists.specs.Records.{faults}
-use Rattle.shot_lists.specs.Format.{bodyFixed, ofKind, entryOf}
+use Rattle.shot_lists.specs.Entries.{bodyFixed, ofKind, entryOf}
 use Rattle.shot_lists.specs.Reading.{readFrom}
 use Rattle.shot_writer.specs.ListText.{recordBytes, listBytes}
 use Rattle.promises.specs.Cases.{All, cases, StarredCases}

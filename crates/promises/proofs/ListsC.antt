@@ -6,7 +6,7 @@ use Rattle.shot_lists.specs.declared.records.Record.{Record}
 use Rattle.shot_lists.specs.declared.records.Record.the-variants.{Rate, Shot, Reel}
 use Rattle.shot_lists.specs.declared.records.Entry.{Entry}
 use Rattle.shot_lists.specs.declared.records.Entry.the-variants as entered
-use Rattle.shot_lists.specs.Format.{onDisk}
+use Rattle.shot_lists.specs.Entries.{onDisk}
 use Rattle.shot_lists.specs.Reading.{Reading, AllOf, FaultOf, checkedOf, readOf}
 use Rattle.exports.specs.declared.lists.TzqRecord.{TzqRecord}
 use Rattle.exports.specs.declared.lists.TzqChecked.{TzqChecked}

@@ -45,7 +45,7 @@ use Rattle.label_writer.specs.LabelText.{labelText, labelWhen, labelDraft}
 use Rattle.footage_writer.specs.FootageText.{footageText, footageWhen, footageDraft}
 use Rattle.runtime_writer.specs.RuntimeText.{runtimeText, runtimeWhen, runtimeDraft}
 use Rattle.shot_lists.specs.declared.records.Entry.the-variants as entered
-use Rattle.shot_lists.specs.Format.{onDisk, inNumbers, against, entryOf}
+use Rattle.shot_lists.specs.Entries.{onDisk, inNumbers, against, entryOf}
 use Rattle.shot_lists.proofs.Numbers.{against-nowhere}
 use Rattle.promises.specs.Given.{noRefusal, inCount, inAnswer, inTicks, inSeconds, inOrder, inWritten, inSections, inRow, inFormat, inEntry, Given}
 use Rattle.promises.specs.When.{givenBy, RefusedWhen}

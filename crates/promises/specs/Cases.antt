@@ -20,7 +20,7 @@ use Rattle.label_writer.specs.LabelText.{labelText}
 use Rattle.footage_writer.specs.FootageText.{footageText}
 use Rattle.shot_lists.specs.declared.records.Record.{Record}
 use Rattle.shot_lists.specs.declared.records.Record.the-variants.{Rate, Shot, Reel}
-use Rattle.shot_lists.specs.Format.{onDisk}
+use Rattle.shot_lists.specs.Entries.{onDisk}
 use Rattle.shot_lists.specs.Reading.{AllOf, FaultOf, readOf}
 use Rattle.shot_writer.specs.ListText.{listBytes}
 use Rattle.arithmetic.specs.Truncating.{divOf}

@@ -10,7 +10,7 @@ use Rattle.shot_lists.specs.declared.records.Record.the-variants.{Rate, Shot, R
 use Rattle.shot_lists.specs.declared.records.Entry.{Entry}
 use Rattle.shot_lists.specs.declared.records.Entry.the-variants as entered
 use Rattle.shot_lists.specs.Grammar.{kindByte}
-use Rattle.shot_lists.specs.Format.{onDisk, entryOf}
+use Rattle.shot_lists.specs.Entries.{onDisk, entryOf}
 use Rattle.shot_lists.specs.Reading.{Reading, AllOf, FaultOf, readOf}
 use Rattle.exports.specs.declared.lists.TzqRecord.{TzqRecord}
 use Rattle.exports.specs.declared.lists.TzqChecked.{TzqChecked}
@@ -19,8 +19,8 @@ use Rattle.exports.proofs.lists.tzq_record_at.Reads as tzq-record-at-reads
 use Rattle.exports.proofs.lists.tzq_check_list as tzq-check-list
 use Rattle.exports.proofs.lists.tzq_check_list.Reads as tzq-check-list-reads
 
--- the numbers of a struct that only one kind of record has
-pub record Numbers (t : TzqRecord) : Type 0 where
+-- no number that only one kind of record has
+pub record NoneOwn (t : TzqRecord) : Type 0 where
   pub rate : t .rate ≡ 0
   pub first : t .first ≡ pos 0
   pub end : t .end ≡ pos 0
@@ -36,7 +36,7 @@ OwnIn t (Reel n) = (t .rate ≡ 0) × (t .first ≡ pos 0) × (t .end ≡ pos 0)
 pub record Without (t : TzqRecord) (refused : ℕ) : Type 0 where
   pub number : t .refused ≡ refused
   pub kind : t .kind ≡ 0
-  pub none : Numbers t
+  pub none : NoneOwn t
   pub held : t .held ≡ 0
   pub size : t .size ≡ 0
 

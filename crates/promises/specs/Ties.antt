@@ -26,7 +26,7 @@ use Rattle.time.specs.Frames.{framesAt, secondsAt, ticksAt}
 use Rattle.time.specs.Seconds.{SecondsOf}
 use Rattle.time.specs.Ticks.{ticksOf}
 use Rattle.written.specs.Written.{answerTo, lineTo}
-use Rattle.shot_lists.specs.Format.{onDisk, inNumbers, entryOf}
+use Rattle.shot_lists.specs.Entries.{onDisk, inNumbers, entryOf}
 use Rattle.shot_lists.specs.Reading.{checkedOf, readOf}
 use Rattle.shot_writer.specs.ListText.{recordBytes, listDraft}
 use Rattle.answers.specs.Refusals as answers

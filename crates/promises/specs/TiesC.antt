@@ -11,7 +11,7 @@ use Rattle.arithmetic.specs.Remainder.{remqOf}
 use Rattle.arithmetic.specs.Sum.{addOf, subOf}
 use Rattle.arithmetic.specs.Truncating.{divOf, remOf}
 use Rattle.chains.specs.Chain.{convertOf}
-use Rattle.shot_lists.specs.Format.{onDisk, entryOf}
+use Rattle.shot_lists.specs.Entries.{onDisk, entryOf}
 use Rattle.shot_lists.specs.Reading.{checkedOf, readOf}
 use Rattle.shot_writer.specs.ListText.{listDraft}
 use Rattle.exports.specs.HandedLists.{handedEntry, handedChecked}

@@ -21,7 +21,7 @@ use Rattle.arithmetic.specs.Remainder.{remqWhen, remqOf}
 use Rattle.arithmetic.specs.Compare.{compareOf}
 use Rattle.arithmetic.specs.Count.{negOf, absOf, rebaseWhen, rebaseOf}
 use Rattle.chains.specs.Chain.{convertWhen, convertOf}
-use Rattle.shot_lists.specs.Format.{onDisk, inNumbers, against, entryOf}
+use Rattle.shot_lists.specs.Entries.{onDisk, inNumbers, against, entryOf}
 use Rattle.written.specs.Written.{Draft, writtenWhen, answerTo}
 use Rattle.label_writer.specs.Sections.{sectioned}
 use Rattle.label_writer.specs.LabelText.{labelText, labelWhen, labelDraft}

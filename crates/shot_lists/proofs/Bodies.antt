@@ -17,7 +17,7 @@ use Rattle.shot_lists.specs.declared.records.Record.{Record}
 use Rattle.shot_lists.specs.declared.records.Record.the-variants.{Rate, Shot, Reel}
 use Rattle.shot_lists.specs.declared.records.Entry.the-variants.{Taken}
 use Rattle.shot_lists.specs.Grammar.{kindByte, BodyOf, OneOnDisk}
-use Rattle.shot_lists.specs.Format.{bodyFixed, ofKind, onDisk, entryOf}
+use Rattle.shot_lists.specs.Entries.{bodyFixed, ofKind, onDisk, entryOf}
 use Rattle.shot_lists.specs.Laws.{Spells, taken-told}
 use Rattle.shot_lists.specs.Statements.{KindFixes}
 

@@ -8,7 +8,7 @@ use borrow.Author.Tests.{eq-eqb, ne-eqb}
 use lib.IntN.{ℤ, pos}
 use lib.ListN.{length, getD}
 use Rattle.shot_lists.specs.declared.records.Record.{Record}
-use Rattle.shot_lists.specs.Format.{ofKind}
+use Rattle.shot_lists.specs.Entries.{ofKind}
 
 module _ (k : ℕ) (rate shot reel : Record) where
   pub of-rate : k ≡ 1 → ofKind k rate shot reel ≡ rate

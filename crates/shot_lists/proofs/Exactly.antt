@@ -1,5 +1,5 @@
 -- What a list gives, by how its records are spelt: its records, or the earliest one at fault; along the reader's own recursion, and back along the
--- grammar's. Once, for every format and every spelling that the format reads.
+-- grammar's. Once, for every layout and every spelling that it reads.
 -- Assumes nothing.
 use Prim.Native.Nat.{ℕ, zero, suc, _-_, _<_}
 use mathlib.Core.Path.{_≡_, refl, sym, ap, _∙_, subst}
@@ -13,7 +13,7 @@ use Rattle.shot_lists.specs.declared.records.Entry.{Entry}
 use Rattle.shot_lists.specs.declared.records.Entry.the-variants.{Taken, Refused, End}
 use Rattle.shot_lists.specs.Records.{heldAfter, Sound, heldBehind}
 use Rattle.shot_lists.specs.Grammar.{OneByOne, none, more}
-use Rattle.shot_lists.specs.Format.{Format, entryOf}
+use Rattle.shot_lists.specs.Entries.{Layout, entryOf}
 use Rattle.shot_lists.specs.Reading.{Reading, AllOf, FaultOf, andThen, onward, readFrom, readOf}
 use Rattle.shot_lists.specs.Laws.{taken-told, taken-size, end-only, Spells}
 use Rattle.shot_lists.specs.Walk.{read-spelled, read-refused, read-end}
@@ -40,9 +40,9 @@ split (suc n) x l h =
     let e : suc n - 1 ≡ n = omega arith in
     ap (λ (k : ℕ). x ∷ (take n l ++ drop k l)) e ∙ ap (λ m. x ∷ m) (take-append-drop n l)
 
--- ---- a format, a spelling that it reads, and lists whose records it reads in no other
+-- ---- a layout, a spelling that it reads, and lists whose records it reads in no other
 
-module _ {A : Type 0} (f : Format A) (Spelt : Record → List A → Type 0) (spells : (r : Record) (l : List A) → Spelt r l → Spells f r l)
+module _ {A : Type 0} (f : Layout A) (Spelt : Record → List A → Type 0) (spells : (r : Record) (l : List A) → Spelt r l → Spells f r l)
     (Ok : List A → Type 0) (later : (x : A) (l : List A) → Ok (x ∷ l) → Ok l)
     (taken-spelt : (held : ℕ) (x : A) (l : List A) (r : Record) (after size : ℕ) → Ok (x ∷ l) → entryOf f held (x ∷ l) ≡ Taken r after size → Spelt r (take size (x ∷ l))) where
   -- what was read tells of the list; the rate held in front of it is any

@@ -13,7 +13,7 @@ use Rattle.shot_lists.specs.declared.records.Record.the-variants.{Rate, 
 use Rattle.shot_lists.specs.declared.records.Entry.{Entry}
 use Rattle.shot_lists.specs.declared.records.Entry.the-variants.{Taken, Refused, End}
 use Rattle.shot_lists.specs.Records.{heldAfter, faults}
-use Rattle.shot_lists.specs.Format.{Format, against, entryOf}
+use Rattle.shot_lists.specs.Entries.{Layout, against, entryOf}
 use Rattle.shot_lists.specs.Reading.{Reading, AllOf, FaultOf, andThen, onward, readFrom, numberIn, placeIn}
 use Rattle.shot_lists.specs.Statements.{EntryWhen, NeverEight}
 
@@ -49,10 +49,10 @@ nowhere held (Rate n) = (refl, tt)
 nowhere held (Shot first end) = (refl, (refl, (refl, (refl, tt))))
 nowhere held (Reel n) = (refl, tt)
 
-pub against-nowhere : {A : Type 0} (f : Format A) (held : ℕ) (x : A) (l : List A) → NoPlaces (against f held x l)
+pub against-nowhere : {A : Type 0} (f : Layout A) (held : ℕ) (x : A) (l : List A) → NoPlaces (against f held x l)
 against-nowhere f held x l = (refl, (refl, nowhere held (f .made (f .kind x) l)))
 
-entry-nowhere : {A : Type 0} (f : Format A) (held : ℕ) (x : A) (l : List A) → placeIn (entryOf f held (x ∷ l)) ≡ 0
+entry-nowhere : {A : Type 0} (f : Layout A) (held : ℕ) (x : A) (l : List A) → placeIn (entryOf f held (x ∷ l)) ≡ 0
 unfolding entryOf
 entry-nowhere f held x l =
     let r = f .made (f .kind x) l in
@@ -67,7 +67,7 @@ other-more : (r : Record) (later : Reading) → Other later → Other (andThen r
 other-more r (AllOf rs) h = tt
 other-more r (FaultOf e) h = h
 
-module _ {A : Type 0} (f : Format A) where
+module _ {A : Type 0} (f : Layout A) where
   other-by : (held : ℕ) (x : A) (l : List A) (found : Entry) → entryOf f held (x ∷ l) ≡ found
       → ((skip after : ℕ) → Other (readFrom f skip after l)) → Other (onward found (λ after size. readFrom f (size - 1) after l))
   other-by held x l (Taken r after size) h later = other-more r (readFrom f (size - 1) after l) (later (size - 1) after)

@@ -8,7 +8,7 @@ use lib.ListN.{length, drop}
 use lib.Seq.{drop-at}
 use Rattle.shot_lists.specs.declared.records.Record.{Record}
 use Rattle.shot_lists.specs.Grammar.{none, more, kindByte, BodyOf, OneOnDisk, OnDisk}
-use Rattle.shot_lists.specs.Format.{onDisk}
+use Rattle.shot_lists.specs.Entries.{onDisk}
 use Rattle.shot_lists.specs.Statements.{OneBytes}
 use Rattle.shot_lists.proofs.Bodies.{kind-fixes, made-back, body-one}
 

@@ -18,7 +18,7 @@ use Rattle.shot_lists.specs.declared.records.Record.the-variants.{Rate, 
 use Rattle.shot_lists.specs.declared.records.Entry.the-variants.{Taken}
 use Rattle.shot_lists.specs.Records.{faults}
 use Rattle.shot_lists.specs.Grammar.{OneByOne, none, more, recordNumbers, listNumbers}
-use Rattle.shot_lists.specs.Format.{bodyFixed, ofKind, inNumbers, entryOf}
+use Rattle.shot_lists.specs.Entries.{bodyFixed, ofKind, inNumbers, entryOf}
 use Rattle.shot_lists.specs.Laws.{Spells, taken-told}
 
 -- ---- they are taken as the record

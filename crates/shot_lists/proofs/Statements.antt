@@ -8,7 +8,7 @@ use Rattle.low_bytes.specs.LowBytes.{Bytes}
 use Rattle.low_bytes.specs.Laws.{bytes-tail}
 use Rattle.shot_lists.specs.declared.records.Record.{Record}
 use Rattle.shot_lists.specs.Grammar.{OneByOne, OneOnDisk, listNumbers}
-use Rattle.shot_lists.specs.Format.{onDisk, inNumbers, entryOf}
+use Rattle.shot_lists.specs.Entries.{onDisk, inNumbers, entryOf}
 use Rattle.shot_lists.specs.Laws.{end-only}
 use Rattle.shot_lists.specs.Walk.{read-taken, read-refused}
 use Rattle.shot_lists.specs.Statements.{ReadExactly, RefusedExactly, OneList, GivenExactly, GivenRefused, Walk}

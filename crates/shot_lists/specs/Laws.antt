@@ -1,4 +1,4 @@
--- Laws of the record at a place (BEHAVIOUR: Shot lists), for every format: what is answered there, and what a record that was taken tells.
+-- Laws of the record at a place (BEHAVIOUR: Shot lists), for every layout: what is answered there, and what a record that was taken tells.
 -- Assumes nothing.
 use Prim.Native.Nat.{ℕ, zero, suc, _+_, _-_, _≤_, _<_}
 use mathlib.Core.Path.{_≡_, refl, sym, ap, _∙_}
@@ -18,7 +18,7 @@ use Rattle.shot_lists.specs.declared.records.Record.{Record}
 use Rattle.shot_lists.specs.declared.records.Entry.{Entry}
 use Rattle.shot_lists.specs.declared.records.Entry.the-variants.{Taken, Refused, End}
 use Rattle.shot_lists.specs.Records.{heldAfter, faults}
-use Rattle.shot_lists.specs.Format.{Format, against, ruled, entryOf}
+use Rattle.shot_lists.specs.Entries.{Layout, against, ruled, entryOf}
 
 -- a record that was taken is no refusal, and not the end
 pub taken-apart : (r : Record) (held size : ℕ) (e : Refusal) → Refused e ≡ Taken r held size → ⊥
@@ -31,7 +31,7 @@ pub refused-apart : (e : Refusal) → Refused e ≡ End → ⊥
 refused-apart e h = let clash : _≡_ {A = ℕ} 0 1 = cc in omega arith
 
 -- elements that stand for a record, whatever comes behind them
-pub record Spells {A : Type 0} (f : Format A) (r : Record) (l : List A) : Type 0 where
+pub record Spells {A : Type 0} (f : Layout A) (r : Record) (l : List A) : Type 0 where
   pub head : A
   pub body : List A
   pub is : l ≡ head ∷ body
@@ -39,7 +39,7 @@ pub record Spells {A : Type 0} (f : Format A) (r : Record) (l : List A) : Type 0
   pub some : 0 < length body
   pub made : (m : List A) → f .made (f .kind head) (body ++ m) ≡ r
 
-module _ {A : Type 0} (f : Format A) (held : ℕ) where
+module _ {A : Type 0} (f : Layout A) (held : ℕ) where
   -- ---- at a place of a list
 
   pub entry-end : (l : List A) (at : ℕ) → length l ≤ at → entryOf f held (drop at l) ≡ End

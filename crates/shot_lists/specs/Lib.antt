@@ -1,6 +1,6 @@
 pub mod Records
 pub mod Grammar
-pub mod Format
+pub mod Entries
 pub mod Reading
 pub mod Laws
 pub mod Walk

@@ -9,7 +9,7 @@ use Rattle.shot_lists.specs.declared.records.Entry.{Entry}
 use Rattle.shot_lists.specs.declared.records.Entry.the-variants as entry
 use Rattle.shot_lists.specs.declared.disk.Checked.{Checked}
 use Rattle.shot_lists.specs.declared.disk.Checked.the-variants as checked
-use Rattle.shot_lists.specs.Format.{Format, entryOf}
+use Rattle.shot_lists.specs.Entries.{Layout, entryOf}
 
 -- what a list gives
 pub data Reading : Type 0 where
@@ -26,13 +26,13 @@ onward (entry.Refused e) later = FaultOf e
 onward entry.End later = AllOf []
 
 -- the record at the front, and the records behind it; `skip` elements that belong to the record before are passed over
-unfoldable pub readFrom : {A : Type 0} → Format A → (skip held : ℕ) → List A → Reading
+unfoldable pub readFrom : {A : Type 0} → Layout A → (skip held : ℕ) → List A → Reading
 readFrom f skip held [] = AllOf []
 readFrom f (suc skip) held (x ∷ l) = readFrom f skip held l
 readFrom f zero held (x ∷ l) = onward (entryOf f held (x ∷ l)) (λ after size. readFrom f (size - 1) after l)
 
 -- from the first element on; no rate is held yet
-abbrev pub readOf : {A : Type 0} → Format A → List A → Reading
+abbrev pub readOf : {A : Type 0} → Layout A → List A → Reading
 readOf f l = readFrom f 0 0 l
 
 -- how many records, or the refusal

@@ -13,7 +13,7 @@ use Rattle.shot_lists.specs.declared.records.Record.{Record}
 use Rattle.shot_lists.specs.declared.records.Entry.the-variants.{Taken, Refused, End}
 use Rattle.shot_lists.specs.Records.{Sound, heldBehind}
 use Rattle.shot_lists.specs.Grammar.{kindByte, BodyOf, OnDisk, listNumbers}
-use Rattle.shot_lists.specs.Format.{Format, onDisk, inNumbers, against, entryOf}
+use Rattle.shot_lists.specs.Entries.{Layout, onDisk, inNumbers, against, entryOf}
 use Rattle.shot_lists.specs.Reading.{AllOf, FaultOf, andThen, readFrom, readOf, numberIn}
 
 -- a body has the length that its kind fixes
@@ -25,7 +25,7 @@ abbrev pub ReadExactly : Type 0
 ReadExactly = (l : List ℕ) (rs : List Record) → Bytes l → (readOf onDisk l ≡ AllOf rs) ↔ (OnDisk rs l × Sound 0 rs)
 
 -- the earliest record at fault: records that nothing speaks against stand before it, and this is the refusal of the record there
-pub record Earliest {A : Type 0} (f : Format A) (Listed : List Record → List A → Type 0) (l : List A) (e : Refusal) : Type 0 where
+pub record Earliest {A : Type 0} (f : Layout A) (Listed : List Record → List A → Type 0) (l : List A) (e : Refusal) : Type 0 where
   pub before : List Record
   pub front : List A
   pub rest : List A
@@ -48,13 +48,13 @@ GivenRefused =
     (given : List ℤ) (e : Refusal)
     → (readOf inNumbers given ≡ FaultOf e) ↔ Earliest inNumbers (λ rs l. l ≡ listNumbers rs) given e
 
--- a record is refused what speaks against it first: 9, 10, 6 and 5 on its numbers, 11, 12; in every format
+-- a record is refused what speaks against it first: 9, 10, 6 and 5 on its numbers, 11, 12; in every layout
 abbrev pub EntryWhen : Type 1
-EntryWhen = (A : Type 0) (f : Format A) (held : ℕ) (x : A) (l : List A) → numberIn (entryOf f held (x ∷ l)) ≡ first (against f held x l)
+EntryWhen = (A : Type 0) (f : Layout A) (held : ℕ) (x : A) (l : List A) → numberIn (entryOf f held (x ∷ l)) ≡ first (against f held x l)
 
 -- the reader never gives 8, and its refusals have no place in a text
 abbrev pub NeverEight : Type 1
-NeverEight = (A : Type 0) (f : Format A) (l : List A) (e : Refusal) → readOf f l ≡ FaultOf e → (e .number ≡ 8 → ⊥) × (e .place ≡ 0)
+NeverEight = (A : Type 0) (f : Layout A) (l : List A) (e : Refusal) → readOf f l ≡ FaultOf e → (e .number ≡ 8 → ⊥) × (e .place ≡ 0)
 
 -- no bytes are two lists, and what is read is the one list that they are
 pub record OneList : Type 0 where

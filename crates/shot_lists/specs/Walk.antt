@@ -1,4 +1,4 @@
--- A list, record by record (BEHAVIOUR: Shot lists), for every format: what is read is the record at the front and what is read behind it; and any loop
+-- A list, record by record (BEHAVIOUR: Shot lists), for every layout: what is read is the record at the front and what is read behind it; and any loop
 -- over the records: what is wanted, from what the rest of the list gives.
 -- Assumes nothing.
 use Prim.Native.Nat.{ℕ, zero, suc, _+_, _-_, _≤_, _<_}
@@ -12,11 +12,11 @@ use Rattle.answers.specs.Order.{Clear}
 use Rattle.shot_lists.specs.declared.records.Record.{Record}
 use Rattle.shot_lists.specs.declared.records.Entry.the-variants.{Taken, Refused, End}
 use Rattle.shot_lists.specs.Records.{heldAfter, faults}
-use Rattle.shot_lists.specs.Format.{Format, entryOf}
+use Rattle.shot_lists.specs.Entries.{Layout, entryOf}
 use Rattle.shot_lists.specs.Reading.{Reading, AllOf, FaultOf, andThen, readFrom, readOf}
 use Rattle.shot_lists.specs.Laws.{taken-size, end-apart, end-only, Spells, entry-spelled}
 
-module _ {A : Type 0} (f : Format A) where
+module _ {A : Type 0} (f : Layout A) where
   pub read-skip : (skip held : ℕ) (l : List A) → readFrom f skip held l ≡ readFrom f 0 held (drop skip l)
   unfolding readFrom
   read-skip zero held l = refl
@@ -55,14 +55,14 @@ module _ {A : Type 0} (f : Format A) where
     pub inside : at ≤ length l
     pub same : want ≡ rest (readFrom f 0 held (drop at l))
 
-  pub begin : {B : Type 0} (l : List A) (rest : Reading → B) → Going l (rest (readOf f l)) rest 0 0
-  begin l rest = record { inside = omega arith; same = refl }
+  pub going-begin : {B : Type 0} (l : List A) (rest : Reading → B) → Going l (rest (readOf f l)) rest 0 0
+  going-begin l rest = record { inside = omega arith; same = refl }
 
   -- a record was taken: `next` does with the rest what `rest` does with the record and the rest
-  pub turn : {B : Type 0} (l : List A) (want : B) (rest next : Reading → B) (at held : ℕ) (r : Record) (after size : ℕ)
+  pub going-turn : {B : Type 0} (l : List A) (want : B) (rest next : Reading → B) (at held : ℕ) (r : Record) (after size : ℕ)
       → Going l want rest at held → entryOf f held (drop at l) ≡ Taken r after size
       → ((t : Reading) → readFrom f 0 after (drop (at + size) l) ≡ t → rest (andThen r t) ≡ next t) → Going l want next (at + size) after
-  turn l want rest next at held r after size g h step =
+  going-turn l want rest next at held r after size g h step =
       let n = taken-size f held (drop at l) r after size h in
       record {
         inside = omega (arith, n .0, n .1, length-drop at l);
@@ -73,22 +73,22 @@ module _ {A : Type 0} (f : Format A) where
             ∙ step (readFrom f 0 after (drop (at + size) l)) refl;
       }
 
-  pub stop : {B : Type 0} (l : List A) (want : B) (rest : Reading → B) (at held : ℕ) (e : Refusal)
+  pub going-stop : {B : Type 0} (l : List A) (want : B) (rest : Reading → B) (at held : ℕ) (e : Refusal)
       → Going l want rest at held → entryOf f held (drop at l) ≡ Refused e → want ≡ rest (FaultOf e)
-  stop l want rest at held e g h = g .same ∙ ap rest (read-refused held (drop at l) e h)
+  going-stop l want rest at held e g h = g .same ∙ ap rest (read-refused held (drop at l) e h)
 
   -- no record is left
-  pub over : {B : Type 0} (l : List A) (want : B) (rest : Reading → B) (at held : ℕ)
+  pub going-over : {B : Type 0} (l : List A) (want : B) (rest : Reading → B) (at held : ℕ)
       → Going l want rest at held → entryOf f held (drop at l) ≡ End → want ≡ rest (AllOf [])
-  over l want rest at held g h =
+  going-over l want rest at held g h =
       g .same ∙ ap (λ (k : List A). rest (readFrom f 0 held k)) (end-only f held (drop at l) h) ∙ ap rest (read-end 0 held)
 
-  pub done : {B : Type 0} (l : List A) (want : B) (rest : Reading → B) (at held : ℕ) → Going l want rest at held → length l ≤ at → want ≡ rest (AllOf [])
-  done l want rest at held g h =
+  pub going-done : {B : Type 0} (l : List A) (want : B) (rest : Reading → B) (at held : ℕ) → Going l want rest at held → length l ≤ at → want ≡ rest (AllOf [])
+  going-done l want rest at held g h =
       g .same ∙ ap (λ (k : List A). rest (readFrom f 0 held k)) (drop-of-length-le l h) ∙ ap rest (read-end 0 held)
 
   -- a record that was taken leaves less to be read
-  pub nearer : (l : List A) (at held : ℕ) (r : Record) (after size : ℕ) → entryOf f held (drop at l) ≡ Taken r after size → (0 < size) × (at + size ≤ length l)
-  nearer l at held r after size h =
+  pub going-nearer : (l : List A) (at held : ℕ) (r : Record) (after size : ℕ) → entryOf f held (drop at l) ≡ Taken r after size → (0 < size) × (at + size ≤ length l)
+  going-nearer l at held r after size h =
       let n = taken-size f held (drop at l) r after size h in
       (n .0, omega (arith, n .0, n .1, length-drop at l))

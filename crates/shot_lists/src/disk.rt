@@ -2,7 +2,7 @@
 ghost use mathlib.Core.Path.{_≡_};
 ghost use Prim.Native.Nat.{_≤_};
 ghost use lib.ListN.{length, drop};
-ghost use Rattle.shot_lists.specs.Format.{onDisk, entryOf};
+ghost use Rattle.shot_lists.specs.Entries.{onDisk, entryOf};
 ghost use Rattle.shot_lists.specs.Reading.{checkedOf, readOf};
 use crate::records;
 use crate::records::Entry;

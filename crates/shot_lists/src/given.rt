@@ -4,7 +4,7 @@ ghost use mathlib.Core.Path.{_≡_};
 ghost use Prim.Native.Nat.{_≤_};
 ghost use lib.ListN.{length, drop, getD};
 ghost use lib.IntN.{pos};
-ghost use Rattle.shot_lists.specs.Format.{inNumbers, entryOf};
+ghost use Rattle.shot_lists.specs.Entries.{inNumbers, entryOf};
 use crate::records;
 use crate::records::Entry;
 use crate::records::Record;

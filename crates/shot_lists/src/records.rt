@@ -4,7 +4,7 @@ ghost use mathlib.Core.List.{_∷_, []};
 ghost use Rattle.answers.specs.Order.{judged};
 ghost use Rattle.rates.specs.Rates.{badRate};
 ghost use Rattle.shot_lists.specs.Records.{heldAfter, badReel, shotFaults, faults};
-ghost use Rattle.shot_lists.specs.Format.{bodyFixed, ruled};
+ghost use Rattle.shot_lists.specs.Entries.{bodyFixed, ruled};
 use answers::Refusal;
 use answers::Verdict;
 

@@ -14,7 +14,7 @@ use Rattle.low_bytes.specs.Laws.{low-length}
 use Rattle.shot_lists.specs.declared.records.Record.{Record}
 use Rattle.shot_lists.specs.declared.records.Record.the-variants.{Rate, Shot, Reel}
 use Rattle.shot_lists.specs.declared.records.Entry.the-variants.{Taken, End}
-use Rattle.shot_lists.specs.Format.{bodyFixed, ofKind, inNumbers, entryOf}
+use Rattle.shot_lists.specs.Entries.{bodyFixed, ofKind, inNumbers, entryOf}
 use Rattle.shot_lists.specs.Laws.{taken-told, end-apart}
 use Rattle.shot_writer.specs.ListText.{recordBytes}
 

@@ -2,21 +2,21 @@
 -- Assumes nothing.
 use Prim.Native.Nat.{ℕ, _+_, _-_, _≤_, _<_}
 use mathlib.Core.Path.{_≡_, refl, sym, ap, _∙_, subst}
-use mathlib.Core.List.{List, [], _++_}
+use mathlib.Core.List.{List}
 use mathlib.Core.Bool.{Bool, true, false}
 use native.Mathlib.Omega.{arith}
-use native.Mathlib.Nat.{add-zero, zero-add}
+use native.Mathlib.Nat.{zero-add}
 use lib.IntN.{ℤ}
-use lib.ListN.{length, take, drop, length-append, take-append-drop}
+use lib.ListN.{length, drop, length-append}
 use borrow.Rule.Slice.PartMut.{putMid, midOf}
 use Rattle.answers.specs.declared.Refusal.{Refusal}
 use Rattle.lent.specs.Line.{splice, laid}
-use Rattle.lent.proofs.Laws.{laid-in, front-is, splice-length, splice-splice, line-lent, line-laid}
+use Rattle.lent.proofs.Laws.{laid-in, front-is, splice-length, splice-nil, splice-splice, line-lent, line-laid}
 use Rattle.shot_lists.specs.declared.records.Record.{Record}
 use Rattle.shot_lists.specs.declared.records.Entry.the-variants.{Taken, Refused, End}
-use Rattle.shot_lists.specs.Format.{inNumbers, entryOf}
+use Rattle.shot_lists.specs.Entries.{inNumbers, entryOf}
 use Rattle.shot_lists.specs.Reading.{Reading, AllOf, FaultOf, andThen, readFrom, readOf}
-use Rattle.shot_lists.specs.Walk.{Going, begin, turn, stop, over, done}
+use Rattle.shot_lists.specs.Walk.{Going, going-begin, going-turn, going-stop, going-over, going-done}
 use Rattle.shot_writer.specs.ListText.{recordBytes, listBytes, recordsIn}
 
 abbrev pub isGood : Reading → Bool
@@ -39,7 +39,7 @@ putting-start given part sound room =
     record {
       long = refl;
       fits = room;
-      good = subst (λ (b : Bool). Going inNumbers given b isGood 0 0) (ap isGood sound) (begin inNumbers given isGood);
+      good = subst (λ (b : Bool). Going inNumbers given b isGood 0 0) (ap isGood sound) (going-begin inNumbers given isGood);
       size = record { inside = omega arith; same = sym (zero-add (length (textOf (readOf inNumbers given)))) };
       text = record { inside = omega arith; same = laid-in part (textOf (readOf inNumbers given)) room ∙ front-is part (textOf (readOf inNumbers given)) };
     }
@@ -65,11 +65,11 @@ text-more part to r (FaultOf e) g h = false-apart g
 module _ (given : List ℤ) (part₀ part : List ℕ) (at held to : ℕ) (p : Putting given part₀ part at held to) where
   module _ (r : Record) (after size : ℕ) (h : entryOf inNumbers held (drop at given) ≡ Taken r after size) where
     good-then : Going inNumbers given true isGood (at + size) after
-    good-then = turn inNumbers given true isGood isGood at held r after size (p .good) h (λ t _. good-more r t)
+    good-then = going-turn inNumbers given true isGood isGood at held r after size (p .good) h (λ t _. good-more r t)
 
     size-then : Going inNumbers given (length (textOf (readOf inNumbers given))) (λ t. to + length (recordBytes r) + length (textOf t)) (at + size) after
     size-then =
-        turn inNumbers given (length (textOf (readOf inNumbers given))) (λ t. to + length (textOf t)) (λ t. to + length (recordBytes r) + length (textOf t))
+        going-turn inNumbers given (length (textOf (readOf inNumbers given))) (λ t. to + length (textOf t)) (λ t. to + length (recordBytes r) + length (textOf t))
         at held r after size (p .size) h (λ t e. size-more to r t (good-then .same ∙ ap isGood e))
 
     -- the record has room
@@ -91,7 +91,7 @@ module _ (given : List ℤ) (part₀ part : List ℕ) (at held to : ℕ) (p : Pu
             good = good-then;
             size = size-then;
             text =
-                turn inNumbers given (laid part₀ (textOf (readOf inNumbers given))) (λ t. splice part to (textOf t))
+                going-turn inNumbers given (laid part₀ (textOf (readOf inNumbers given))) (λ t. splice part to (textOf t))
                 (λ t. splice put (to + length (recordBytes r)) (textOf t)) at held r after size (p .text) h
                 (λ t e.
                 text-more part to r t (good-then .same ∙ ap isGood e) (rest-fits t e)
@@ -105,18 +105,14 @@ module _ (given : List ℤ) (part₀ part : List ℕ) (at held to : ℕ) (p : Pu
       putting-turn n e = subst (λ (m : ℕ). Putting given part₀ put (at + size) after (to + m)) (sym e) laid-down
 
   pub putting-never : (e : Refusal) → entryOf inNumbers held (drop at given) ≡ Refused e → ⊥
-  putting-never e h = false-apart (stop inNumbers given true isGood at held e (p .good) h)
-
-  text-nil : splice part to [] ≡ part
-  unfolding splice
-  text-nil = rw (add-zero to) (take-append-drop to part)
+  putting-never e h = false-apart (going-stop inNumbers given true isGood at held e (p .good) h)
 
   pub putting-over : entryOf inNumbers held (drop at given) ≡ End → part ≡ laid part₀ (textOf (readOf inNumbers given))
   unfolding listBytes
   putting-over h =
-      sym (over inNumbers given (laid part₀ (textOf (readOf inNumbers given))) (λ t. splice part to (textOf t)) at held (p .text) h ∙ text-nil)
+      sym (going-over inNumbers given (laid part₀ (textOf (readOf inNumbers given))) (λ t. splice part to (textOf t)) at held (p .text) h ∙ splice-nil part to)
 
   pub putting-done : length given ≤ at → part ≡ laid part₀ (textOf (readOf inNumbers given))
   unfolding listBytes
   putting-done h =
-      sym (done inNumbers given (laid part₀ (textOf (readOf inNumbers given))) (λ t. splice part to (textOf t)) at held (p .text) h ∙ text-nil)
+      sym (going-done inNumbers given (laid part₀ (textOf (readOf inNumbers given))) (λ t. splice part to (textOf t)) at held (p .text) h ∙ splice-nil part to)

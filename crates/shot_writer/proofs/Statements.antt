@@ -18,7 +18,7 @@ use Rattle.written.proofs.Laws.{text-written}
 use Rattle.written.proofs.Statements.{no-room-exactly}
 use Rattle.shot_lists.specs.declared.records.Record.{Record}
 use Rattle.shot_lists.specs.Records.{Sound}
-use Rattle.shot_lists.specs.Format.{onDisk, inNumbers}
+use Rattle.shot_lists.specs.Entries.{onDisk, inNumbers}
 use Rattle.shot_lists.specs.Reading.{Reading, AllOf, FaultOf, readOf}
 use Rattle.shot_lists.specs.Grammar.{OnDisk, listNumbers}
 use Rattle.shot_lists.proofs.Statements.{read-exactly, given-exactly}

@@ -8,7 +8,7 @@ use Rattle.low_bytes.specs.LowBytes.{lowBytes, signedBytes}
 use Rattle.written.specs.Written.{Draft, Text, NoText}
 use Rattle.shot_lists.specs.declared.records.Record.{Record}
 use Rattle.shot_lists.specs.declared.records.Record.the-variants.{Rate, Shot, Reel}
-use Rattle.shot_lists.specs.Format.{inNumbers}
+use Rattle.shot_lists.specs.Entries.{inNumbers}
 use Rattle.shot_lists.specs.Reading.{Reading, AllOf, FaultOf, readOf}
 use Rattle.shot_writer.specs.declared.Measured.{Measured}
 use Rattle.shot_writer.specs.declared.Measured.the-variants.{Length, Refused}

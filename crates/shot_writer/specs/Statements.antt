@@ -14,7 +14,7 @@ use Rattle.written.specs.declared.Written.the-variants.{Length, Refused}
 use Rattle.written.specs.Written.{Text, answerTo, lineTo}
 use Rattle.shot_lists.specs.declared.records.Record.{Record}
 use Rattle.shot_lists.specs.Grammar.{OnDisk, listNumbers}
-use Rattle.shot_lists.specs.Format.{onDisk, inNumbers}
+use Rattle.shot_lists.specs.Entries.{onDisk, inNumbers}
 use Rattle.shot_lists.specs.Reading.{AllOf, FaultOf, readOf}
 use Rattle.shot_writer.specs.ListText.{listBytes, listDraft}
 

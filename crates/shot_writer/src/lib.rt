@@ -9,7 +9,7 @@ ghost use Rattle.lent.specs.Line.{laid};
 ghost use Rattle.low_bytes.specs.LowBytes.{lowBytes};
 ghost use Rattle.written.specs.Written.{answerTo, lineTo};
 ghost use Rattle.shot_lists.specs.declared.records.Record.the-variants.{Shot};
-ghost use Rattle.shot_lists.specs.Format.{inNumbers};
+ghost use Rattle.shot_lists.specs.Entries.{inNumbers};
 ghost use Rattle.shot_lists.specs.Reading.{AllOf, readOf};
 ghost use Rattle.shot_writer.specs.ListText.{recordBytes, listBytes, recordsIn, measuredOf, listDraft};
 use answers::Refusal;

@@ -16,9 +16,9 @@ use Rattle.shot_lists.specs.declared.records.Record.{Record}
 use Rattle.shot_lists.specs.declared.records.Record.the-variants.{Rate, Shot, Reel}
 use Rattle.shot_lists.specs.declared.records.Entry.the-variants as entry
 use Rattle.shot_lists.specs.declared.disk.Checked.the-variants as checked
-use Rattle.shot_lists.specs.Format.{onDisk, entryOf}
+use Rattle.shot_lists.specs.Entries.{onDisk, entryOf}
 use Rattle.shot_lists.specs.Reading.{Reading, AllOf, FaultOf, andThen, readFrom, readOf, checkedOf}
-use Rattle.shot_lists.specs.Walk.{Going, begin, turn, stop, over, done}
+use Rattle.shot_lists.specs.Walk.{Going, going-begin, going-turn, going-stop, going-over, going-done}
 use Rattle.showing.specs.Each.{ofRefusal}
 use Rattle.showing.specs.Shown.{countText, shownOn}
 use Rattle.showing.specs.Lists.{numberedOn, framesOn, recordOn, recordsOn, isFaultless, readingOn, listOn}
@@ -63,7 +63,7 @@ pub record Underway (list : List ℕ) (s₀ s : Sheet) (at held : ℕ) : Type 0 
   pub rest : Going onDisk list (readingOn s₀ (readOf onDisk list)) (readingOn s) at held
 
 pub underway-begins : (list : List ℕ) (s : Sheet) → isFaultless (readOf onDisk list) ≡ true → Underway list s s 0 0
-underway-begins list s h = record { long = refl; sound = rw h at (begin onDisk list isFaultless); rest = begin onDisk list (readingOn s) }
+underway-begins list s h = record { long = refl; sound = rw h at (going-begin onDisk list isFaultless); rest = going-begin onDisk list (readingOn s) }
 
 module _ (list : List ℕ) (s₀ s : Sheet) (at held : ℕ) (g : Underway list s₀ s at held) where
   pub underway-goes : (r : Record) (after size : ℕ) (out : List ℕ) (u : ℕ) → entryOf onDisk held (drop at list) ≡ entry.Taken r after size
@@ -71,28 +71,28 @@ module _ (list : List ℕ) (s₀ s : Sheet) (at held : ℕ) (g : Underway list s
   underway-goes r after size out u h l =
       let s′ = sheet out u in
       let same : recordOn s r ≡ s′ = ap (λ z. sheet z (recordOn s r .used)) (sym (l .1)) ∙ ap (sheet out) (sym (l .0)) in
-      let sound = turn onDisk list true isFaultless isFaultless at held r after size (g .sound) h (λ t _. faultless-more r t) in
+      let sound = going-turn onDisk list true isFaultless isFaultless at held r after size (g .sound) h (λ t _. faultless-more r t) in
       record {
         long = ap length (l .1) ∙ record-length s r ∙ g .long;
         sound = sound;
         rest =
-            turn onDisk list (readingOn s₀ (readOf onDisk list)) (readingOn s) (readingOn s′) at held r after size (g .rest) h
+            going-turn onDisk list (readingOn s₀ (readOf onDisk list)) (readingOn s) (readingOn s′) at held r after size (g .rest) h
             (λ t e. reading-more s s′ r t same (sound .same ∙ ap isFaultless e));
       }
 
   -- none is refused
   pub underway-never : (e : Refusal) → entryOf onDisk held (drop at list) ≡ entry.Refused e → ⊥
   underway-never e h =
-      let no : true ≡ false = stop onDisk list true isFaultless at held e (g .sound) h in
+      let no : true ≡ false = going-stop onDisk list true isFaultless at held e (g .sound) h in
       let clash : _≡_ {A = ℕ} 0 1 = cc in omega arith
 
   pub underway-over : entryOf onDisk held (drop at list) ≡ entry.End → s ≡ readingOn s₀ (readOf onDisk list)
   unfolding recordsOn
-  underway-over h = sym (over onDisk list (readingOn s₀ (readOf onDisk list)) (readingOn s) at held (g .rest) h)
+  underway-over h = sym (going-over onDisk list (readingOn s₀ (readOf onDisk list)) (readingOn s) at held (g .rest) h)
 
   pub underway-done : length list ≤ at → s ≡ readingOn s₀ (readOf onDisk list)
   unfolding recordsOn
-  underway-done h = sym (done onDisk list (readingOn s₀ (readOf onDisk list)) (readingOn s) at held (g .rest) h)
+  underway-done h = sym (going-done onDisk list (readingOn s₀ (readOf onDisk list)) (readingOn s) at held (g .rest) h)
 
 -- ---- a list as a line
 pub checked-faultless : (t : Reading) (n : ℕ) → checkedOf t ≡ checked.Records n → isFaultless t ≡ true

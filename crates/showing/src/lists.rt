@@ -2,7 +2,7 @@
 ghost use mathlib.Core.Path.{_≡_};
 ghost use mathlib.Core.Bool.{true};
 ghost use Rattle.streams.specs.Sheet.{sheet};
-ghost use Rattle.shot_lists.specs.Format.{onDisk};
+ghost use Rattle.shot_lists.specs.Entries.{onDisk};
 ghost use Rattle.shot_lists.specs.Reading.{readOf};
 ghost use Rattle.showing.specs.Lists.{numberedOn, framesOn, recordOn, isFaultless, readingOn, listOn};
 use shot_lists::Checked;

@@ -6,9 +6,9 @@ use native.Mathlib.Omega.{arith}
 use lib.ListN.{length, drop}
 use borrow.Author.Needs.{needs}
 use Rattle.shot_lists.specs.declared.records.Entry.the-variants.{Taken}
-use Rattle.shot_lists.specs.Format.{inNumbers, entryOf}
+use Rattle.shot_lists.specs.Entries.{inNumbers, entryOf}
 use Rattle.shot_lists.specs.Reading.{readOf}
-use Rattle.shot_lists.specs.Walk.{Going, begin, turn, stop, over, done, nearer}
+use Rattle.shot_lists.specs.Walk.{Going, going-begin, going-turn, going-stop, going-over, going-done, going-nearer}
 use Rattle.shot_writer.specs.ListText.{recordBytes, measuredOf}
 use Rattle.shot_writer.proofs.Lengths.{taken-bytes}
 use Rattle.shot_writer.proofs.Measuring.{measured, measured-more, measured-zero, nothing-left}
@@ -24,7 +24,7 @@ abbrev μ-loop : tie.MeasureT-loop
 loop-holds : tie.Need-loop-holds Inv-loop μ-loop
 loop-holds c =
     let l = c .args .given .now in
-    (omega arith, rw (← measured-zero (readOf inNumbers l)) (begin inNumbers l (measured 0)))
+    (omega arith, rw (← measured-zero (readOf inNumbers l)) (going-begin inNumbers l (measured 0)))
 
 -- a record was taken
 taken : (c : tie.After-known-told Inv-loop μ-loop)
@@ -39,7 +39,7 @@ nearer-now : (c : tie.After-known-told Inv-loop μ-loop)
     (0 < size) × (k .loop .at + size ≤ length (k .before .args .given .now))
 nearer-now c =
     let k = c .before .before .before .before .before in
-    nearer inNumbers (k .before .args .given .now) (k .loop .at) (k .loop .held) _ _ _ (taken c)
+    going-nearer inNumbers (k .before .args .given .now) (k .loop .at) (k .loop .held) _ _ _ (taken c)
 
 -- what was counted stays below what the numbers allow
 bound : (c : tie.After-record-length Inv-loop μ-loop)
@@ -59,7 +59,7 @@ loop-again c =
     let l = k .before .args .given .now in
     let n = k .loop .n in (
       bound c,
-      turn inNumbers l (measuredOf (readOf inNumbers l)) (measured n) (measured (n + c .record-length .result)) (k .loop .at) (k .loop .held) _ _ _ (k .loop .inv .1)
+      going-turn inNumbers l (measuredOf (readOf inNumbers l)) (measured n) (measured (n + c .record-length .result)) (k .loop .at) (k .loop .held) _ _ _ (k .loop .inv .1)
           (taken (c .before))
           (λ t _. measured-more n _ t ∙ ap (λ (m : ℕ). measured (n + m) t) (sym (c .record-length .ensures))),
     )
@@ -69,7 +69,7 @@ returns c =
     let k = c .before .before .before .before .before in
     let l = k .before .args .given .now in
     sym
-    (stop inNumbers l (measuredOf (readOf inNumbers l)) (measured (k .loop .n)) (k .loop .at) (k .loop .held) _ (k .loop .inv .1)
+    (going-stop inNumbers l (measuredOf (readOf inNumbers l)) (measured (k .loop .n)) (k .loop .at) (k .loop .held) _ (k .loop .inv .1)
     (sym (c .before .before .before .given-at .ensures) ∙ c .before .e .given .1))
 
 returns-2 : tie.Need-returns-2 Inv-loop μ-loop
@@ -77,7 +77,7 @@ returns-2 c =
     let k = c .before .before .before .before in
     let l = k .before .args .given .now in
     sym
-    (over inNumbers l (measuredOf (readOf inNumbers l)) (measured (k .loop .n)) (k .loop .at) (k .loop .held) (k .loop .inv .1)
+    (going-over inNumbers l (measuredOf (readOf inNumbers l)) (measured (k .loop .n)) (k .loop .at) (k .loop .held) (k .loop .inv .1)
     (sym (c .before .before .given-at .ensures) ∙ c .enum-told .given .1)
     ∙ nothing-left (k .loop .n))
 
@@ -85,7 +85,7 @@ returns-3 : tie.Need-returns-3 Inv-loop μ-loop
 returns-3 c =
     let k = c .before .loop in
     let l = c .before .before .args .given .now in
-    sym (done inNumbers l (measuredOf (readOf inNumbers l)) (measured (k .n)) (k .at) (k .held) (k .inv .1) (omega arith) ∙ nothing-left (k .n))
+    sym (going-done inNumbers l (measuredOf (readOf inNumbers l)) (measured (k .n)) (k .at) (k .held) (k .inv .1) (omega arith) ∙ nothing-left (k .n))
 
 pub measure-spec : {M : Type 1} → statement M
 measure-spec =

@@ -6,8 +6,8 @@ use native.Mathlib.Omega.{arith}
 use lib.ListN.{length, drop}
 use borrow.Author.Needs.{needs}
 use Rattle.shot_lists.specs.declared.records.Entry.the-variants.{Taken}
-use Rattle.shot_lists.specs.Format.{inNumbers, entryOf}
-use Rattle.shot_lists.specs.Walk.{nearer}
+use Rattle.shot_lists.specs.Entries.{inNumbers, entryOf}
+use Rattle.shot_lists.specs.Walk.{going-nearer}
 use Rattle.shot_writer.specs.ListText.{recordBytes}
 use Rattle.shot_writer.proofs.Putting.{Putting, putting-start, putting-room, putting-turn, putting-never, putting-over, putting-done}
 use Rattle.shot_writer.proofs.put_list.Statement.{statement}
@@ -35,7 +35,7 @@ nearer-now : (c : tie.After-known-told Inv-loop μ-loop)
     (0 < size) × (k .loop .at + size ≤ length (k .before .before .args .given .now))
 nearer-now c =
     let k = c .before .before .before .before .before in
-    nearer inNumbers (k .before .before .args .given .now) (k .loop .at) (k .loop .held) _ _ _ (taken c)
+    going-nearer inNumbers (k .before .before .args .given .now) (k .loop .at) (k .loop .held) _ _ _ (taken c)
 
 -- the record has room
 room : (c : tie.After-known-told Inv-loop μ-loop)

@@ -8,7 +8,7 @@ use borrow.Author.Needs.{needs}
 use Rattle.lent.proofs.Laws.{fits-yes, part-length}
 use Rattle.written.specs.Written.{Text}
 use Rattle.written.proofs.Laws.{meets-same, meets-none, meets-in, meets-out}
-use Rattle.shot_lists.specs.Format.{inNumbers}
+use Rattle.shot_lists.specs.Entries.{inNumbers}
 use Rattle.shot_lists.specs.Reading.{AllOf, readOf}
 use Rattle.shot_writer.specs.ListText.{listBytes, recordsIn, draftOf}
 use Rattle.shot_writer.proofs.Measuring.{was-long, was-refused, draft-text}

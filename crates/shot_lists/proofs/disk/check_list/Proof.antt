@@ -8,9 +8,9 @@ use lib.ListN.{length, drop}
 use borrow.Author.Needs.{needs}
 use Rattle.shot_lists.specs.declared.disk.Checked.the-variants.{Records}
 use Rattle.shot_lists.specs.declared.records.Entry.the-variants.{Taken}
-use Rattle.shot_lists.specs.Format.{onDisk, entryOf}
+use Rattle.shot_lists.specs.Entries.{onDisk, entryOf}
 use Rattle.shot_lists.specs.Reading.{readOf, checkedOf}
-use Rattle.shot_lists.specs.Walk.{Going, begin, turn, stop, over, done, nearer}
+use Rattle.shot_lists.specs.Walk.{Going, going-begin, going-turn, going-stop, going-over, going-done, going-nearer}
 use Rattle.shot_lists.proofs.Counting.{counted, counted-more, counted-zero}
 use Rattle.shot_lists.proofs.disk.check_list.Statement.{statement}
 use Rattle.shot_lists.proofs.disk.check_list.Tie as tie
@@ -24,7 +24,7 @@ abbrev μ-loop : tie.MeasureT-loop
 loop-holds : tie.Need-loop-holds Inv-loop μ-loop
 loop-holds c =
     let l = c .before .args .list .now in
-    (omega arith, rw (← counted-zero (readOf onDisk l)) (begin onDisk l (counted 0)))
+    (omega arith, rw (← counted-zero (readOf onDisk l)) (going-begin onDisk l (counted 0)))
 
 -- a record was taken
 taken : (c : tie.After-known-told Inv-loop μ-loop)
@@ -39,7 +39,7 @@ nearer-now : (c : tie.After-known-told Inv-loop μ-loop)
     (0 < size) × (k .loop .at + size ≤ length (k .before .before .args .list .now))
 nearer-now c =
     let k = c .before .before .before .before .before in
-    nearer onDisk (k .before .before .args .list .now) (k .loop .at) (k .loop .held) _ _ _ (taken c)
+    going-nearer onDisk (k .before .before .args .list .now) (k .loop .at) (k .loop .held) _ _ _ (taken c)
 
 loop-again : tie.Need-loop-again Inv-loop μ-loop
 loop-again c =
@@ -47,7 +47,7 @@ loop-again c =
     let l = k .before .before .args .list .now in
     let n = k .loop .n in (
       omega (arith, nearer-now c .0, k .loop .inv .0),
-      turn onDisk l (checkedOf (readOf onDisk l)) (counted n) (counted (n + 1)) (k .loop .at) (k .loop .held) _ _ _ (k .loop .inv .1) (taken c) (λ t _. counted-more n _ t),
+      going-turn onDisk l (checkedOf (readOf onDisk l)) (counted n) (counted (n + 1)) (k .loop .at) (k .loop .held) _ _ _ (k .loop .inv .1) (taken c) (λ t _. counted-more n _ t),
     )
 
 returns : tie.Need-returns Inv-loop μ-loop
@@ -55,7 +55,7 @@ returns c =
     let k = c .before .before .before .before .before in
     let l = k .before .before .args .list .now in
     sym
-    (stop onDisk l (checkedOf (readOf onDisk l)) (counted (k .loop .n)) (k .loop .at) (k .loop .held) _ (k .loop .inv .1)
+    (going-stop onDisk l (checkedOf (readOf onDisk l)) (counted (k .loop .n)) (k .loop .at) (k .loop .held) _ (k .loop .inv .1)
     (sym (c .before .before .before .record-at .ensures) ∙ c .before .e .given .1))
 
 returns-2 : tie.Need-returns-2 Inv-loop μ-loop
@@ -63,7 +63,7 @@ returns-2 c =
     let k = c .before .before .before .before in
     let l = k .before .before .args .list .now in
     sym
-    (over onDisk l (checkedOf (readOf onDisk l)) (counted (k .loop .n)) (k .loop .at) (k .loop .held) (k .loop .inv .1)
+    (going-over onDisk l (checkedOf (readOf onDisk l)) (counted (k .loop .n)) (k .loop .at) (k .loop .held) (k .loop .inv .1)
     (sym (c .before .before .record-at .ensures) ∙ c .enum-told .given .1)
     ∙ ap Records (add-zero (k .loop .n)))
 
@@ -71,7 +71,7 @@ returns-3 : tie.Need-returns-3 Inv-loop μ-loop
 returns-3 c =
     let k = c .before .loop in
     let l = c .before .before .before .args .list .now in
-    sym (done onDisk l (checkedOf (readOf onDisk l)) (counted (k .n)) (k .at) (k .held) (k .inv .1) (omega arith) ∙ ap Records (add-zero (k .n)))
+    sym (going-done onDisk l (checkedOf (readOf onDisk l)) (counted (k .n)) (k .at) (k .held) (k .inv .1) (omega arith) ∙ ap Records (add-zero (k .n)))
 
 pub check-list-spec : {M : Type 1} → statement M
 check-list-spec =

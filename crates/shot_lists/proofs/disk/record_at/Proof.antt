@@ -5,7 +5,7 @@ use mathlib.Core.Path.{_≡_, sym, ap, _∙_}
 use native.Mathlib.Omega.{arith}
 use lib.ListN.{length}
 use borrow.Author.Needs.{needs}
-use Rattle.shot_lists.specs.Format.{onDisk, ruled}
+use Rattle.shot_lists.specs.Entries.{onDisk, ruled}
 use Rattle.shot_lists.specs.Laws.{entry-end, entry-unknown, entry-cut, entry-whole}
 use Rattle.shot_lists.proofs.disk.record_at.Statement.{statement}
 use Rattle.shot_lists.proofs.disk.record_at.Tie as tie

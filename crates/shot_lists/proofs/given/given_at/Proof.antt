@@ -9,7 +9,7 @@ use borrow.Author.Needs.{needs}
 use Rattle.numbers.specs.Sign.{upFrom}
 use mir.Syntax.{w64}
 use mir.Val.{toZ, ofZ}
-use Rattle.shot_lists.specs.Format.{bodyFixed, inNumbers, ruled}
+use Rattle.shot_lists.specs.Entries.{bodyFixed, inNumbers, ruled}
 use Rattle.shot_lists.specs.Laws.{entry-end, entry-unknown, entry-cut, entry-whole}
 use Rattle.shot_lists.proofs.given.given_at.Statement.{statement}
 use Rattle.shot_lists.proofs.given.given_at.Tie as tie

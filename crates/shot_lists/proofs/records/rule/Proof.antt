@@ -6,7 +6,7 @@ use borrow.Author.Needs.{needs}
 use Rattle.answers.specs.OrderLaws.{judged-refused, judged-clear, unless-clear}
 use Rattle.shot_lists.specs.declared.records.Entry.the-variants.{Taken, Refused}
 use Rattle.shot_lists.specs.Records.{heldAfter, faults}
-use Rattle.shot_lists.specs.Format.{ruled}
+use Rattle.shot_lists.specs.Entries.{ruled}
 use Rattle.shot_lists.proofs.records.rule.Statement.{statement}
 use Rattle.shot_lists.proofs.records.rule.Tie as tie
 

@@ -7,8 +7,8 @@ use lib.ListN.{length, drop}
 use borrow.Author.Needs.{needs}
 use Rattle.streams.specs.Sheet.{sheet}
 use Rattle.shot_lists.specs.declared.records.Entry.the-variants.{Taken}
-use Rattle.shot_lists.specs.Format.{onDisk, entryOf}
-use Rattle.shot_lists.specs.Walk.{nearer}
+use Rattle.shot_lists.specs.Entries.{onDisk, entryOf}
+use Rattle.shot_lists.specs.Walk.{going-nearer}
 use Rattle.showing.proofs.Putting.{leaves-same}
 use Rattle.showing.proofs.ListPutting.{Underway, underway-begins, underway-goes, underway-never, underway-over, underway-done}
 use Rattle.showing.proofs.lists.put_records.Statement.{statement}
@@ -39,7 +39,7 @@ nearer-now : (c : tie.After-known-told Inv-loop μ-loop)
     (0 < size) × (k .loop .at + size ≤ length (k .before .before .before .args .list .now))
 nearer-now c =
     let k = c .before .before .before .before .before in
-    nearer onDisk (k .before .before .before .args .list .now) (k .loop .at) (k .loop .held) _ _ _ (taken c)
+    going-nearer onDisk (k .before .before .before .args .list .now) (k .loop .at) (k .loop .held) _ _ _ (taken c)
 
 loop-again : tie.Need-loop-again Inv-loop μ-loop
 loop-again c =

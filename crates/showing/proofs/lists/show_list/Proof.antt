@@ -7,7 +7,7 @@ use borrow.Author.Needs.{needs}
 use Rattle.written.specs.Parts.{signedText}
 use Rattle.streams.specs.Sheet.{sheet, putOn}
 use Rattle.shot_lists.specs.declared.disk.Checked.the-variants.{Records}
-use Rattle.shot_lists.specs.Format.{onDisk}
+use Rattle.shot_lists.specs.Entries.{onDisk}
 use Rattle.shot_lists.specs.Reading.{readOf, checkedOf}
 use Rattle.showing.specs.Shown.{shownOn}
 use Rattle.showing.specs.Lists.{readingOn}

@@ -17,7 +17,7 @@ use Rattle.shot_lists.specs.declared.records.Entry.the-variants.{Taken, 
 use Rattle.shot_lists.specs.Records.{heldAfter, faults}
 
 -- how records stand one after the other: an element that says the kind, and a body whose length the kind fixes
-pub record Format (A : Type 0) : Type 0 where
+pub record Layout (A : Type 0) : Type 0 where
   pub kind : A → ℕ
   pub body : ℕ → ℕ  -- 0: there is no such kind
   pub made : ℕ → List A → Record  -- of a kind, by the body and what stands behind it
@@ -31,7 +31,7 @@ unfoldable pub ofKind : ℕ → (rate shot reel : Record) → Record
 ofKind kind rate shot reel = cond (eqb kind 1) rate (cond (eqb kind 2) shot reel)
 
 -- on disk: bytes, 1 for a rate, 8 for a shot, 4 for a reel
-abbrev pub onDisk : Format ℕ
+abbrev pub onDisk : Layout ℕ
 onDisk = record {
   kind = λ b. b;
   body = bodyFixed 1 8 4;
@@ -39,7 +39,7 @@ onDisk = record {
 }
 
 -- handed over: numbers, one for a rate, two for a shot, one for a reel
-abbrev pub inNumbers : Format ℤ
+abbrev pub inNumbers : Layout ℤ
 inNumbers = record {
   kind = upFrom;
   body = bodyFixed 1 2 1;
@@ -47,7 +47,7 @@ inNumbers = record {
 }
 
 -- all that speaks against the record that begins with this element: 9 unknown kind, 10 body cut short, then what speaks against its numbers
-abbrev pub against : {A : Type 0} → Format A → (held : ℕ) (x : A) (l : List A) → List Condition
+abbrev pub against : {A : Type 0} → Layout A → (held : ℕ) (x : A) (l : List A) → List Condition
 against f held x l =
     let k = f .kind x in
     when noSuchKind (eqb (f .body k) 0) ∷ when cutShort (ltb (length l) (f .body k)) ∷ faults held (f .made k l)
@@ -57,7 +57,7 @@ unfoldable pub ruled : (held : ℕ) → Record → (size : ℕ) → Entry
 ruled held r size = unless Refused (faults held r) (Taken r (heldAfter held r) size)
 
 -- the record at the front of a list, given the rate held
-unfoldable pub entryOf : {A : Type 0} → Format A → (held : ℕ) → List A → Entry
+unfoldable pub entryOf : {A : Type 0} → Layout A → (held : ℕ) → List A → Entry
 entryOf f held [] = End
 entryOf f held (x ∷ l) =
     unless Refused (against f held x l) (Taken (f .made (f .kind x) l) (heldAfter held (f .made (f .kind x) l)) (suc (f .body (f .kind x))))
