@@ -45,7 +45,7 @@ made-back (Shot first end) body f m =
     rw (f .parts, read .0, read .1) (ap₂ Shot (f .starts .is) (f .ends .is))
 made-back (Reel n) body u m = ap Reel (ap worth (take-at body m 4 (u .long)) ∙ u .is)
 
-body-some : (r : Record) → 0 < onDisk .body (kindByte r)
+pub body-some : (r : Record) → 0 < onDisk .body (kindByte r)
 unfolding bodyFixed
 body-some (Rate n) = omega arith
 body-some (Shot first end) = omega arith

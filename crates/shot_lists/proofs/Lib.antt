@@ -6,4 +6,5 @@ pub mod Exactly
 pub mod Numbers
 pub mod OneWay
 pub mod Statements
+pub mod RefusalStatements
 pub mod Determined

@@ -24,11 +24,11 @@ entry-when A f held x l =
     unless-number numberIn Refused (λ e. refl) (against f held x l) (Taken r (heldAfter held r) (suc (f .body (f .kind x)))) refl
 
 -- none of the conditions has this number
-abbrev AllBut : ℕ → List Condition → Type 0
+abbrev pub AllBut : ℕ → List Condition → Type 0
 AllBut n [] = Unit {0}
 AllBut n (c ∷ cs) = (c .refusal .number ≡ n → ⊥) × AllBut n cs
 
-first-but : (n : ℕ) (cs : List Condition) → AllBut (suc n) cs → first cs ≡ suc n → ⊥
+pub first-but : (n : ℕ) (cs : List Condition) → AllBut (suc n) cs → first cs ≡ suc n → ⊥
 first-but n [] h e = omega arith
 first-but n (c ∷ cs) h e = by (c .holds) (first-but n cs (h .1)) e
   where

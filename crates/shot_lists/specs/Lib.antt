@@ -5,3 +5,4 @@ pub mod Reading
 pub mod Laws
 pub mod Walk
 pub mod Statements
+pub mod RefusalStatements

@@ -2,6 +2,7 @@
 -- Assumes nothing.
 use Prim.Native.Nat.{ℕ, zero, suc, _-_}
 use mathlib.Core.List.{List, [], _∷_}
+use mathlib.Core.Bool.{Bool, true, false}
 use lib.ListN.{length}
 use Rattle.answers.specs.declared.Refusal.{Refusal}
 use Rattle.shot_lists.specs.declared.records.Record.{Record}
@@ -34,6 +35,11 @@ readFrom f zero held (x ∷ l) = onward (entryOf f held (x ∷ l)) (λ after siz
 -- from the first element on; no rate is held yet
 abbrev pub readOf : {A : Type 0} → Layout A → List A → Reading
 readOf f l = readFrom f 0 0 l
+
+-- has the list no record at fault?
+abbrev pub isFaultless : Reading → Bool
+isFaultless (AllOf rs) = true
+isFaultless (FaultOf e) = false
 
 -- how many records, or the refusal
 abbrev pub checkedOf : Reading → Checked

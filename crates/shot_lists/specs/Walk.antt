@@ -2,8 +2,9 @@
 -- over the records: what is wanted, from what the rest of the list gives.
 -- Assumes nothing.
 use Prim.Native.Nat.{ℕ, zero, suc, _+_, _-_, _≤_, _<_}
-use mathlib.Core.Path.{_≡_, refl, ap, _∙_}
+use mathlib.Core.Path.{_≡_, refl, sym, ap, _∙_}
 use mathlib.Core.List.{List, [], _∷_, _++_}
+use mathlib.Core.Bool.{true, false}
 use native.Mathlib.Omega.{arith}
 use lib.ListN.{length, drop, length-drop, drop-of-length-le}
 use lib.Seq.{drop-drop, drop-at}
@@ -13,8 +14,16 @@ use Rattle.shot_lists.specs.declared.records.Record.{Record}
 use Rattle.shot_lists.specs.declared.records.Entry.the-variants.{Taken, Refused, End}
 use Rattle.shot_lists.specs.Records.{heldAfter, faults}
 use Rattle.shot_lists.specs.Entries.{Layout, entryOf}
-use Rattle.shot_lists.specs.Reading.{Reading, AllOf, FaultOf, andThen, readFrom, readOf}
+use Rattle.shot_lists.specs.Reading.{Reading, AllOf, FaultOf, andThen, readFrom, readOf, isFaultless}
 use Rattle.shot_lists.specs.Laws.{taken-size, end-apart, end-only, Spells, entry-spelled}
+
+-- a record in front is no fault, and a fault is one
+faultless-more : (r : Record) (t : Reading) → isFaultless (andThen r t) ≡ isFaultless t
+faultless-more r (AllOf rs) = refl
+faultless-more r (FaultOf e) = refl
+
+pub faultless-apart : {X : Type 0} → true ≡ false → X
+faultless-apart h = let z : _≡_ {A = ℕ} 0 1 = cc in absurd (omega arith)
 
 module _ {A : Type 0} (f : Layout A) where
   pub read-skip : (skip held : ℕ) (l : List A) → readFrom f skip held l ≡ readFrom f 0 held (drop skip l)
@@ -92,3 +101,15 @@ module _ {A : Type 0} (f : Layout A) where
   going-nearer l at held r after size h =
       let n = taken-size f held (drop at l) r after size h in
       (n .0, omega (arith, n .0, n .1, length-drop at l))
+
+  -- ---- through a list without fault no record is refused
+
+  pub faultless-begin : (l : List A) → isFaultless (readOf f l) ≡ true → Going l true isFaultless 0 0
+  faultless-begin l h = record { inside = omega arith; same = sym h }
+
+  pub faultless-turn : (l : List A) (at held : ℕ) (r : Record) (after size : ℕ)
+      → Going l true isFaultless at held → entryOf f held (drop at l) ≡ Taken r after size → Going l true isFaultless (at + size) after
+  faultless-turn l at held r after size g h = going-turn l true isFaultless isFaultless at held r after size g h (λ t _. faultless-more r t)
+
+  pub faultless-never : (l : List A) (at held : ℕ) (e : Refusal) → Going l true isFaultless at held → entryOf f held (drop at l) ≡ Refused e → ⊥
+  faultless-never l at held e g h = faultless-apart (going-stop l true isFaultless at held e g h)

@@ -3,6 +3,7 @@
 // then 8: place plus the list's length exceeds the line's length.
 ghost use mathlib.Core.Path.{_≡_};
 ghost use mathlib.Core.List.{_∷_};
+ghost use mathlib.Core.Bool.{true};
 ghost use Prim.Native.Nat.{_≤_};
 ghost use lib.ListN.{length};
 ghost use Rattle.lent.specs.Line.{laid};
@@ -10,7 +11,7 @@ ghost use Rattle.low_bytes.specs.LowBytes.{lowBytes};
 ghost use Rattle.written.specs.Written.{answerTo, lineTo};
 ghost use Rattle.shot_lists.specs.declared.records.Record.the-variants.{Shot};
 ghost use Rattle.shot_lists.specs.Entries.{inNumbers};
-ghost use Rattle.shot_lists.specs.Reading.{AllOf, readOf};
+ghost use Rattle.shot_lists.specs.Reading.{readOf, isFaultless};
 ghost use Rattle.shot_writer.specs.ListText.{recordBytes, listBytes, recordsIn, measuredOf, listDraft};
 use answers::Refusal;
 use shot_lists::Entry;
@@ -98,7 +99,7 @@ pub fn put_record(part: &mut [u8], found: Record)
 
 // The bytes of a list that is handed over, at the front of a part; every other byte stays. Asks a list without fault, and room.
 fn put_list(part: &mut [u8], given: &[i64])
-    requires sound { ⌜ readOf inNumbers (now given) ≡ AllOf (recordsIn (readOf inNumbers (now given))) ⌝ }
+    requires sound { ⌜ isFaultless (readOf inNumbers (now given)) ≡ true ⌝ }
     requires room { ⌜ length (listBytes (recordsIn (readOf inNumbers (now given)))) ≤ length (now part) ⌝ }
     ensures line { λ _. ⌜ now (part .exit) ≡ laid (now (part .entry)) (listBytes (recordsIn (readOf inNumbers (now (given .entry))))) ⌝ }
 {

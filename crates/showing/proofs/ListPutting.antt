@@ -17,11 +17,11 @@ use Rattle.shot_lists.specs.declared.records.Record.the-variants.{Rate, Shot, R
 use Rattle.shot_lists.specs.declared.records.Entry.the-variants as entry
 use Rattle.shot_lists.specs.declared.disk.Checked.the-variants as checked
 use Rattle.shot_lists.specs.Entries.{onDisk, entryOf}
-use Rattle.shot_lists.specs.Reading.{Reading, AllOf, FaultOf, andThen, readFrom, readOf, checkedOf}
-use Rattle.shot_lists.specs.Walk.{Going, going-begin, going-turn, going-stop, going-over, going-done}
+use Rattle.shot_lists.specs.Reading.{Reading, AllOf, FaultOf, andThen, readFrom, readOf, isFaultless, checkedOf}
+use Rattle.shot_lists.specs.Walk.{Going, going-begin, going-turn, going-over, going-done, faultless-apart, faultless-begin, faultless-turn, faultless-never}
 use Rattle.showing.specs.Each.{ofRefusal}
 use Rattle.showing.specs.Shown.{countText, shownOn}
-use Rattle.showing.specs.Lists.{numberedOn, framesOn, recordOn, recordsOn, isFaultless, readingOn, listOn}
+use Rattle.showing.specs.Lists.{numberedOn, framesOn, recordOn, recordsOn, readingOn, listOn}
 use Rattle.showing.proofs.Putting.{Leaves, leaves-on, leaves-same}
 
 -- ---- a record
@@ -48,14 +48,10 @@ record-length s (Shot first end) = simp put-length
 record-length s (Reel n) = simp put-length
 
 -- ---- the loop over the records: what is wanted is what the sheet has with the records that are left
-faultless-more : (r : Record) (t : Reading) → isFaultless (andThen r t) ≡ isFaultless t
-faultless-more r (AllOf rs) = refl
-faultless-more r (FaultOf e) = refl
-
 reading-more : (s s′ : Sheet) (r : Record) (t : Reading) → recordOn s r ≡ s′ → true ≡ isFaultless t → readingOn s (andThen r t) ≡ readingOn s′ t
 unfolding recordsOn
 reading-more s s′ r (AllOf rs) e h = ap (λ z. recordsOn z rs) e
-reading-more s s′ r (FaultOf f) e h = let clash : _≡_ {A = ℕ} 0 1 = cc in absurd (omega arith)
+reading-more s s′ r (FaultOf f) e h = faultless-apart h
 
 pub record Underway (list : List ℕ) (s₀ s : Sheet) (at held : ℕ) : Type 0 where
   pub long : length (s .bytes) ≡ length (s₀ .bytes)
@@ -63,7 +59,7 @@ pub record Underway (list : List ℕ) (s₀ s : Sheet) (at held : ℕ) : Type 0 
   pub rest : Going onDisk list (readingOn s₀ (readOf onDisk list)) (readingOn s) at held
 
 pub underway-begins : (list : List ℕ) (s : Sheet) → isFaultless (readOf onDisk list) ≡ true → Underway list s s 0 0
-underway-begins list s h = record { long = refl; sound = rw h at (going-begin onDisk list isFaultless); rest = going-begin onDisk list (readingOn s) }
+underway-begins list s h = record { long = refl; sound = faultless-begin onDisk list h; rest = going-begin onDisk list (readingOn s) }
 
 module _ (list : List ℕ) (s₀ s : Sheet) (at held : ℕ) (g : Underway list s₀ s at held) where
   pub underway-goes : (r : Record) (after size : ℕ) (out : List ℕ) (u : ℕ) → entryOf onDisk held (drop at list) ≡ entry.Taken r after size
@@ -71,7 +67,7 @@ module _ (list : List ℕ) (s₀ s : Sheet) (at held : ℕ) (g : Underway list s
   underway-goes r after size out u h l =
       let s′ = sheet out u in
       let same : recordOn s r ≡ s′ = ap (λ z. sheet z (recordOn s r .used)) (sym (l .1)) ∙ ap (sheet out) (sym (l .0)) in
-      let sound = going-turn onDisk list true isFaultless isFaultless at held r after size (g .sound) h (λ t _. faultless-more r t) in
+      let sound = faultless-turn onDisk list at held r after size (g .sound) h in
       record {
         long = ap length (l .1) ∙ record-length s r ∙ g .long;
         sound = sound;
@@ -82,9 +78,7 @@ module _ (list : List ℕ) (s₀ s : Sheet) (at held : ℕ) (g : Underway list s
 
   -- none is refused
   pub underway-never : (e : Refusal) → entryOf onDisk held (drop at list) ≡ entry.Refused e → ⊥
-  underway-never e h =
-      let no : true ≡ false = going-stop onDisk list true isFaultless at held e (g .sound) h in
-      let clash : _≡_ {A = ℕ} 0 1 = cc in omega arith
+  underway-never e h = faultless-never onDisk list at held e (g .sound) h
 
   pub underway-over : entryOf onDisk held (drop at list) ≡ entry.End → s ≡ readingOn s₀ (readOf onDisk list)
   unfolding recordsOn

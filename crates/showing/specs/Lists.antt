@@ -2,7 +2,7 @@
 -- Assumes nothing.
 use Prim.Native.Nat.{ℕ}
 use mathlib.Core.List.{List, [], _∷_, _++_}
-use mathlib.Core.Bool.{Bool, true, false}
+use mathlib.Core.Bool.{false}
 use lib.IntN.{ℤ}
 use lib.ListN.{length}
 use Rattle.written.specs.Parts.{signedText}
@@ -49,11 +49,6 @@ recordOn s (Reel n) = numberedOn s (spelt " reel ") n
 unfoldable pub recordsOn : Sheet → List Record → Sheet
 recordsOn s [] = s
 recordsOn s (r ∷ rs) = recordsOn (recordOn s r) rs
-
--- has the list no record at fault?
-abbrev pub isFaultless : Reading → Bool
-isFaultless (AllOf rs) = true
-isFaultless (FaultOf e) = false
 
 -- the records that were read; of a list with a fault none
 abbrev pub readingOn : Sheet → Reading → Sheet

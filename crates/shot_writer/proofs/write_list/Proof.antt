@@ -9,7 +9,7 @@ use Rattle.lent.proofs.Laws.{fits-yes, part-length}
 use Rattle.written.specs.Written.{Text}
 use Rattle.written.proofs.Laws.{meets-same, meets-none, meets-in, meets-out}
 use Rattle.shot_lists.specs.Entries.{inNumbers}
-use Rattle.shot_lists.specs.Reading.{AllOf, readOf}
+use Rattle.shot_lists.specs.Reading.{AllOf, readOf, isFaultless}
 use Rattle.shot_writer.specs.ListText.{listBytes, recordsIn, draftOf}
 use Rattle.shot_writer.proofs.Measuring.{was-long, was-refused, draft-text}
 use Rattle.shot_writer.proofs.write_list.Statement.{statement}
@@ -40,7 +40,7 @@ part-put-list-start c = omega (arith, fit c)
 put-list-requires : tie.Need-put-list-requires
 put-list-requires c κs =
     let a = c .before .before .before .before .before .before .before .before .args in
-    (whole (c .before .before .before) .0, omega (arith, fit (c .before), part-length (a .line .now) (a .place)))
+    (ap isFaultless (whole (c .before .before .before) .0), omega (arith, fit (c .before), part-length (a .line .now) (a .place)))
 
 returns : tie.Need-returns
 returns c =
