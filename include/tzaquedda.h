@@ -88,14 +88,14 @@ typedef struct {
 } tzq_format_facts;
 
 /* A record of a shot list: kind 1 a rate, 2 a shot, 3 a reel, with its own numbers by name, the rate that is held behind it, and how many
- * bytes it has. Kind 0 with refused 0: the list is over. Numbers that are not the record's own are 0. */
+ * bytes it has. Kind 0 with refused 0: the list is over. Numbers of another kind are 0. */
 typedef struct {
     uint64_t refused;
     uint64_t kind;
     uint64_t rate;      /* kind 1: the rate, 1 to 12 */
     int64_t first, end; /* kind 2: first frame and end frame, the end not included */
     uint64_t reel;      /* kind 3: the reel, 0 to 4294967295 */
-    uint64_t held;      /* the rate that is held behind the record; 0: none yet */
+    uint64_t held;      /* the rate that is held behind the record: its own, or what was given */
     size_t size;        /* the next record begins so many bytes on */
 } tzq_record;
 

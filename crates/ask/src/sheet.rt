@@ -8,9 +8,9 @@ pub(crate) fn write(out: &[u8], used: usize) -> usize {
     0
 }
 
-// Room for the next answer: where fewer than 8192 bytes are left, what is kept is written first.
+// Room for the next answer: where fewer than 16384 bytes are left, what is kept is written first.
 pub(crate) fn with_room(out: &[u8], used: usize) -> usize {
-    if lent::room(out.len(), used, 8192) {
+    if lent::room(out.len(), used, 16384) {
         return used;
     }
     write(out, used)

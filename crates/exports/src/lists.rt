@@ -14,7 +14,7 @@ use shot_lists::Entry;
 use shot_lists::Record;
 
 // A record: its kind (1 rate, 2 shot, 3 reel), its numbers by name (those of another kind are 0), the rate held behind it, and how many
-// bytes it has. At the list's end, and refused: all 0.
+// bytes it has. At the list's end all 0; refused: its number, all others 0.
 #[repr(C)]
 pub struct TzqRecord {
     pub refused: u64,

@@ -5,8 +5,9 @@ use mathlib.Core.Path.{_≡_, refl, sym, _∙_}
 use mathlib.Core.List.{List}
 use mathlib.Core.Bool.{Bool, true, false}
 use lib.ListN.{getD}
-use Rattle.hex.specs.Hex.{isHex, bytesOfHex, hexText}
-use Rattle.hex.specs.Statements.{HexExactly, HexOne, HexBack, HexBytes}
+use Rattle.hex.specs.Digits.{lowerDigit}
+use Rattle.hex.specs.Hex.{isHex, bytesOfHex, digitPairs, hexText}
+use Rattle.hex.specs.Statements.{HexExactly, HexOne, HexBack, HexBytes, HexLower}
 use Rattle.hex.specs.Grammar.{dash}
 use Rattle.hex.proofs.Taking.{bytes-none}
 use Rattle.hex.proofs.Grammar.{hex-taken, hex-found, hex-below, hex-shown}
@@ -26,3 +27,7 @@ below-by text false e i = rw (bytes-none text e) (hex-below dash i)
 
 pub hex-bytes : HexBytes
 hex-bytes text i = below-by text (isHex text) refl i
+
+pub hex-lower : HexLower
+unfolding hexText digitPairs lowerDigit
+hex-lower = (refl, refl)

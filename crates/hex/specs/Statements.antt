@@ -4,7 +4,7 @@ use Prim.Native.Nat.{ℕ, _<_}
 use mathlib.Core.Path.{_≡_}
 use mathlib.Core.Bool.{true}
 use mathlib.Core.Logic.{_↔_}
-use mathlib.Core.List.{List}
+use mathlib.Core.List.{List, [], _∷_}
 use lib.ListN.{getD}
 use Rattle.hex.specs.Hex.{isHex, bytesOfHex, hexText}
 use Rattle.hex.specs.Grammar.{Hex}
@@ -24,3 +24,7 @@ HexBack = (bytes : List ℕ) → ((i : ℕ) → getD bytes i 0 < 256) → (isHex
 -- each byte that is taken is below 256
 abbrev pub HexBytes : Type 0
 HexBytes = (text : List ℕ) (i : ℕ) → getD (bytesOfHex text) i 0 < 256
+
+-- lower case is shown, the high digit first, and `-` for none: 01abef of 1, 171, 239
+abbrev pub HexLower : Type 0
+HexLower = (hexText (1 ∷ 171 ∷ 239 ∷ []) ≡ 48 ∷ 49 ∷ 97 ∷ 98 ∷ 101 ∷ 102 ∷ []) × (hexText [] ≡ 45 ∷ [])

@@ -9,7 +9,7 @@ use native.Mathlib.Numerals.{add-one}
 use native.Mathlib.Nat.{add-zero, zero-add}
 use lib.ListN.{length, take, drop, set, length-append, length-take, length-drop, drop-of-length-le, take-append-drop}
 use lib.Dec.{leb}
-use lib.Seq.{take-all, drop-drop, take-at, drop-at, take-suc-set, drop-set-lt}
+use lib.Seq.{take-all, drop-drop, take-at, drop-at, take-suc-set, drop-set-lt, length-take-le}
 use borrow.Author.Tests.{le-leb, lt-leb, leb-true, leb-false}
 use borrow.Rule.Slice.PartMut.{putMid, midOf}
 use Rattle.lent.specs.Line.{front, laid, splice, hasRoom, fits, lineAfter}
@@ -70,6 +70,13 @@ splice-set l k x t h =
 pub splice-nil : (l : List ℕ) (k : ℕ) → splice l k [] ≡ l
 unfolding splice
 splice-nil l k = rw (add-zero k) (take-append-drop k l)
+
+-- a text that was laid down stands there
+pub splice-there : (l t : List ℕ) (at : ℕ) → at + length t ≤ length l → take (length t) (drop at (splice l at t)) ≡ t
+unfolding splice
+splice-there l t at h =
+    let before : length (take at l) ≡ at = length-take-le at l (omega arith) in
+    ap (take (length t)) (drop-at (take at l) (t ++ drop (at + length t) l) at before) ∙ take-at t (drop (at + length t) l) (length t) refl
 
 -- a text, and then another right behind it, are the two as one text
 pub splice-splice : (l t u : List ℕ) (at b : ℕ) → at + length t ≡ b → b + length u ≤ length l

@@ -40,12 +40,12 @@ Within w (negsuc n) = 2 * suc n ≤ 256 ^ w
 
 -- ---- a number's bytes, as they are written
 
--- the last w bytes of n
+-- the w lowest bytes of n
 unfoldable pub lowBytes : (w n : ℕ) → List ℕ
 lowBytes zero n = []
 lowBytes (suc w) n = n % 256 ∷ lowBytes w (n / 256)
 
--- the number of w bytes that stands for a signed one
+-- the number of w bytes that stands for a signed one which they hold
 unfoldable pub twosOf : (w : ℕ) → ℤ → ℕ
 twosOf w (pos n) = n
 twosOf w (negsuc n) = 256 ^ w - suc n

@@ -48,7 +48,7 @@ pub fn signed_at(s: &[u8], at: usize) -> i64
     numbers::with_sign(true, 4_294_967_296 - n)
 }
 
-// The last `width` bytes of n at the front of a part; every other byte stays. Where they have no room nothing changes.
+// The `width` lowest bytes of n at the front of a part; every other byte stays. Where they have no room nothing changes.
 pub fn put_number(part: &mut [u8], width: usize, n: u64)
     ensures line { λ _. ⌜ now (part .exit) ≡ laid (now (part .entry)) (lowBytes width n) ⌝ }
 {
@@ -64,7 +64,7 @@ pub fn put_number(part: &mut [u8], width: usize, n: u64)
     }
 }
 
-// The number that stands for a signed one in four bytes.
+// The number that stands for a signed one in four bytes, where they hold it.
 fn twos_of(z: i64) -> u64
     ensures answer { λ r. ⌜ r ≡ twosOf 4 z ⌝ }
 {
@@ -78,7 +78,7 @@ fn twos_of(z: i64) -> u64
     4_294_967_296 - m
 }
 
-// The four bytes of a signed number at the front of a part; every other byte stays. Where they have no room nothing changes.
+// The four bytes of a signed number that they hold at the front of a part; every other byte stays. Where they have no room nothing changes.
 pub fn put_signed(part: &mut [u8], z: i64)
     ensures line { λ _. ⌜ now (part .exit) ≡ laid (now (part .entry)) (signedBytes 4 z) ⌝ }
 {

@@ -49,7 +49,6 @@ one-answer = record {
   record-at = record { asks-nothing = λ κs a. tt; one-outcome = shot-lists-determined.record-at-determined };
   check-list = record { asks-nothing = λ κs a. tt; one-outcome = shot-lists-determined.check-list-determined };
   given-at = record { asks-nothing = λ κs a. tt; one-outcome = shot-lists-determined.given-at-determined };
-  put-record = record { asks-nothing = λ κs a. tt; one-outcome = shot-writer-determined.put-record-determined };
   write-list = record { asks-nothing = λ κs a. tt; one-outcome = shot-writer-determined.write-list-determined };
   answers-number = record { asks-nothing = λ κs a. tt; one-outcome = answers-determined.number-determined };
   answers-count = record { asks-nothing = λ κs a. tt; one-outcome = answers-determined.count-determined };

@@ -42,7 +42,7 @@ unfolding nearestN valueFrom span digitsOf widthBy width decimal held rates isRa
     worth signedOf lowBytes twosOf bodyFixed ofKind faults entryOf readFrom recordBytes listBytes
 starred-cases =
     let of-lists : All (drop 20 cases) =
-    ((refl, refl), ((refl, refl), ((refl, refl), (refl, (refl, (refl, (refl, (refl, (refl, tt))))))))) in
+    ((refl, refl), (refl, ((refl, refl), ((refl, refl), (refl, (refl, (refl, (refl, (refl, (refl, tt)))))))))) in
     let behind-labels : All (drop 9 cases) =
     ((refl, λ rate r. simp r), ((refl, λ rate r. simp r), (λ rate r. simp r, (λ rate r. simp r, (refl, (refl, (refl, (refl, (refl, (refl, (refl, of-lists))))))))))) in
     ((refl, refl), ((refl, refl), (refl, ((refl, refl), ((refl, refl), ((refl, refl), ((refl, refl), ((refl, refl), (refl, behind-labels)))))))))

@@ -5,6 +5,7 @@ use Rattle.shot_lists.proofs.Statements as shot-lists
 use Rattle.shot_lists.proofs.Bodies as shot-bodies
 use Rattle.shot_lists.proofs.Numbers as shot-numbers
 use Rattle.shot_lists.proofs.OneWay as shot-ways
+use Rattle.shot_lists.proofs.RefusalStatements as shot-refusals
 use Rattle.shot_writer.proofs.Statements as shot-writer
 use Rattle.hex.proofs.Statements as hex
 use Rattle.promises.specs.Promises.{Promises}
@@ -202,10 +203,20 @@ promises = record {
   given-exactly = shot-lists.given-exactly;
   given-refused = shot-lists.given-refused;
   entry-when = shot-numbers.entry-when;
+  refusal-order = shot-refusals.refusal-order;
+  nine-exactly = shot-refusals.nine-exactly;
+  ten-exactly = shot-refusals.ten-exactly;
+  six-exactly = shot-refusals.six-exactly;
+  five-exactly = shot-refusals.five-exactly;
+  eleven-exactly = shot-refusals.eleven-exactly;
+  twelve-exactly = shot-refusals.twelve-exactly;
+  rate-holds = shot-refusals.rate-holds;
+  empty-shot = shot-refusals.empty-shot;
+  any-reel = shot-refusals.any-reel;
   never-eight = shot-numbers.never-eight;
   one-list = shot-lists.one-list;
   one-bytes = shot-ways.one-bytes;
-  walk = shot-lists.walk;
+  record-by-record = shot-lists.record-by-record;
   list-refused = shot-writer.list-refused;
   room-refused = shot-writer.room-refused;
   bytes-on-disk = shot-writer.bytes-on-disk;
@@ -230,6 +241,7 @@ promises = record {
   hex-one = hex.hex-one;
   hex-back = hex.hex-back;
   hex-bytes = hex.hex-bytes;
+  hex-lower = hex.hex-lower;
   shown-line = showing.shown-line;
   written-line = showing.written-line;
   text-refused-shown = showing.text-refused-shown;

@@ -33,7 +33,6 @@ ties = record {
   record-at = λ κs a x p. p;
   check-list = λ κs a x p. p;
   given-at = λ κs a x p. p;
-  put-record = λ κs a x p. p;
   write-list = λ κs a x p. p;
   answers-number = λ κs a x p. p;
   answers-count = λ κs a x p. p;

@@ -59,8 +59,6 @@ use Rattle.shot_lists.proofs.check_list as check-list
 use Rattle.shot_lists.proofs.check_list.Reads as check-list-reads
 use Rattle.shot_lists.proofs.given_at as given-at
 use Rattle.shot_lists.proofs.given_at.Reads as given-at-reads
-use Rattle.shot_writer.proofs.put_record as put-record
-use Rattle.shot_writer.proofs.put_record.Reads as put-record-reads
 use Rattle.shot_writer.proofs.write_list as write-list
 use Rattle.shot_writer.proofs.write_list.Reads as write-list-reads
 use Rattle.answers.proofs.number as answers-number
@@ -119,7 +117,6 @@ pub record OneAnswer : Type 0 where
   pub record-at : Answers record-at.ended record-at-reads.Asked record-at-reads.Learnt
   pub check-list : Answers check-list.ended check-list-reads.Asked check-list-reads.Learnt
   pub given-at : Answers given-at.ended given-at-reads.Asked given-at-reads.Learnt
-  pub put-record : Answers put-record.ended put-record-reads.Asked put-record-reads.Learnt
   pub write-list : Answers write-list.ended write-list-reads.Asked write-list-reads.Learnt
   -- what an answer holds
   pub answers-number : Answers answers-number.ended answers-number-reads.Asked answers-number-reads.Learnt

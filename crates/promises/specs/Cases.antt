@@ -20,7 +20,7 @@ use Rattle.label_writer.specs.LabelText.{labelText}
 use Rattle.footage_writer.specs.FootageText.{footageText}
 use Rattle.shot_lists.specs.declared.records.Record.{Record}
 use Rattle.shot_lists.specs.declared.records.Record.the-variants.{Rate, Shot, Reel}
-use Rattle.shot_lists.specs.Entries.{onDisk}
+use Rattle.shot_lists.specs.Entries.{onDisk, inNumbers}
 use Rattle.shot_lists.specs.Reading.{AllOf, FaultOf, readOf}
 use Rattle.shot_writer.specs.ListText.{listBytes}
 use Rattle.arithmetic.specs.Truncating.{divOf}
@@ -37,6 +37,7 @@ pub data Case : Type 0 where
   gives : (rate : ℕ) (text : String) (number : ℕ) → Case  -- rate 5: `00:01:00;00` gives 3
   stops : (stated : Stated) (rate : ℕ) (text : String) (number place : ℕ) → Case  -- 4-perf stated, rate 2: `1+2.` gives 1 at 4
   lists : (bytes : List ℕ) (records : List Record) → Case  -- 1 5 3 7 0 0 0 is rate 5, reel 7
+  handsOver : (numbers : List ℤ) (records : List Record) → Case  -- 1 5 3 7 hands rate 5, reel 7 over
   listRefused : (bytes : List ℕ) (number : ℕ) → Case  -- 1 5 4 gives 9
   footage : (format : FilmFormat) (count : ℤ) (text : String) → Case  -- 3-perf: 21 is `1+00.1`
   divided : (count n answer : ℤ) → Case  -- -1 divided by integer 2 is 0
@@ -53,6 +54,7 @@ Holds (footage format count text) =
     (footageText format count ≡ bytesOf text)
     × ((rate : ℕ) → isRate rate ≡ true → readText (bytesOf text) (Format (formatNumber format)) rate ≡ Footage (timecode count rate) format)
 Holds (lists bytes rs) = (readOf onDisk bytes ≡ AllOf rs) × (listBytes rs ≡ bytes)
+Holds (handsOver numbers rs) = readOf inNumbers numbers ≡ AllOf rs
 Holds (listRefused bytes number) = readOf onDisk bytes ≡ FaultOf (refusal number)
 Holds (divided count n answer) = (rate : ℕ) → isRate rate ≡ true → divOf (timecode count rate) n ≡ At (timecode answer rate)
 Holds (dividedBy count p q answer) = (rate : ℕ) → isRate rate ≡ true → divqOf (timecode count rate) p q ≡ At (timecode answer rate)
@@ -87,6 +89,7 @@ cases =
     ∷ stops Nothing 2 "-0000000001:0000000002" 2 1
     ∷ stops (Format 1) 2 "1+2.0000000003" 2 4
     ∷ lists (1 ∷ 5 ∷ 2 ∷ 246 ∷ 255 ∷ 255 ∷ 255 ∷ 100 ∷ 0 ∷ 0 ∷ 0 ∷ 3 ∷ 7 ∷ 0 ∷ 0 ∷ 0 ∷ []) (Rate 5 ∷ Shot (negsuc 9) (pos 100) ∷ Reel 7 ∷ [])
+    ∷ handsOver (pos 1 ∷ pos 5 ∷ pos 2 ∷ negsuc 9 ∷ pos 100 ∷ pos 3 ∷ pos 7 ∷ []) (Rate 5 ∷ Shot (negsuc 9) (pos 100) ∷ Reel 7 ∷ [])
     ∷ lists [] []
     ∷ lists (1 ∷ 12 ∷ 2 ∷ 5 ∷ 0 ∷ 0 ∷ 0 ∷ 5 ∷ 0 ∷ 0 ∷ 0 ∷ []) (Rate 12 ∷ Shot (pos 5) (pos 5) ∷ [])
     ∷ listRefused (1 ∷ 5 ∷ 4 ∷ []) 9

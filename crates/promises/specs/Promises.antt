@@ -23,6 +23,7 @@ use Rattle.arithmetic.specs.Statements as arithmetic
 use Rattle.chains.specs.Demand3 as chains
 use Rattle.low_bytes.specs.Statements as low-bytes
 use Rattle.shot_lists.specs.Statements as shot-lists
+use Rattle.shot_lists.specs.RefusalStatements as shot-refusals
 use Rattle.shot_writer.specs.Statements as shot-writer
 use Rattle.hex.specs.Statements as hex
 use Rattle.asking.specs.RecordStatements as asking-records
@@ -209,10 +210,20 @@ pub record Promises : Type 1 where
   pub given-exactly : shot-lists.GivenExactly
   pub given-refused : shot-lists.GivenRefused
   pub entry-when : shot-lists.EntryWhen
+  pub refusal-order : shot-refusals.RefusalOrder
+  pub nine-exactly : shot-refusals.NineExactly
+  pub ten-exactly : shot-refusals.TenExactly
+  pub six-exactly : shot-refusals.SixExactly
+  pub five-exactly : shot-refusals.FiveExactly
+  pub eleven-exactly : shot-refusals.ElevenExactly
+  pub twelve-exactly : shot-refusals.TwelveExactly
+  pub rate-holds : shot-refusals.RateHolds
+  pub empty-shot : shot-refusals.EmptyShot
+  pub any-reel : shot-refusals.AnyReel
   pub never-eight : shot-lists.NeverEight
   pub one-list : shot-lists.OneList
   pub one-bytes : shot-lists.OneBytes
-  pub walk : shot-lists.Walk
+  pub record-by-record : shot-lists.RecordByRecord
   pub list-refused : shot-writer.ListRefused
   pub room-refused : shot-writer.RoomRefused
   pub bytes-on-disk : shot-writer.BytesOnDisk
@@ -238,6 +249,7 @@ pub record Promises : Type 1 where
   pub hex-one : hex.HexOne
   pub hex-back : hex.HexBack
   pub hex-bytes : hex.HexBytes
+  pub hex-lower : hex.HexLower
   pub shown-line : showing.ShownLine
   pub written-line : showing.WrittenLine
   pub text-refused-shown : showing.TextRefusedShown

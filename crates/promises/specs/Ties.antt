@@ -28,7 +28,7 @@ use Rattle.time.specs.Ticks.{ticksOf}
 use Rattle.written.specs.Written.{answerTo, lineTo}
 use Rattle.shot_lists.specs.Entries.{onDisk, inNumbers, entryOf}
 use Rattle.shot_lists.specs.Reading.{checkedOf, readOf}
-use Rattle.shot_writer.specs.ListText.{recordBytes, listDraft}
+use Rattle.shot_writer.specs.ListText.{listDraft}
 use Rattle.answers.specs.Refusals as answers
 use Rattle.timecodes.specs.Timecode as timecodes
 use Rattle.written.specs.Written as written
@@ -90,8 +90,6 @@ use Rattle.shot_lists.proofs.check_list as check-list
 use Rattle.shot_lists.proofs.check_list.Reads as check-list-reads
 use Rattle.shot_lists.proofs.given_at as given-at
 use Rattle.shot_lists.proofs.given_at.Reads as given-at-reads
-use Rattle.shot_writer.proofs.put_record as put-record
-use Rattle.shot_writer.proofs.put_record.Reads as put-record-reads
 use Rattle.shot_writer.proofs.write_list as write-list
 use Rattle.shot_writer.proofs.write_list.Reads as write-list-reads
 use Rattle.answers.proofs.number as answers-number
@@ -156,7 +154,6 @@ pub record Ties : Type 0 where
   pub record-at : Gives record-at.ended record-at-reads.Learnt (λ κs a x. x .0 ≡ entryOf onDisk (a .1 .1 .0) (drop (a .1 .0) (a .0 .now)))
   pub check-list : Gives check-list.ended check-list-reads.Learnt (λ κs a x. x .0 ≡ checkedOf (readOf onDisk (a .0 .now)))
   pub given-at : Gives given-at.ended given-at-reads.Learnt (λ κs a x. x .0 ≡ entryOf inNumbers (a .1 .1 .0) (drop (a .1 .0) (a .0 .now)))
-  pub put-record : Gives put-record.ended put-record-reads.Learnt (λ κs a x. x .1 .0 ≡ laid (a .0 .now) (recordBytes (a .1 .0)))
   pub write-list : Gives write-list.ended write-list-reads.Learnt (λ κs a x.
       (x .0 ≡ answerTo (a .1 .0 .now) (a .1 .1 .0) (listDraft (a .0 .now)))
       × (x .1 .1 .0 ≡ lineTo (a .1 .0 .now) (a .1 .1 .0) (listDraft (a .0 .now))))

@@ -24,7 +24,7 @@ use Rattle.shot_lists.specs.Statements.{KindFixes}
 pub kind-fixes : KindFixes
 unfolding bodyFixed
 kind-fixes (Rate n) body u = u .long
-kind-fixes (Shot first end) body f = omega (arith, ap length (f .parts), length-append (f .low) (f .high), f .starts .long, f .ends .long)
+kind-fixes (Shot first end) body f = omega (arith, ap length (f .parts), length-append (f .front) (f .back), f .starts .long, f .ends .long)
 kind-fixes (Reel n) body u = u .long
 
 -- ---- a body of the grammar is read as its record
@@ -41,7 +41,7 @@ pub made-back : (r : Record) (body : List ℕ) → BodyOf r body → (m : List �
 unfolding ofKind
 made-back (Rate n) body u m = ap Rate (ap worth (take-at body m 1 (u .long)) ∙ u .is)
 made-back (Shot first end) body f m =
-    let read = frames-read (f .low) (f .high) m (f .starts .long) (f .ends .long) in
+    let read = frames-read (f .front) (f .back) m (f .starts .long) (f .ends .long) in
     rw (f .parts, read .0, read .1) (ap₂ Shot (f .starts .is) (f .ends .is))
 made-back (Reel n) body u m = ap Reel (ap worth (take-at body m 4 (u .long)) ∙ u .is)
 
@@ -70,8 +70,8 @@ body-one (Rate n) b c u v = unsigned-one 1 n b u .0 ∙ sym (unsigned-one 1 n c 
 body-one (Shot first end) b c f g =
     f .parts
     ∙ ap₂ _++_
-    (signed-one 4 first (f .low) (f .starts) .0 ∙ sym (signed-one 4 first (g .low) (g .starts) .0))
-    (signed-one 4 end (f .high) (f .ends) .0 ∙ sym (signed-one 4 end (g .high) (g .ends) .0))
+    (signed-one 4 first (f .front) (f .starts) .0 ∙ sym (signed-one 4 first (g .front) (g .starts) .0))
+    (signed-one 4 end (f .back) (f .ends) .0 ∙ sym (signed-one 4 end (g .back) (g .ends) .0))
     ∙ sym (g .parts)
 body-one (Reel n) b c u v = unsigned-one 4 n b u .0 ∙ sym (unsigned-one 4 n c v .0)
 
@@ -91,8 +91,8 @@ module _ (k : ℕ) (l : List ℕ) (bytes : Bytes l) where
   there-by false true s e f g known room = (
     eqb-true k 2 f,
     record {
-      low = take 4 l;
-      high = take 4 (drop 4 l);
+      front = take 4 l;
+      back = take 4 (drop 4 l);
       parts = take-add 4 4 l;
       starts = record { long = length-take-le 4 l (omega arith); bytes = bytes-take 4 l bytes; is = refl };
       ends =

@@ -72,11 +72,12 @@ pub nine-exactly : NineExactly
 nine-exactly held b l =
     let n = onDisk .body b in
     let r = onDisk .made b l in
-    let is = entry-when ℕ onDisk held b l in
-    ( λ h.
-    let none = eqb-true n 0 (nine-by (eqb n 0) (ltb (length l) n) (first (faults held r)) (first-but 8 (faults held r) (not-nine held r)) (sym is ∙ h)) in
-    (λ e. some-body (Rate 0) b e none, λ e. some-body (Shot (pos 0) (pos 0)) b e none, λ e. some-body (Reel 0) b e none)
-    , λ k. is ∙ ap (λ (t : Bool). cond t 9 (cond (ltb (length l) n) 10 (first (faults held r)))) (eq-eqb n 0 (no-body b (k .0) (k .1) (k .2))) )
+    let is = entry-when ℕ onDisk held b l in (
+      λ h.
+          let none = eqb-true n 0 (nine-by (eqb n 0) (ltb (length l) n) (first (faults held r)) (first-but 8 (faults held r) (not-nine held r)) (sym is ∙ h)) in
+          (λ e. some-body (Rate 0) b e none, λ e. some-body (Shot (pos 0) (pos 0)) b e none, λ e. some-body (Reel 0) b e none),
+      λ k. is ∙ ap (λ (t : Bool). cond t 9 (cond (ltb (length l) n) 10 (first (faults held r)))) (eq-eqb n 0 (no-body b (k .0) (k .1) (k .2))),
+    )
 
 ten-by : (p q : Bool) (later : ℕ) → (later ≡ 10 → ⊥) → cond p 9 (cond q 10 later) ≡ 10 → q ≡ true
 ten-by true q later other h = absurd (omega arith)
@@ -89,14 +90,15 @@ ten-exactly held r body l of =
     let n = onDisk .body b in
     let m = onDisk .made b l in
     let long : length body ≡ n = kind-fixes r body of in
-    let is = entry-when ℕ onDisk held b l in
-    ( λ h.
-    let short = ltb-true (length l) n (ten-by (eqb n 0) (ltb (length l) n) (first (faults held m)) (first-but 9 (faults held m) (not-ten held m)) (sym is ∙ h)) in
-    omega arith
-    , λ k.
-    is
-    ∙ ap (λ (t : Bool). cond t 9 (cond (ltb (length l) n) 10 (first (faults held m)))) (ne-eqb n 0 (λ e. some-body r b refl e))
-    ∙ ap (λ (t : Bool). cond t 10 (first (faults held m))) (lt-ltb (length l) n (omega arith)) )
+    let is = entry-when ℕ onDisk held b l in (
+      λ h.
+          let short = ltb-true (length l) n (ten-by (eqb n 0) (ltb (length l) n) (first (faults held m)) (first-but 9 (faults held m) (not-ten held m)) (sym is ∙ h)) in
+          omega arith,
+      λ k.
+          is
+          ∙ ap (λ (t : Bool). cond t 9 (cond (ltb (length l) n) 10 (first (faults held m)))) (ne-eqb n 0 (λ e. some-body r b refl e))
+          ∙ ap (λ (t : Bool). cond t 10 (first (faults held m))) (lt-ltb (length l) n (omega arith)),
+    )
 
 -- ---- its numbers
 
@@ -149,9 +151,10 @@ of-out start end (inr h) = inr (lt-leb (natAbs end) 400000000 h)
 
 pub five-exactly : FiveExactly
 unfolding faults
-five-exactly held start end =
-    ( λ h. out-of start end (five-by (isCount start) (isCount end) (isRate held) (ltZ end start) h)
-    , λ k. five-in (isCount start) (isCount end) (isRate held) (ltZ end start) (of-out start end k) )
+five-exactly held start end = (
+  λ h. out-of start end (five-by (isCount start) (isCount end) (isRate held) (ltZ end start) h),
+  λ k. five-in (isCount start) (isCount end) (isRate held) (ltZ end start) (of-out start end k),
+)
 
 -- ---- the rate that holds
 
@@ -190,19 +193,21 @@ module _ (start end : ℤ) (s : isCount start ≡ true) (e : isCount end ≡ tru
   none-before (Reel n ∷ rs) sound h = none-before rs (sound .1) h
 
 pub eleven-exactly : ElevenExactly
-eleven-exactly before start end sound s e =
-    ( none-before start end (count-in start s) (count-in end e) before sound
-    , λ none.
-    let held : heldBehind 0 before ≡ 0 = rate-holds 0 before ∙ ap (lastOf 0) none in
-    ap (λ (h : ℕ). first (faults h (Shot start end))) held ∙ eleven start end (count-in start s) (count-in end e) )
+eleven-exactly before start end sound s e = (
+  none-before start end (count-in start s) (count-in end e) before sound,
+  λ none.
+      let held : heldBehind 0 before ≡ 0 = rate-holds 0 before ∙ ap (lastOf 0) none in
+      ap (λ (h : ℕ). first (faults h (Shot start end))) held ∙ eleven start end (count-in start s) (count-in end e),
+)
 
 -- ---- end and first
 
 pub twelve-exactly : TwelveExactly
 unfolding faults
-twelve-exactly held start end low high s e =
-    ( λ n. ltZ-yes (there (ltZ end start) (rw (count-in start s, count-in end e, rate-in held low high) at n))
-    , λ less. rw (count-in start s, count-in end e, rate-in held low high) (given (ltZ end start) (less .lt)) )
+twelve-exactly held start end low high s e = (
+  λ n. ltZ-yes (there (ltZ end start) (rw (count-in start s, count-in end e, rate-in held low high) at n)),
+  λ less. rw (count-in start s, count-in end e, rate-in held low high) (given (ltZ end start) (less .lt)),
+)
   where
     there : (t : Bool) → _≡_ {A = ℕ} (cond t 12 0) 12 → T t
     there true n = tt

@@ -11,7 +11,7 @@ use Rattle.shot_lists.specs.Grammar.{OneByOne, OneOnDisk, listNumbers}
 use Rattle.shot_lists.specs.Entries.{onDisk, inNumbers, entryOf}
 use Rattle.shot_lists.specs.Laws.{end-only}
 use Rattle.shot_lists.specs.Walk.{read-taken, read-refused}
-use Rattle.shot_lists.specs.Statements.{ReadExactly, RefusedExactly, OneList, GivenExactly, GivenRefused, Walk}
+use Rattle.shot_lists.specs.Statements.{ReadExactly, RefusedExactly, OneList, GivenExactly, GivenRefused, RecordByRecord}
 use Rattle.shot_lists.proofs.Bodies.{disk-spells, disk-spelt}
 use Rattle.shot_lists.proofs.OwnNumbers.{Own, numbers-spell, numbers-spelt, own-list, list-own}
 use Rattle.shot_lists.proofs.Exactly.{exactly, refused}
@@ -70,9 +70,9 @@ given-refused l e =
 
 -- ---- record by record
 
-pub walk : Walk
+pub record-by-record : RecordByRecord
 unfolding entryOf
-walk =
+record-by-record =
     record {
       taken = λ held l r after size h. read-taken onDisk held l r after size h;
       refused = λ held l e h. read-refused onDisk held l e h;

@@ -23,11 +23,11 @@ kindByte (Reel n) = 3
 
 -- 8 bytes, first frame and end frame, each signed 32-bit, low byte first
 pub record TwoFrames (first end : ℤ) (body : List ℕ) : Type 0 where
-  pub low : List ℕ
-  pub high : List ℕ
-  pub parts : body ≡ low ++ high
-  pub starts : Signed 4 first low
-  pub ends : Signed 4 end high
+  pub front : List ℕ
+  pub back : List ℕ
+  pub parts : body ≡ front ++ back
+  pub starts : Signed 4 first front
+  pub ends : Signed 4 end back
 
 -- a rate, 1 byte; a shot, 8 bytes; a reel, 4 bytes, unsigned, low byte first
 abbrev pub BodyOf : Record → List ℕ → Type 0

@@ -61,13 +61,14 @@ FiveExactly = (held : ℕ) (start end : ℤ) → (first (faults held (Shot start
 abbrev pub Within400 : ℤ → Type 0
 Within400 frame = natAbs frame ≤ 400000000
 
--- 11 exactly for a shot of such frames before which no rate stands
+-- the rates of a list, one after the other
 abbrev pub ratesIn : List Record → List ℕ
 ratesIn [] = []
 ratesIn (Rate n ∷ rs) = n ∷ ratesIn rs
 ratesIn (Shot start end ∷ rs) = ratesIn rs
 ratesIn (Reel n ∷ rs) = ratesIn rs
 
+-- 11 exactly for a shot of such frames before which no rate stands
 abbrev pub ElevenExactly : Type 0
 ElevenExactly =
     (before : List Record) (start end : ℤ) → Sound 0 before → Within400 start → Within400 end

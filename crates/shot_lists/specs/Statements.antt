@@ -66,7 +66,7 @@ abbrev pub OneBytes : Type 0
 OneBytes = (rs : List Record) (l m : List ℕ) → OnDisk rs l → OnDisk rs m → l ≡ m
 
 -- record by record, given the rate held: the record at a place, then those behind it; a refusal is the list's; at the end there is none
-pub record Walk : Type 0 where
+pub record RecordByRecord : Type 0 where
   pub taken :
       (held : ℕ) (l : List ℕ) (r : Record) (after size : ℕ) → entryOf onDisk held l ≡ Taken r after size
       → readFrom onDisk 0 held l ≡ andThen r (readFrom onDisk 0 after (drop size l))

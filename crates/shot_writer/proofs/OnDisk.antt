@@ -39,8 +39,8 @@ record-on held (Rate n) rs l clear later =
 record-on held (Shot first end) rs l clear later =
     let frames : TwoFrames first end (signedBytes 4 first ++ signedBytes 4 end) =
     record {
-      low = signedBytes 4 first;
-      high = signedBytes 4 end;
+      front = signedBytes 4 first;
+      back = signedBytes 4 end;
       parts = refl;
       starts = signed-is 4 first (count-within first (not-in (isCount first) (clear .0)));
       ends = signed-is 4 end (count-within end (not-in (isCount end) (clear .1 .0)));

@@ -7,11 +7,11 @@ use native.Mathlib.Omega.{arith}
 use lib.IntN.{ℤ}
 use borrow.Author.Tests.{leb-true}
 use lib.ListN.{length, take, drop}
-use lib.Seq.{take-at, drop-at, length-take-le}
 use Rattle.lent.specs.Line.{splice, fits}
 use Rattle.answers.specs.declared.Refusal.{Refusal}
 use Rattle.answers.specs.OrderLaws.{unless-told, not-in}
 use Rattle.low_bytes.specs.LowBytes.{Bytes}
+use Rattle.lent.proofs.Laws.{splice-there}
 use Rattle.written.specs.declared.Written.the-variants.{Length, Refused}
 use Rattle.written.specs.Written.{Text, badRoom, answerTo, lineTo}
 use Rattle.written.proofs.Laws.{text-written}
@@ -49,15 +49,6 @@ bytes-on-disk given rs l h d =
 refused-apart : (e : Refusal) (n : ℕ) → Refused e ≡ Length n → ⊥
 refused-apart e n h = let clash : _≡_ {A = ℕ} 0 1 = cc in omega arith
 
--- a text that was laid down stands there
-module _ (line : List ℕ) (place : ℕ) (text : List ℕ) (room : place + length text ≤ length line) where
-  laid-there : take (length text) (drop place (splice line place text)) ≡ text
-  unfolding splice
-  laid-there =
-      let before : length (take place line) ≡ place = length-take-le place line (omega arith) in
-      ap (take (length text)) (drop-at (take place line) (text ++ drop (place + length text) line) place before)
-      ∙ take-at text (drop (place + length text) line) (length text) refl
-
 written-by : (line : List ℕ) (place n : ℕ) (t : Reading) → ((rs : List Record) → t ≡ AllOf rs → Sound 0 rs) → answerTo line place (draftOf t) ≡ Length n
     → readOf onDisk (take n (drop place (lineTo line place (draftOf t)))) ≡ t
 unfolding answerTo
@@ -71,7 +62,7 @@ written-by line place n (AllOf rs) sound h =
     let good = sound rs refl in
     ap (λ (l : List ℕ). readOf onDisk (take n (drop place l))) (text-written line place text room .1)
     ∙ ap (λ (k : ℕ). readOf onDisk (take k (drop place (splice line place text)))) long
-    ∙ ap (readOf onDisk) (laid-there line place text room)
+    ∙ ap (readOf onDisk) (splice-there line text place room)
     ∙ read-exactly text rs (list-bytes rs) .1 (list-on 0 rs good, good)
 
 pub written-then-read : WrittenThenRead

@@ -87,7 +87,7 @@ fn put_kind(part: &mut [u8], kind: u8, width: usize, n: u64)
 }
 
 // A record's bytes at the front of a part; every other byte stays. Where they have no room nothing changes.
-pub fn put_record(part: &mut [u8], found: Record)
+fn put_record(part: &mut [u8], found: Record)
     ensures line { λ _. ⌜ now (part .exit) ≡ laid (now (part .entry)) (recordBytes found) ⌝ }
 {
     match found {

@@ -30,7 +30,7 @@ fn put_frames(out: &mut [u8], used: usize, first: i64, end: i64) -> usize
 }
 
 // A record as words, a space in front of each.
-fn put_record(out: &mut [u8], used: usize, found: Record) -> usize
+fn put_words(out: &mut [u8], used: usize, found: Record) -> usize
     ensures answer { λ r. ⌜ r ≡ recordOn (sheet (now (out .entry)) used) found .used ⌝ }
     ensures sheet { λ r. ⌜ now (out .exit) ≡ recordOn (sheet (now (out .entry)) used) found .bytes ⌝ }
 {
@@ -57,7 +57,7 @@ fn put_records(out: &mut [u8], used: usize, list: &[u8]) -> usize
                 held: after,
                 size,
             } => {
-                u = put_record(out, u, found);
+                u = put_words(out, u, found);
                 at += size;
                 held = after;
             }

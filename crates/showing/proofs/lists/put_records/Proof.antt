@@ -48,7 +48,7 @@ loop-again c =
     let k = told .before .before .before .before .before in
     let a = k .before .before .before .args in
     underway-goes (a .list .now) (sheet (a .out .now) (a .used)) (sheet (k .loop .out) (k .loop .u)) (k .loop .at) (k .loop .held) (k .loop .inv) _ _ _ _ _
-    (taken told) (put .put-record .ensures)
+    (taken told) (put .put-words .ensures)
 
 returns : tie.Need-returns Inv-loop μ-loop
 returns c =

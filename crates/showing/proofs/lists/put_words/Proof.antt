@@ -1,4 +1,4 @@
--- `showing::lists::put_record` meets its contract: case by case.
+-- `showing::lists::put_words` meets its contract: case by case.
 -- Assumes nothing.
 use mir.Syntax.{w64}
 use mir.Val.{toZ, ofZ}
@@ -7,8 +7,8 @@ use borrow.Author.Needs.{needs}
 use Rattle.streams.specs.Sheet.{sheet}
 use Rattle.showing.specs.Lists.{framesOn, recordOn}
 use Rattle.showing.proofs.Putting.{leaves-same}
-use Rattle.showing.proofs.lists.put_record.Statement.{statement}
-use Rattle.showing.proofs.lists.put_record.Tie as tie
+use Rattle.showing.proofs.lists.put_words.Statement.{statement}
+use Rattle.showing.proofs.lists.put_words.Tie as tie
 
 returns : tie.Need-returns
 returns c =
@@ -37,8 +37,8 @@ returns-3 c =
     let a = f .before .before .before .args in
     leaves-same _ _ _ _ (sym (ap (recordOn (sheet (a .out .now) (a .used))) (f .found3 .given .1))) (c .before .before .put-numbered2 .ensures)
 
-pub put-record-spec : {M : Type 1} → statement M
-put-record-spec =
+pub put-words-spec : {M : Type 1} → statement M
+put-words-spec =
     tie.close
     (tie.spec
     (λ c. search needs)
