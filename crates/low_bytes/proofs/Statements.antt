@@ -1,10 +1,9 @@
 -- A number has its bytes, and no others: bytes and numbers below a power of 256 go both ways across, and so does two's complement.
 -- Assumes nothing.
 use Prim.Native.Nat.{ℕ, _^_, _<_}
-use mathlib.Core.Path.{_≡_, refl, sym, ap, _∙_, subst}
+use mathlib.Core.Path.{_≡_, sym, ap, _∙_, subst}
 use mathlib.Core.List.{List}
 use lib.ListN.{length}
-use lib.IntN.{ℤ}
 use Rattle.low_bytes.specs.LowBytes.{Bytes, worth, signedOf, Within, lowBytes, twosOf}
 use Rattle.low_bytes.specs.Laws.{worth-below, low-length, low-bytes, worth-low, low-worth, twos-below, signed-twos, twos-signed, signed-within}
 use Rattle.low_bytes.specs.Statements.{UnsignedIs, UnsignedOne, SignedIs, SignedOne}

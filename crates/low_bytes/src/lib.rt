@@ -2,7 +2,7 @@
 // itself: bytes that are not there count nothing, and what has no room changes nothing.
 ghost use mathlib.Core.Path.{_≡_};
 ghost use Prim.Native.Nat.{_-_, min};
-ghost use lib.ListN.{length, take, drop};
+ghost use lib.ListN.{take, drop};
 ghost use Rattle.lent.specs.Line.{laid};
 ghost use Rattle.low_bytes.specs.LowBytes.{worth, lowBytes, signedOf, twosOf, signedBytes};
 

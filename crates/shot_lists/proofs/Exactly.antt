@@ -44,7 +44,8 @@ split (suc n) x l h =
 
 module _ {A : Type 0} (f : Layout A) (Spelt : Record → List A → Type 0) (spells : (r : Record) (l : List A) → Spelt r l → Spells f r l)
     (Ok : List A → Type 0) (later : (x : A) (l : List A) → Ok (x ∷ l) → Ok l)
-    (taken-spelt : (held : ℕ) (x : A) (l : List A) (r : Record) (after size : ℕ) → Ok (x ∷ l) → entryOf f held (x ∷ l) ≡ Taken r after size → Spelt r (take size (x ∷ l))) where
+    (taken-spelt : (held : ℕ) (x : A) (l : List A) (r : Record) (after size : ℕ) → Ok (x ∷ l) → entryOf f held (x ∷ l) ≡ Taken r after size
+    → Spelt r (take size (x ∷ l))) where
   -- what was read tells of the list; the rate held in front of it is any
   record FaultIn (held : ℕ) (l : List A) (e : Refusal) : Type 0 where
     before : List Record

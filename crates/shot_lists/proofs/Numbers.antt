@@ -5,7 +5,6 @@ use mathlib.Core.Path.{_≡_, refl, sym, ap, _∙_, subst}
 use mathlib.Core.List.{List, [], _∷_}
 use mathlib.Core.Bool.{Bool, true, false, cond}
 use native.Mathlib.Omega.{arith}
-use Rattle.answers.specs.declared.Refusal.{Refusal}
 use Rattle.answers.specs.Order.{Condition, first, NoPlaces}
 use Rattle.answers.specs.OrderLaws.{unless-number, unless-place}
 use Rattle.shot_lists.specs.declared.records.Record.{Record}

@@ -1,6 +1,6 @@
 -- A record and its numbers: its kind and own numbers are taken as the record, and what is taken has no others.
 -- Assumes nothing.
-use Prim.Native.Nat.{ℕ, suc, _≤_, _<_, _^_}
+use Prim.Native.Nat.{ℕ, _≤_, _<_, _^_}
 use mathlib.Core.Path.{_≡_, refl, sym, ap, ap₂, _∙_, subst}
 use mathlib.Core.List.{List, [], _∷_, _++_}
 use mathlib.Core.Bool.{Bool, true, false, cond, and-eq-true-iff}

@@ -3,27 +3,26 @@
 use Prim.Native.Nat.{ℕ, suc, _≤_, _<_, _^_}
 use mathlib.Core.Path.{_≡_, refl, sym, ap, _∙_, subst}
 use mathlib.Core.Logic.{_⊎_, inl, inr}
-use mathlib.Core.List.{List, [], _∷_, _++_}
+use mathlib.Core.List.{List, [], _∷_}
 use mathlib.Core.Bool.{Bool, true, false, cond, not, _&&_}
 use native.Mathlib.Omega.{arith}
-use borrow.Author.Tests.{lt-ltb, le-ltb, le-leb, lt-leb, leb-true, leb-false, ltb-true, ltb-false, eqb-true, eqb-false, eq-eqb, ne-eqb}
+use borrow.Author.Tests.{lt-ltb, le-ltb, le-leb, lt-leb, leb-false, ltb-true, eqb-true, eq-eqb, ne-eqb}
 use lib.Dec.{T, leb, ltb, eqb}
 use lib.IntN.{ℤ, pos, negsuc, natAbs}
-use lib.Signed.{ltZ, _<ℤ_, ltZ-yes}
+use lib.Signed.{ltZ, ltZ-yes}
 use lib.ListN.{length}
-use Rattle.answers.specs.Order.{Clear, first}
+use Rattle.answers.specs.Order.{first}
 use Rattle.answers.specs.OrderLaws.{not-in}
 use Rattle.answers.specs.Refusals.{isCount}
 use Rattle.rates.specs.Rates.{isRate}
-use Rattle.low_bytes.specs.LowBytes.{Bytes, worth}
+use Rattle.low_bytes.specs.LowBytes.{worth}
 use Rattle.low_bytes.specs.Laws.{worth-below}
 use Rattle.shot_lists.specs.declared.records.Record.{Record}
 use Rattle.shot_lists.specs.declared.records.Record.the-variants.{Rate, Shot, Reel}
 use Rattle.shot_lists.specs.declared.records.Entry.the-variants.{Taken}
 use Rattle.shot_lists.specs.Records.{faults, Sound, heldBehind}
 use Rattle.shot_lists.specs.Grammar.{kindByte}
-use Rattle.shot_lists.specs.Entries.{bodyFixed, onDisk, against, entryOf}
-use Rattle.shot_lists.specs.Reading.{numberIn}
+use Rattle.shot_lists.specs.Entries.{bodyFixed, onDisk}
 use Rattle.shot_lists.specs.Laws.{entry-spelled}
 use Rattle.shot_lists.specs.RefusalStatements.{numbersIn, orderFor, Within400, ratesIn, lastOf, RefusalOrder, NineExactly, TenExactly, SixExactly, FiveExactly, ElevenExactly, TwelveExactly, RateHolds, EmptyShot, AnyReel}
 use Rattle.shot_lists.proofs.Bodies.{kind-fixes, body-some, disk-spells}

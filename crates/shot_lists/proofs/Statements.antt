@@ -1,7 +1,6 @@
 -- What a list gives is what the grammar has of it, both ways; so is what numbers that are handed over give; and it is given record by record.
 -- Assumes nothing.
-use Prim.Native.Nat.{ℕ}
-use mathlib.Core.Path.{_≡_, refl, sym, ap, _∙_, subst}
+use mathlib.Core.Path.{_≡_, sym, ap, subst}
 use mathlib.Core.List.{List}
 use lib.IntN.{ℤ}
 use Rattle.low_bytes.specs.LowBytes.{Bytes}

@@ -1,13 +1,11 @@
 -- Laws of the record at a place (BEHAVIOUR: Shot lists), for every layout: what is answered there, and what a record that was taken tells.
 -- Assumes nothing.
-use Prim.Native.Nat.{ℕ, zero, suc, _+_, _-_, _≤_, _<_}
+use Prim.Native.Nat.{ℕ, suc, _+_, _-_, _≤_, _<_}
 use mathlib.Core.Path.{_≡_, refl, sym, ap, _∙_}
 use mathlib.Core.List.{List, [], _∷_, _++_}
-use mathlib.Core.Bool.{Bool, true, false, cond}
 use native.Mathlib.Omega.{arith}
 use native.Mathlib.Numerals.{add-one}
 use borrow.Author.Tests.{lt-ltb, le-ltb, eq-eqb, ne-eqb, ltb-false, eqb-false}
-use lib.Dec.{ltb, eqb}
 use lib.ListN.{length, drop, getD, length-drop, length-append, drop-of-length-le}
 use lib.Seq.{drop-cons}
 use Rattle.answers.specs.declared.Refusal.{Refusal}
@@ -15,7 +13,6 @@ use Rattle.answers.specs.Order.{Clear}
 use Rattle.answers.specs.OrderLaws.{unless-clear, unless-told}
 use Rattle.answers.specs.Refusals.{noSuchKind, cutShort}
 use Rattle.shot_lists.specs.declared.records.Record.{Record}
-use Rattle.shot_lists.specs.declared.records.Entry.{Entry}
 use Rattle.shot_lists.specs.declared.records.Entry.the-variants.{Taken, Refused, End}
 use Rattle.shot_lists.specs.Records.{heldAfter, faults}
 use Rattle.shot_lists.specs.Entries.{Layout, against, ruled, entryOf}

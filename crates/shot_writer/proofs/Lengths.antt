@@ -1,19 +1,19 @@
 -- How long a record is on disk, and beside the numbers in which it is handed over.
 -- Assumes nothing.
-use Prim.Native.Nat.{ℕ, suc, _+_, _*_, _≤_}
-use mathlib.Core.Path.{_≡_, refl, sym, ap, _∙_, subst}
-use mathlib.Core.List.{List, [], _∷_, _++_}
+use Prim.Native.Nat.{ℕ, suc, _*_, _≤_}
+use mathlib.Core.Path.{_≡_, refl, ap}
+use mathlib.Core.List.{List, [], _∷_}
 use mathlib.Core.Bool.{Bool, true, false, cond}
 use native.Mathlib.Omega.{arith}
 use lib.Dec.{eqb}
 use lib.IntN.{ℤ, pos}
 use lib.ListN.{length, length-append, getD}
 use Rattle.numbers.specs.Sign.{upFrom}
-use Rattle.low_bytes.specs.LowBytes.{lowBytes, signedBytes, twosOf}
+use Rattle.low_bytes.specs.LowBytes.{signedBytes, twosOf}
 use Rattle.low_bytes.specs.Laws.{low-length}
 use Rattle.shot_lists.specs.declared.records.Record.{Record}
 use Rattle.shot_lists.specs.declared.records.Record.the-variants.{Rate, Shot, Reel}
-use Rattle.shot_lists.specs.declared.records.Entry.the-variants.{Taken, End}
+use Rattle.shot_lists.specs.declared.records.Entry.the-variants.{Taken}
 use Rattle.shot_lists.specs.Entries.{bodyFixed, ofKind, inNumbers, entryOf}
 use Rattle.shot_lists.specs.Laws.{taken-told, end-apart}
 use Rattle.shot_writer.specs.ListText.{recordBytes}

@@ -1,16 +1,14 @@
 -- What is refused; what is written is in the format; written and read again it has the same records, read and written again the same bytes.
 -- Assumes nothing.
-use Prim.Native.Nat.{ℕ, _+_, _≤_}
+use Prim.Native.Nat.{ℕ, _+_}
 use mathlib.Core.Path.{_≡_, refl, sym, ap, _∙_, subst}
-use mathlib.Core.List.{List, [], _∷_, _++_}
+use mathlib.Core.List.{List, [], _∷_}
 use native.Mathlib.Omega.{arith}
-use lib.IntN.{ℤ}
 use borrow.Author.Tests.{leb-true}
 use lib.ListN.{length, take, drop}
 use Rattle.lent.specs.Line.{splice, fits}
 use Rattle.answers.specs.declared.Refusal.{Refusal}
 use Rattle.answers.specs.OrderLaws.{unless-told, not-in}
-use Rattle.low_bytes.specs.LowBytes.{Bytes}
 use Rattle.lent.proofs.Laws.{splice-there}
 use Rattle.written.specs.declared.Written.the-variants.{Length, Refused}
 use Rattle.written.specs.Written.{Text, badRoom, answerTo, lineTo}

@@ -17,7 +17,7 @@ use Rattle.shot_lists.specs.declared.records.Record.the-variants.{Rate, Shot, R
 use Rattle.shot_lists.specs.declared.records.Entry.the-variants as entry
 use Rattle.shot_lists.specs.declared.disk.Checked.the-variants as checked
 use Rattle.shot_lists.specs.Entries.{onDisk, entryOf}
-use Rattle.shot_lists.specs.Reading.{Reading, AllOf, FaultOf, andThen, readFrom, readOf, isFaultless, checkedOf}
+use Rattle.shot_lists.specs.Reading.{Reading, AllOf, FaultOf, andThen, readOf, isFaultless, checkedOf}
 use Rattle.shot_lists.specs.Walk.{Going, going-begin, going-turn, going-over, going-done, faultless-apart, faultless-begin, faultless-turn, faultless-never}
 use Rattle.showing.specs.Each.{ofRefusal}
 use Rattle.showing.specs.Shown.{countText, shownOn}

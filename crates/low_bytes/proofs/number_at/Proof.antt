@@ -1,7 +1,6 @@
 -- `low_bytes::number_at` meets its contract: each turn takes the next lower byte, and what is summed up is what those from there on are worth.
 -- Assumes nothing.
 use Prim.Native.Nat.{_+_, _*_, _-_, _<_}
-use mathlib.Core.Path.{sym}
 use native.Mathlib.Omega.{arith}
 use lib.ListN.{length, getD}
 use borrow.Author.Needs.{needs}

@@ -1,14 +1,14 @@
 -- `low_bytes::signed_at` meets its contract: the lower half stands for itself, the upper half for what it is less 2 ^ 32.
 -- Assumes nothing.
-use Prim.Native.Nat.{ℕ, _+_, _*_, _-_, _≤_, _<_, _^_}
-use mathlib.Core.Path.{_≡_, sym, ap, _∙_}
+use Prim.Native.Nat.{_-_, _≤_, _<_, _^_}
+use mathlib.Core.Path.{sym, ap, _∙_}
 use native.Mathlib.Omega.{arith}
 use native.Mathlib.Nat.{pow-le-pow-right}
 use lib.ListN.{length, take, drop, length-take}
 use borrow.Author.Needs.{needs}
 use mir.Facts.{toZ-ofZ}
 use Rattle.numbers.specs.Total.{fitted-in}
-use Rattle.low_bytes.specs.LowBytes.{worth, signedOf}
+use Rattle.low_bytes.specs.LowBytes.{signedOf}
 use Rattle.low_bytes.specs.Laws.{bytes-take, bytes-drop, worth-below, signed-low, signed-high}
 use Rattle.low_bytes.proofs.signed_at.Statement.{statement}
 use Rattle.low_bytes.proofs.signed_at.Tie as tie

@@ -9,7 +9,7 @@ use Rattle.shot_lists.specs.declared.records.Entry.the-variants.{Taken}
 use Rattle.shot_lists.specs.Entries.{inNumbers, entryOf}
 use Rattle.shot_lists.specs.Reading.{readOf}
 use Rattle.shot_lists.specs.Walk.{Going, going-begin, going-turn, going-stop, going-over, going-done, going-nearer}
-use Rattle.shot_writer.specs.ListText.{recordBytes, measuredOf}
+use Rattle.shot_writer.specs.ListText.{measuredOf}
 use Rattle.shot_writer.proofs.Lengths.{taken-bytes}
 use Rattle.shot_writer.proofs.Measuring.{measured, measured-more, measured-zero, nothing-left}
 use Rattle.shot_writer.proofs.measure.Statement.{statement}
@@ -59,8 +59,8 @@ loop-again c =
     let l = k .before .args .given .now in
     let n = k .loop .n in (
       bound c,
-      going-turn inNumbers l (measuredOf (readOf inNumbers l)) (measured n) (measured (n + c .record-length .result)) (k .loop .at) (k .loop .held) _ _ _ (k .loop .inv .1)
-          (taken (c .before))
+      going-turn inNumbers l (measuredOf (readOf inNumbers l)) (measured n) (measured (n + c .record-length .result)) (k .loop .at) (k .loop .held)
+          _ _ _ (k .loop .inv .1) (taken (c .before))
           (λ t _. measured-more n _ t ∙ ap (λ (m : ℕ). measured (n + m) t) (sym (c .record-length .ensures))),
     )
 

@@ -1,7 +1,7 @@
 -- `shot_writer::put_shot` meets its contract: first and end, each lent the rest of the part, stand right behind what is there.
 -- Assumes nothing.
 use native.Mathlib.Omega.{arith}
-use mathlib.Core.Path.{_≡_, refl, sym, ap, _∙_}
+use mathlib.Core.Path.{refl, sym, ap, _∙_}
 use mathlib.Core.List.{[], _∷_}
 use borrow.Author.Needs.{needs}
 use mir.Facts.{toZ-ofZ}

@@ -1,6 +1,6 @@
 -- `shot_writer::record_length` meets its contract: by the kind of record.
 -- Assumes nothing.
-use mathlib.Core.Path.{_≡_, sym, ap, _∙_}
+use mathlib.Core.Path.{sym, ap, _∙_}
 use lib.ListN.{length}
 use borrow.Author.Needs.{needs}
 use Rattle.shot_writer.specs.ListText.{recordBytes}

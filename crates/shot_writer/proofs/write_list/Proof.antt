@@ -29,7 +29,8 @@ fit : (c : tie.Then1)
     a .place + length (listBytes (recordsIn (readOf inNumbers (a .given .now)))) ≤ length (a .line .now)
 fit c =
     let a = c .before .before .before .before .before .before .before .args in
-    fits-yes (a .line .now) (a .place) (listBytes (recordsIn (readOf inNumbers (a .given .now)))) _ _ (whole (c .before .before) .1) (c .before .room .ensures) (c .if1 .taken)
+    fits-yes (a .line .now) (a .place) (listBytes (recordsIn (readOf inNumbers (a .given .now)))) _ _ (whole (c .before .before) .1)
+    (c .before .room .ensures) (c .if1 .taken)
 
 sub-put-list : tie.Need-sub-put-list
 sub-put-list c = omega (arith, fit c)

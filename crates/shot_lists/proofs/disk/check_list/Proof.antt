@@ -47,7 +47,8 @@ loop-again c =
     let l = k .before .before .args .list .now in
     let n = k .loop .n in (
       omega (arith, nearer-now c .0, k .loop .inv .0),
-      going-turn onDisk l (checkedOf (readOf onDisk l)) (counted n) (counted (n + 1)) (k .loop .at) (k .loop .held) _ _ _ (k .loop .inv .1) (taken c) (λ t _. counted-more n _ t),
+      going-turn onDisk l (checkedOf (readOf onDisk l)) (counted n) (counted (n + 1)) (k .loop .at) (k .loop .held) _ _ _ (k .loop .inv .1)
+          (taken c) (λ t _. counted-more n _ t),
     )
 
 returns : tie.Need-returns Inv-loop μ-loop

@@ -1,10 +1,10 @@
 -- `shot_lists::disk::from_bytes` meets its contract: by the kind.
 -- Assumes nothing.
-use Prim.Native.Nat.{ℕ, _+_}
-use mathlib.Core.Path.{_≡_, sym, ap, ap₂, _∙_}
+use Prim.Native.Nat.{ℕ}
+use mathlib.Core.Path.{sym, ap, ap₂, _∙_}
 use native.Mathlib.Omega.{arith}
 use mathlib.Core.List.{List}
-use lib.ListN.{take, drop}
+use lib.ListN.{take}
 use lib.Seq.{drop-drop}
 use borrow.Author.Needs.{needs}
 use mir.Facts.{toZ-ofZ}
@@ -29,7 +29,9 @@ returns-2 c =
     let a = c .before .before .before .before .before .args in
     ap₂ Shot
     (toZ-ofZ (record { sfits = c .before .signed-at .ok }) ∙ c .before .signed-at .ensures)
-    (toZ-ofZ (record { sfits = c .signed-at2 .ok }) ∙ c .signed-at2 .ensures ∙ ap (λ (l : List ℕ). signedOf 4 (worth (take 4 l))) (sym (drop-drop 4 (a .at) (a .list .now))))
+    (toZ-ofZ (record { sfits = c .signed-at2 .ok })
+    ∙ c .signed-at2 .ensures
+    ∙ ap (λ (l : List ℕ). signedOf 4 (worth (take 4 l))) (sym (drop-drop 4 (a .at) (a .list .now))))
     ∙ sym (of-shot (a .kind) _ _ _ (c .before .before .before .if1 .left) (c .before .before .if2 .taken))
 
 returns-3 : tie.Need-returns-3

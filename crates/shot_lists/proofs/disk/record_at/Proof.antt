@@ -1,7 +1,7 @@
 -- `shot_lists::disk::record_at` meets its contract: what speaks against the record, in its order, and the record itself.
 -- Assumes nothing.
 use Prim.Native.Nat.{_+_, _<_}
-use mathlib.Core.Path.{_≡_, sym, ap, _∙_}
+use mathlib.Core.Path.{sym, ap, _∙_}
 use native.Mathlib.Omega.{arith}
 use lib.ListN.{length}
 use borrow.Author.Needs.{needs}

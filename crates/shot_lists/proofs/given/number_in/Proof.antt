@@ -1,9 +1,6 @@
 -- `shot_lists::given::number_in` meets its contract: past the end there is none.
 -- Assumes nothing.
-use mathlib.Core.Path.{_≡_, sym}
-use native.Mathlib.Omega.{arith}
-use lib.IntN.{pos}
-use lib.ListN.{getD}
+use mathlib.Core.Path.{sym}
 use borrow.Author.Needs.{needs}
 use Rattle.shot_lists.proofs.ByKind.{past-end}
 use Rattle.shot_lists.proofs.given.number_in.Statement.{statement}

@@ -1,6 +1,6 @@
 -- `shot_lists::records::rule` meets its contract: behind the verdict on the record's numbers.
 -- Assumes nothing.
-use mathlib.Core.Path.{_≡_, sym, ap, _∙_}
+use mathlib.Core.Path.{sym, ap, _∙_}
 use Prim.Native.Nat.{ℕ}
 use borrow.Author.Needs.{needs}
 use Rattle.answers.specs.OrderLaws.{judged-refused, judged-clear, unless-clear}
