@@ -50,5 +50,6 @@ unfoldable pub twosOf : (w : ℕ) → ℤ → ℕ
 twosOf w (pos n) = n
 twosOf w (negsuc n) = 256 ^ w - suc n
 
+-- the w bytes of a signed number
 abbrev pub signedBytes : (w : ℕ) → ℤ → List ℕ
 signedBytes w z = lowBytes w (twosOf w z)

@@ -48,6 +48,7 @@ pub record With (t : TzqRecord) (r : Record) (held size : ℕ) : Type 0 where
   pub behind : t .held ≡ held
   pub bytes : t .size ≡ size
 
+-- a record, why there is none, or the end
 abbrev pub EntryWhole : TzqRecord → Entry → Type 0
 EntryWhole t (entered.Taken r held size) = With t r held size
 EntryWhole t (entered.Refused e) = Without t (e .number)

@@ -12,15 +12,17 @@ use Rattle.shot_lists.specs.declared.disk.Checked.{Checked}
 use Rattle.shot_lists.specs.declared.disk.Checked.the-variants as checked
 use Rattle.shot_lists.specs.Entries.{Layout, entryOf}
 
--- what a list gives
+-- what a list gives: all of its records, or the refusal of the earliest one at fault
 pub data Reading : Type 0 where
   AllOf : List Record → Reading
   FaultOf : Refusal → Reading
 
+-- a record, and then what the rest of the list gives: a fault behind it is the list's
 abbrev pub andThen : Record → Reading → Reading
 andThen r (AllOf rs) = AllOf (r ∷ rs)
 andThen r (FaultOf e) = FaultOf e
 
+-- by what stands at the front: the record and what is read behind it, its refusal, or no record at all
 abbrev pub onward : Entry → (ℕ → ℕ → Reading) → Reading
 onward (entry.Taken r held size) later = andThen r (later held size)
 onward (entry.Refused e) later = FaultOf e
@@ -46,12 +48,13 @@ abbrev pub checkedOf : Reading → Checked
 checkedOf (AllOf rs) = checked.Records (length rs)
 checkedOf (FaultOf e) = checked.Refused e
 
--- the number of an entry's refusal (0: not refused), and its place
+-- the number of an entry's refusal; 0: not refused
 abbrev pub numberIn : Entry → ℕ
 numberIn (entry.Taken r held size) = 0
 numberIn (entry.Refused e) = e .number
 numberIn entry.End = 0
 
+-- and its place
 abbrev pub placeIn : Entry → ℕ
 placeIn (entry.Taken r held size) = 0
 placeIn (entry.Refused e) = e .place

@@ -1,4 +1,5 @@
--- What holds of reading a shot list (BEHAVIOUR: Shot lists): by the grammar, both ways; one way only; and record by record. Proofs: proofs/Statements.antt.
+-- What holds of reading a shot list (BEHAVIOUR: Shot lists): by the grammar, both ways; one way only; and record by record. Proofs: proofs/Statements.antt,
+-- Bodies.antt, Numbers.antt and OneWay.antt.
 -- Assumes nothing.
 use Prim.Native.Nat.{ℕ}
 use mathlib.Core.Path.{_≡_}
@@ -61,7 +62,7 @@ pub record OneList : Type 0 where
   pub bytes : (l : List ℕ) (rs ss : List Record) → OnDisk rs l → OnDisk ss l → rs ≡ ss
   pub read : (l : List ℕ) (rs ss : List Record) → Bytes l → readOf onDisk l ≡ AllOf rs → OnDisk ss l → rs ≡ ss
 
--- and no list has bytes of two kinds
+-- and no list has two forms in bytes
 abbrev pub OneBytes : Type 0
 OneBytes = (rs : List Record) (l m : List ℕ) → OnDisk rs l → OnDisk rs m → l ≡ m
 

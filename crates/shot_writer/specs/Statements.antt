@@ -1,5 +1,5 @@
--- What holds of writing a shot list (BEHAVIOUR: Shot lists), for lists of any length: what is written is in the format, what is written and read again has the
--- same records, what is read and written again has the same bytes. Proofs: proofs/Statements.antt.
+-- What holds of writing a shot list (BEHAVIOUR: Shot lists), for lists of any length: what is refused; that what is written is in the format, what is
+-- written and read again has the same records, what is read and written again has the same bytes. Proofs: proofs/Statements.antt.
 -- Assumes nothing.
 use Prim.Native.Nat.{ℕ, _+_, _<_}
 use mathlib.Core.Path.{_≡_}
