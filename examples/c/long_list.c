@@ -1,5 +1,5 @@
-/* A shot list of a million records and more, as a loader meets it: walked, tested, handed over in numbers and written again. Prints one line; bin/c-demo compares
- * it with what the numbers here make it. */
+/* A shot list of a million shots, as a loader meets it: walked, tested, handed over in numbers and written again. Prints one line, which
+ * bin/c-demo compares with what the numbers here make it. */
 #include <stdio.h>
 #include <stdlib.h>
 #include <string.h>
