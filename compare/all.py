@@ -34,6 +34,19 @@ def answers(program, asked):
     return lines[:-1]
 
 
+def judge_all(name, work, jobs):
+    """Works through jobs, each of which gives how many were judged and what was wrong; tells of both, and ends the program."""
+    judged, wrong = 0, []
+    with Pool(os.cpu_count()) as pool:
+        for many, found in pool.imap_unordered(work, jobs):
+            judged += many
+            wrong += found
+    for command, ours, wanted in sorted(wrong, key=lambda one: by_length(one[0]))[:20]:
+        print(f"wrong: {command!r}: ours {ours!r}, right {wanted!r}")
+    print(f"{name}: {judged} judged, {len(wrong)} wrong")
+    sys.exit(1 if wrong else 0)
+
+
 def differences(judge, ask, asked):
     """Where the crate, our program and the model are not of one mind: the command, the number of the kind or none, and
     the three answers."""

@@ -2,15 +2,13 @@
 """Holds `read_list` and `write_list` to the format of shot lists as docs/BEHAVIOUR.md says it, by Python's own packing of numbers.
 
 `python3 compare/lists.py full|quick ASK ..` asks our program (`ask`'s commands) and compares whole answers; compare/all.sh calls it. What is
-read is written again, too, and must have the same bytes. The last line is 'N judged, 0 wrong'.
+read is written again, too, and must have the same bytes. The last line is 'shot lists: N judged, 0 wrong'.
 """
 
-import os
 import re
 import struct
 import sys
 from itertools import product
-from multiprocessing import Pool
 from random import Random
 
 import all as comparison
@@ -294,15 +292,7 @@ def work(job):
 def main():
     size, *ask = sys.argv[1:]
     quick = size == "quick"
-    judged_all, wrong = 0, []
-    with Pool(os.cpu_count()) as pool:
-        for many, found in pool.imap_unordered(work, [(ask, number, quick) for number in range(len(list(jobs(quick))))]):
-            judged_all += many
-            wrong += found
-    for command, ours, wanted in sorted(wrong, key=lambda one: comparison.by_length(one[0]))[:20]:
-        print(f"wrong: {command!r}: ours {ours!r}, right {wanted!r}")
-    print(f"shot lists: {judged_all} judged, {len(wrong)} wrong")
-    sys.exit(1 if wrong else 0)
+    comparison.judge_all("shot lists", work, [(ask, number, quick) for number in range(len(list(jobs(quick))))])
 
 
 if __name__ == "__main__":

@@ -4,15 +4,13 @@
 `python3 compare/places.py full|quick ASK ..` asks our program (`ask`'s commands) and compares whole answers; compare/all.sh calls it.
 The number is the model's. The place of 1 is found by trying: the longest beginning of the text that some completion makes a
 text of an allowed shape, the shapes being the model's regular expressions, matched whole. The place of 2 is where the
-first run of over 9 digits begins: in a text of a shape the runs of digits are its fields. The last line is 'N judged, 0 wrong'.
+first run of over 9 digits begins: in a text of a shape the runs of digits are its fields. The last line is 'places: N judged, 0 wrong'.
 """
 
-import os
 import re
 import sys
 from functools import lru_cache
 from itertools import product
-from multiprocessing import Pool
 from random import Random
 
 import all as comparison
@@ -111,15 +109,7 @@ def work(job):
 
 def main():
     size, *ask = sys.argv[1:]
-    judged, wrong = 0, []
-    with Pool(os.cpu_count()) as pool:
-        for many, found in pool.imap_unordered(work, ((ask, job) for job in jobs(size == "quick"))):
-            judged += many
-            wrong += found
-    for command, ours, wanted in sorted(wrong, key=lambda one: comparison.by_length(one[0]))[:20]:
-        print(f"wrong: {command!r}: ours {ours!r}, right {wanted!r}")
-    print(f"{judged} judged, {len(wrong)} wrong")
-    sys.exit(1 if wrong else 0)
+    comparison.judge_all("places", work, ((ask, job) for job in jobs(size == "quick")))
 
 
 if __name__ == "__main__":

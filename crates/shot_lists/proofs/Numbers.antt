@@ -35,11 +35,12 @@ first-but n (c ∷ cs) h e = by (c .holds) (first-but n cs (h .1)) e
     by true later e = h .0 e
     by false later e = later e
 
-faults-but : (held : ℕ) (r : Record) → AllBut 8 (faults held r)
+-- on a record's numbers there are 5, 6, 11 and 12 alone
+pub faults-but : (n : ℕ) → (5 ≡ n → ⊥) → (6 ≡ n → ⊥) → (11 ≡ n → ⊥) → (12 ≡ n → ⊥) → (held : ℕ) (r : Record) → AllBut n (faults held r)
 unfolding faults
-faults-but held (Rate n) = (λ e. omega arith, tt)
-faults-but held (Shot first end) = (λ e. omega arith, (λ e. omega arith, (λ e. omega arith, (λ e. omega arith, tt))))
-faults-but held (Reel n) = (λ e. omega arith, tt)
+faults-but n a b c d held (Rate m) = (b, tt)
+faults-but n a b c d held (Shot start end) = (a, (a, (c, (d, tt))))
+faults-but n a b c d held (Reel m) = (a, tt)
 
 -- and none has a place in a text
 nowhere : (held : ℕ) (r : Record) → NoPlaces (faults held r)
@@ -72,7 +73,7 @@ module _ {A : Type 0} (f : Layout A) where
   other-by held x l (Taken r after size) h later = other-more r (readFrom f (size - 1) after l) (later (size - 1) after)
   other-by held x l (Refused e) h later = (
     λ n.
-        first-but 7 (against f held x l) (λ z. omega arith, (λ z. omega arith, faults-but held (f .made (f .kind x) l)))
+        first-but 7 (against f held x l) (λ z. omega arith, (λ z. omega arith, faults-but 8 (λ e. omega arith) (λ e. omega arith) (λ e. omega arith) (λ e. omega arith) held (f .made (f .kind x) l)))
         (sym (entry-when A f held x l) ∙ ap numberIn h ∙ n),
     sym (ap placeIn h) ∙ entry-nowhere f held x l,
   )

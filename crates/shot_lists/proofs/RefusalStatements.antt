@@ -2,16 +2,16 @@
 -- Assumes nothing.
 use Prim.Native.Nat.{ℕ, suc, _≤_, _<_, _^_}
 use mathlib.Core.Path.{_≡_, refl, sym, ap, _∙_, subst}
-use mathlib.Core.Logic.{_⊎_, inl, inr}
-use mathlib.Core.List.{List, [], _∷_}
+use mathlib.Core.Logic.{_↔_, _⊎_, inl, inr}
+use mathlib.Core.List.{List, [], _∷_, _++_}
 use mathlib.Core.Bool.{Bool, true, false, cond, not, _&&_}
 use native.Mathlib.Omega.{arith}
 use borrow.Author.Tests.{lt-ltb, le-ltb, le-leb, lt-leb, leb-false, ltb-true, eqb-true, eq-eqb, ne-eqb}
 use lib.Dec.{T, leb, ltb, eqb}
 use lib.IntN.{ℤ, pos, negsuc, natAbs}
-use lib.Signed.{ltZ, ltZ-yes}
-use lib.ListN.{length}
-use Rattle.answers.specs.Order.{first}
+use lib.Signed.{ltZ, _<ℤ_, ltZ-yes}
+use lib.ListN.{length, length-append}
+use Rattle.answers.specs.Order.{Clear, first}
 use Rattle.answers.specs.OrderLaws.{not-in}
 use Rattle.answers.specs.Refusals.{isCount}
 use Rattle.rates.specs.Rates.{isRate}
@@ -21,12 +21,13 @@ use Rattle.shot_lists.specs.declared.records.Record.{Record}
 use Rattle.shot_lists.specs.declared.records.Record.the-variants.{Rate, Shot, Reel}
 use Rattle.shot_lists.specs.declared.records.Entry.the-variants.{Taken}
 use Rattle.shot_lists.specs.Records.{faults, Sound, heldBehind}
-use Rattle.shot_lists.specs.Grammar.{kindByte}
-use Rattle.shot_lists.specs.Entries.{bodyFixed, onDisk}
+use Rattle.shot_lists.specs.Grammar.{kindByte, OneOnDisk}
+use Rattle.shot_lists.specs.Entries.{bodyFixed, onDisk, entryOf}
+use Rattle.shot_lists.specs.Reading.{numberIn}
 use Rattle.shot_lists.specs.Laws.{entry-spelled}
 use Rattle.shot_lists.specs.RefusalStatements.{numbersIn, orderFor, Within400, ratesIn, lastOf, RefusalOrder, NineExactly, TenExactly, SixExactly, FiveExactly, ElevenExactly, TwelveExactly, RateHolds, EmptyShot, AnyReel}
-use Rattle.shot_lists.proofs.Bodies.{kind-fixes, body-some, disk-spells}
-use Rattle.shot_lists.proofs.Numbers.{AllBut, first-but, entry-when}
+use Rattle.shot_lists.proofs.Bodies.{kind-fixes, made-back, body-some, disk-spells}
+use Rattle.shot_lists.proofs.Numbers.{first-but, faults-but, entry-when}
 
 -- ---- the order
 
@@ -42,17 +43,11 @@ refusal-order A f held x l = ap (λ (t : List ℕ). 9 ∷ 10 ∷ t) (order-for h
 -- ---- kind and body
 
 -- what speaks against a record's numbers is neither 9 nor 10
-not-nine : (held : ℕ) (r : Record) → AllBut 9 (faults held r)
-unfolding faults
-not-nine held (Rate n) = (λ e. omega arith, tt)
-not-nine held (Shot start end) = (λ e. omega arith, (λ e. omega arith, (λ e. omega arith, (λ e. omega arith, tt))))
-not-nine held (Reel n) = (λ e. omega arith, tt)
+not-nine : (held : ℕ) (r : Record) → first (faults held r) ≡ 9 → ⊥
+not-nine held r = first-but 8 (faults held r) (faults-but 9 (λ e. omega arith) (λ e. omega arith) (λ e. omega arith) (λ e. omega arith) held r)
 
-not-ten : (held : ℕ) (r : Record) → AllBut 10 (faults held r)
-unfolding faults
-not-ten held (Rate n) = (λ e. omega arith, tt)
-not-ten held (Shot start end) = (λ e. omega arith, (λ e. omega arith, (λ e. omega arith, (λ e. omega arith, tt))))
-not-ten held (Reel n) = (λ e. omega arith, tt)
+not-ten : (held : ℕ) (r : Record) → first (faults held r) ≡ 10 → ⊥
+not-ten held r = first-but 9 (faults held r) (faults-but 10 (λ e. omega arith) (λ e. omega arith) (λ e. omega arith) (λ e. omega arith) held r)
 
 -- there is no such kind
 no-body : (b : ℕ) → (b ≡ 1 → ⊥) → (b ≡ 2 → ⊥) → (b ≡ 3 → ⊥) → onDisk .body b ≡ 0
@@ -73,7 +68,7 @@ nine-exactly held b l =
     let r = onDisk .made b l in
     let is = entry-when ℕ onDisk held b l in (
       λ h.
-          let none = eqb-true n 0 (nine-by (eqb n 0) (ltb (length l) n) (first (faults held r)) (first-but 8 (faults held r) (not-nine held r)) (sym is ∙ h)) in
+          let none = eqb-true n 0 (nine-by (eqb n 0) (ltb (length l) n) (first (faults held r)) (not-nine held r) (sym is ∙ h)) in
           (λ e. some-body (Rate 0) b e none, λ e. some-body (Shot (pos 0) (pos 0)) b e none, λ e. some-body (Reel 0) b e none),
       λ k. is ∙ ap (λ (t : Bool). cond t 9 (cond (ltb (length l) n) 10 (first (faults held r)))) (eq-eqb n 0 (no-body b (k .0) (k .1) (k .2))),
     )
@@ -91,7 +86,7 @@ ten-exactly held r body l of =
     let long : length body ≡ n = kind-fixes r body of in
     let is = entry-when ℕ onDisk held b l in (
       λ h.
-          let short = ltb-true (length l) n (ten-by (eqb n 0) (ltb (length l) n) (first (faults held m)) (first-but 9 (faults held m) (not-ten held m)) (sym is ∙ h)) in
+          let short = ltb-true (length l) n (ten-by (eqb n 0) (ltb (length l) n) (first (faults held m)) (not-ten held m) (sym is ∙ h)) in
           omega arith,
       λ k.
           is
@@ -115,10 +110,31 @@ no-rate n (inr h) = rw (lt-leb n 12 h) (by (leb 1 n))
     by true = refl
     by false = refl
 
-pub six-exactly : SixExactly
+-- a record on disk is refused what speaks against its numbers first
+disk-number : (held : ℕ) (r : Record) (part l : List ℕ) → OneOnDisk r part → numberIn (entryOf onDisk held (part ++ l)) ≡ first (faults held r)
+disk-number held r part l one =
+    let k = kindByte r in
+    let n = onDisk .body k in
+    let rest = one .body ++ l in
+    let fits : n ≤ length rest = omega (arith, kind-fixes r (one .body) (one .of), length-append (one .body) l) in
+    ap (λ (p : List ℕ). numberIn (entryOf onDisk held (p ++ l))) (one .is)
+    ∙ entry-when ℕ onDisk held k rest
+    ∙ ap (λ (t : Bool). cond t 9 (cond (ltb (length rest) n) 10 (first (faults held (onDisk .made k rest))))) (ne-eqb n 0 (λ e. some-body r k refl e))
+    ∙ ap (λ (t : Bool). cond t 10 (first (faults held (onDisk .made k rest)))) (le-ltb (length rest) n fits)
+    ∙ ap (λ (m : Record). first (faults held m)) (made-back r (one .body) (one .of) l)
+
+-- so what holds of the one holds of the other
+carried : (x y k : ℕ) (P : Type 0) → x ≡ y → (y ≡ k) ↔ P → (x ≡ k) ↔ P
+carried x y k P e both = (λ h. both .0 (sym e ∙ h), λ p. e ∙ both .1 p)
+
+six : (held n : ℕ) → (first (faults held (Rate n)) ≡ 6) ↔ ((n < 1) ⊎ (12 < n))
 unfolding faults isRate
-six-exactly held n =
+six held n =
     (λ h. rate-by (leb 1 n) (leb n 12) n refl refl h, λ k. ap (λ (t : Bool). cond (not t) 6 0) (no-rate n k))
+
+pub six-exactly : SixExactly
+six-exactly held n part l one =
+    carried (numberIn (entryOf onDisk held (part ++ l))) (first (faults held (Rate n))) 6 _ (disk-number held (Rate n) part l one) (six held n)
 
 count-in : (z : ℤ) → Within400 z → isCount z ≡ true
 count-in z h = le-leb (natAbs z) 400000000 h
@@ -148,12 +164,17 @@ of-out : (start end : ℤ) → (400000000 < natAbs start) ⊎ (400000000 < natAb
 of-out start end (inl h) = inl (lt-leb (natAbs start) 400000000 h)
 of-out start end (inr h) = inr (lt-leb (natAbs end) 400000000 h)
 
-pub five-exactly : FiveExactly
+five : (held : ℕ) (start end : ℤ) → (first (faults held (Shot start end)) ≡ 5) ↔ ((400000000 < natAbs start) ⊎ (400000000 < natAbs end))
 unfolding faults
-five-exactly held start end = (
+five held start end = (
   λ h. out-of start end (five-by (isCount start) (isCount end) (isRate held) (ltZ end start) h),
   λ k. five-in (isCount start) (isCount end) (isRate held) (ltZ end start) (of-out start end k),
 )
+
+pub five-exactly : FiveExactly
+five-exactly held start end part l one =
+    carried (numberIn (entryOf onDisk held (part ++ l))) (first (faults held (Shot start end))) 5 _ (disk-number held (Shot start end) part l one)
+    (five held start end)
 
 -- ---- the rate that holds
 
@@ -191,19 +212,27 @@ module _ (start end : ℤ) (s : isCount start ≡ true) (e : isCount end ≡ tru
   none-before (Shot a b ∷ rs) sound h = none-before rs (sound .1) h
   none-before (Reel n ∷ rs) sound h = none-before rs (sound .1) h
 
-pub eleven-exactly : ElevenExactly
-eleven-exactly before start end sound s e = (
+eleven-is : (before : List Record) (start end : ℤ) → Sound 0 before → Within400 start → Within400 end
+    → (first (faults (heldBehind 0 before) (Shot start end)) ≡ 11) ↔ (ratesIn before ≡ [])
+eleven-is before start end sound s e = (
   none-before start end (count-in start s) (count-in end e) before sound,
   λ none.
       let held : heldBehind 0 before ≡ 0 = rate-holds 0 before ∙ ap (lastOf 0) none in
       ap (λ (h : ℕ). first (faults h (Shot start end))) held ∙ eleven start end (count-in start s) (count-in end e),
 )
 
+pub eleven-exactly : ElevenExactly
+eleven-exactly before start end part l sound one s e =
+    let held = heldBehind 0 before in
+    carried (numberIn (entryOf onDisk held (part ++ l))) (first (faults held (Shot start end))) 11 _ (disk-number held (Shot start end) part l one)
+    (eleven-is before start end sound s e)
+
 -- ---- end and first
 
-pub twelve-exactly : TwelveExactly
+twelve-is : (held : ℕ) (start end : ℤ) → 1 ≤ held → held ≤ 12 → Within400 start → Within400 end
+    → (first (faults held (Shot start end)) ≡ 12) ↔ (end <ℤ start)
 unfolding faults
-twelve-exactly held start end low high s e = (
+twelve-is held start end low high s e = (
   λ n. ltZ-yes (there (ltZ end start) (rw (count-in start s, count-in end e, rate-in held low high) at n)),
   λ less. rw (count-in start s, count-in end e, rate-in held low high) (given (ltZ end start) (less .lt)),
 )
@@ -216,14 +245,23 @@ twelve-exactly held start end low high s e = (
     given true less = refl
     given false less = absurd less
 
+pub twelve-exactly : TwelveExactly
+twelve-exactly held start end part l low high one s e =
+    carried (numberIn (entryOf onDisk held (part ++ l))) (first (faults held (Shot start end))) 12 _ (disk-number held (Shot start end) part l one)
+    (twelve-is held start end low high s e)
+
 less-not : (z : ℤ) → ltZ z z ≡ false
 less-not (pos n) = le-ltb n n (omega arith)
 less-not (negsuc n) = le-ltb n n (omega arith)
 
-pub empty-shot : EmptyShot
+empty-clear : (held : ℕ) (frame : ℤ) → 1 ≤ held → held ≤ 12 → Within400 frame → Clear (faults held (Shot frame frame))
 unfolding faults
-empty-shot held frame low high c =
+empty-clear held frame low high c =
     (ap not (count-in frame c), (ap not (count-in frame c), (ap not (rate-in held low high), (less-not frame, tt))))
+
+pub empty-shot : EmptyShot
+empty-shot held frame part l low high one c =
+    entry-spelled onDisk held (Shot frame frame) part l (disk-spells (Shot frame frame) part one) (empty-clear held frame low high c)
 
 -- ---- reels
 

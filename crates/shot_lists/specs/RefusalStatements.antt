@@ -8,13 +8,13 @@ use mathlib.Core.List.{List, [], _∷_, _++_}
 use lib.IntN.{ℤ, natAbs}
 use lib.ListN.{length}
 use lib.Signed.{_<ℤ_}
-use Rattle.answers.specs.Order.{Condition, first, Clear}
+use Rattle.answers.specs.Order.{Condition}
 use Rattle.low_bytes.specs.LowBytes.{Bytes, worth}
 use Rattle.shot_lists.specs.declared.records.Record.{Record}
 use Rattle.shot_lists.specs.declared.records.Record.the-variants.{Rate, Shot, Reel}
 use Rattle.shot_lists.specs.declared.records.Entry.the-variants.{Taken}
-use Rattle.shot_lists.specs.Records.{faults, Sound, heldBehind}
-use Rattle.shot_lists.specs.Grammar.{kindByte, BodyOf}
+use Rattle.shot_lists.specs.Records.{Sound, heldBehind}
+use Rattle.shot_lists.specs.Grammar.{kindByte, BodyOf, OneOnDisk}
 use Rattle.shot_lists.specs.Entries.{Layout, onDisk, against, entryOf}
 use Rattle.shot_lists.specs.Reading.{numberIn}
 
@@ -47,15 +47,18 @@ abbrev pub TenExactly : Type 0
 TenExactly =
     (held : ℕ) (r : Record) (body l : List ℕ) → BodyOf r body → (numberIn (entryOf onDisk held (kindByte r ∷ l)) ≡ 10) ↔ (length l < length body)
 
--- ---- its numbers, where a rate is held
+-- ---- its numbers, where a rate is held: the record's bytes, before whatever comes behind them
 
 -- 6 exactly for a rate that is none of 1 to 12
 abbrev pub SixExactly : Type 0
-SixExactly = (held n : ℕ) → (first (faults held (Rate n)) ≡ 6) ↔ ((n < 1) ⊎ (12 < n))
+SixExactly =
+    (held n : ℕ) (part l : List ℕ) → OneOnDisk (Rate n) part → (numberIn (entryOf onDisk held (part ++ l)) ≡ 6) ↔ ((n < 1) ⊎ (12 < n))
 
 -- 5 exactly for a shot with a frame past 400,000,000 on either side of zero
 abbrev pub FiveExactly : Type 0
-FiveExactly = (held : ℕ) (start end : ℤ) → (first (faults held (Shot start end)) ≡ 5) ↔ ((400000000 < natAbs start) ⊎ (400000000 < natAbs end))
+FiveExactly =
+    (held : ℕ) (start end : ℤ) (part l : List ℕ) → OneOnDisk (Shot start end) part
+    → (numberIn (entryOf onDisk held (part ++ l)) ≡ 5) ↔ ((400000000 < natAbs start) ⊎ (400000000 < natAbs end))
 
 -- a frame within those bounds
 abbrev pub Within400 : ℤ → Type 0
@@ -71,14 +74,14 @@ ratesIn (Reel n ∷ rs) = ratesIn rs
 -- 11 exactly for a shot of such frames before which no rate stands
 abbrev pub ElevenExactly : Type 0
 ElevenExactly =
-    (before : List Record) (start end : ℤ) → Sound 0 before → Within400 start → Within400 end
-    → (first (faults (heldBehind 0 before) (Shot start end)) ≡ 11) ↔ (ratesIn before ≡ [])
+    (before : List Record) (start end : ℤ) (part l : List ℕ) → Sound 0 before → OneOnDisk (Shot start end) part → Within400 start → Within400 end
+    → (numberIn (entryOf onDisk (heldBehind 0 before) (part ++ l)) ≡ 11) ↔ (ratesIn before ≡ [])
 
 -- 12 exactly for a shot of such frames behind a rate whose end lies before its first frame
 abbrev pub TwelveExactly : Type 0
 TwelveExactly =
-    (held : ℕ) (start end : ℤ) → 1 ≤ held → held ≤ 12 → Within400 start → Within400 end
-    → (first (faults held (Shot start end)) ≡ 12) ↔ (end <ℤ start)
+    (held : ℕ) (start end : ℤ) (part l : List ℕ) → 1 ≤ held → held ≤ 12 → OneOnDisk (Shot start end) part → Within400 start → Within400 end
+    → (numberIn (entryOf onDisk held (part ++ l)) ≡ 12) ↔ (end <ℤ start)
 
 -- ---- what holds, and what is allowed
 
@@ -93,7 +96,9 @@ RateHolds = (held : ℕ) (rs : List Record) → heldBehind held rs ≡ lastOf he
 
 -- equal first and end is an allowed empty shot
 abbrev pub EmptyShot : Type 0
-EmptyShot = (held : ℕ) (frame : ℤ) → 1 ≤ held → held ≤ 12 → Within400 frame → Clear (faults held (Shot frame frame))
+EmptyShot =
+    (held : ℕ) (frame : ℤ) (part l : List ℕ) → 1 ≤ held → held ≤ 12 → OneOnDisk (Shot frame frame) part → Within400 frame
+    → entryOf onDisk held (part ++ l) ≡ Taken (Shot frame frame) held (length part)
 
 -- any four bytes are a reel, whatever rate is held, and it stays held
 abbrev pub AnyReel : Type 0
