@@ -42,6 +42,9 @@ faults-but n a b c d held (Rate m) = (b, tt)
 faults-but n a b c d held (Shot start end) = (a, (a, (c, (d, tt))))
 faults-but n a b c d held (Reel m) = (a, tt)
 
+no-eight : (held : ℕ) (r : Record) → AllBut 8 (faults held r)
+no-eight = faults-but 8 (λ e. omega arith) (λ e. omega arith) (λ e. omega arith) (λ e. omega arith)
+
 -- and none has a place in a text
 nowhere : (held : ℕ) (r : Record) → NoPlaces (faults held r)
 unfolding faults
@@ -73,7 +76,7 @@ module _ {A : Type 0} (f : Layout A) where
   other-by held x l (Taken r after size) h later = other-more r (readFrom f (size - 1) after l) (later (size - 1) after)
   other-by held x l (Refused e) h later = (
     λ n.
-        first-but 7 (against f held x l) (λ z. omega arith, (λ z. omega arith, faults-but 8 (λ e. omega arith) (λ e. omega arith) (λ e. omega arith) (λ e. omega arith) held (f .made (f .kind x) l)))
+        first-but 7 (against f held x l) (λ z. omega arith, (λ z. omega arith, no-eight held (f .made (f .kind x) l)))
         (sym (entry-when A f held x l) ∙ ap numberIn h ∙ n),
     sym (ap placeIn h) ∙ entry-nowhere f held x l,
   )
