@@ -38,3 +38,23 @@ unfolding digitsOf
 spelling-done l₀ k n l zero rest s h =
     sym (laid-in l₀ (digitsOf k n) (omega (arith, digits-length k n)) ∙ s .left ∙ front-nil l)
 spelling-done l₀ k n l (suc i) rest s h = absurd (omega arith)
+
+-- two digits at a time: those of n/10 and n mod 10, where n is the last two of what is left
+pub spelling-pair : (l₀ : List ℕ) (k n : ℕ) (l : List ℕ) (i rest tens ones : ℕ) → Spelling l₀ k n l i rest → 1 < i
+    → tens ≡ 48 + rest % 100 / 10 → ones ≡ 48 + rest % 100 % 10
+    → Spelling l₀ k n (set (set l (i - 1) ones) (i - 2) tens) (i - 2) (rest / 100)
+spelling-pair l₀ k n l i rest tens ones s h t o =
+    let one = spelling-turn l₀ k n l i rest s (omega arith) in
+    let two = spelling-turn l₀ k n (set l (i - 1) (48 + rest % 10)) (i - 1) (rest / 10) one (omega arith) in
+    let p : i - 1 - 1 ≡ i - 2 = omega arith in
+    let q : rest / 10 / 10 ≡ rest / 100 = omega arith in
+    let d : 48 + rest / 10 % 10 ≡ tens = omega arith in
+    let e : 48 + rest % 10 ≡ ones = omega arith in
+    rw (p, q, d, e) at two
+
+-- the first digit of an odd number of them
+pub spelling-first : (l₀ : List ℕ) (k n : ℕ) (l : List ℕ) (i rest : ℕ) → Spelling l₀ k n l i rest → 0 < i → i ≤ 1
+    → set l 0 (48 + rest % 10) ≡ laid l₀ (digitsOf k n)
+spelling-first l₀ k n l i rest s h m =
+    let p : i - 1 ≡ 0 = omega arith in
+    rw p at (spelling-done l₀ k n (set l (i - 1) (48 + rest % 10)) (i - 1) (rest / 10) (spelling-turn l₀ k n l i rest s h) (omega arith))

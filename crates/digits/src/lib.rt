@@ -8,6 +8,8 @@ ghost use lib.ListN.{take, drop};
 ghost use Rattle.lent.specs.Line.{laid};
 ghost use Rattle.digits.specs.Digits.{isDigit, valueFrom, digitFirst, runOf, digitsOf, width};
 
+mod pairs;
+
 // The digits that stand at a place: the value of at most the first nine of them, and how many there are.
 pub struct Run {
     pub value: u64,
@@ -65,6 +67,11 @@ pub fn run_at(s: &[u8], at: usize) -> Run
 pub fn width_of(least: usize, n: u64) -> usize
     ensures answer { λ r. ⌜ r ≡ max least (width n) ⌝ }
 {
+    if n < 100 {
+        if 1 < least {
+            return least;
+        }
+    }
     let mut k = 1;
     let mut rest = n;
     while 10 <= rest {
@@ -86,9 +93,14 @@ pub fn put_digits(part: &mut [u8], k: usize, n: u64)
     }
     let mut i = k;
     let mut rest = n;
-    while 0 < i {
-        i -= 1;
-        part[i] = 48 + (rest % 10) as u8;
-        rest = rest / 10;
+    while 1 < i {
+        let pair = pairs::entry((rest % 100) as u8);
+        part[i - 1] = pair.1;
+        part[i - 2] = pair.0;
+        i -= 2;
+        rest = rest / 100;
+    }
+    if 0 < i {
+        part[0] = 48 + (rest % 10) as u8;
     }
 }
