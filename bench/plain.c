@@ -1,4 +1,5 @@
-/* The same rules, refusals and answers as tzq_write_label and tzq_read, written as one would write them in C without proofs. */
+/* The same rules, refusals and answers as tzq_write_label and tzq_read, and the digits of digits::put_digits, written as one would write
+ * them in C without proofs. Writing is there twice: dividing by ten for each digit, and taking pairs of digits from a table. */
 #include "plain.h"
 
 #include <string.h>
@@ -8,10 +9,41 @@ static const uint8_t DROP[13] = {0, 0, 0, 0, 0, 2, 0, 0, 0, 0, 0, 4, 0};
 
 /* ---- writing ---- */
 
-static uint8_t *two(uint8_t *p, uint64_t n) {
+/* the two digits of 0 to 99, one pair behind the other */
+static const char PAIRS[] = "0001020304050607080910111213141516171819"
+                            "2021222324252627282930313233343536373839"
+                            "4041424344454647484950515253545556575859"
+                            "6061626364656667686970717273747576777879"
+                            "8081828384858687888990919293949596979899";
+
+typedef uint8_t *two_digits(uint8_t *p, uint64_t n);
+
+static inline uint8_t *two_divided(uint8_t *p, uint64_t n) {
     p[0] = (uint8_t)('0' + n / 10);
     p[1] = (uint8_t)('0' + n % 10);
     return p + 2;
+}
+
+static inline uint8_t *two_paired(uint8_t *p, uint64_t n) {
+    memcpy(p, PAIRS + 2 * n, 2);
+    return p + 2;
+}
+
+void plain_put_digits(uint8_t *part, size_t length, size_t k, uint64_t n) {
+    if (length < k)
+        return;
+    for (size_t i = k; i > 0; n /= 10)
+        part[--i] = (uint8_t)('0' + n % 10);
+}
+
+void paired_put_digits(uint8_t *part, size_t length, size_t k, uint64_t n) {
+    if (length < k)
+        return;
+    size_t i = k;
+    for (; i > 1; i -= 2, n /= 100)
+        two_paired(part + i - 2, n % 100);
+    if (i > 0)
+        part[0] = (uint8_t)('0' + n % 10);
 }
 
 /* the label's number among all labels, dropped ones counted in */
@@ -26,7 +58,8 @@ static uint64_t with_dropped(uint64_t f, uint64_t timebase, uint64_t d) {
     return f + dropped;
 }
 
-tzq_length plain_write_label(tzq_timecode tc, uint8_t *line, size_t length, size_t place) {
+__attribute__((always_inline)) static inline tzq_length write_by(two_digits *two, tzq_timecode tc, uint8_t *line, size_t length,
+                                                                 size_t place) {
     tzq_length no = {0, 0};
     if (tc.rate < 1 || tc.rate > 12) {
         no.refused = TZQ_NO_SUCH;
@@ -61,6 +94,14 @@ tzq_length plain_write_label(tzq_timecode tc, uint8_t *line, size_t length, size
     memcpy(line + place, text, need);
     tzq_length yes = {0, need};
     return yes;
+}
+
+tzq_length plain_write_label(tzq_timecode tc, uint8_t *line, size_t length, size_t place) {
+    return write_by(two_divided, tc, line, length, place);
+}
+
+tzq_length paired_write_label(tzq_timecode tc, uint8_t *line, size_t length, size_t place) {
+    return write_by(two_paired, tc, line, length, place);
 }
 
 /* ---- reading ---- */

@@ -1,13 +1,28 @@
 #!/bin/bash
-# Measures Tzaquedda on this machine and prints the results: bench/run.sh [LINES]
-#   - labels written and read a second through the C interface, beside plain C, in one run (bench/bench.c);
-#   - the program `line` on LINES labels (default 200000), beside the crate vtc answering the same (compare/judge.sh).
+# Measures Tzaquedda on this machine and prints the results: bench/run.sh [--before COMMIT] [LINES]
+#   - labels written and read a second through the C interface, and digits of nine-digit numbers, beside plain C, in one run
+#     (bench/bench.c); with --before beside the library of that commit too, which takes as long again to be proved;
+#   - the program `line` on LINES labels (default 200000, none with 0), beside the crate vtc answering the same (compare/judge.sh).
 # Needs Rattle's kit, gcc, and what compare/judge.sh needs. Ratios are of one run, so they mean something on a busy machine too; under
 # the emulator they do not.
 set -eu
 cd "$(dirname "${BASH_SOURCE[0]}")/.."
 . bin/c-build
+. bench/objects.sh
+before=''
+if [ "${1-}" = --before ]; then before=${2:?--before takes a commit}; shift 2; fi
 lines=${1:-200000}
+
+# target/before.o and target/before-digits.o: the writers of the commit, under names of their own
+earlier() {
+    local at
+    at=target/before-$(git rev-parse --short "$before^{commit}")
+    mkdir -p "$at"
+    git archive "$before" crates crates.txt | tar -x -C "$at"
+    (cd "$at" && rt staticlib exports) > "$at.log" 2>&1 || { tail -n 20 "$at.log" >&2; exit 1; }
+    under_name target/before.o "$at/target/staticlib/libexports.a" tzq_write_label=before_write_label
+    digits_object before "$at"
+}
 
 processor() { sed -n 's/^model name[^:]*: //p' /proc/cpuinfo | head -n 1; }
 
@@ -54,6 +69,12 @@ echo "processor: $(processor) ($(nproc) at hand), $(uname -m)"
 if emulated; then echo "emulated: yes, so the times say nothing"; else echo "emulated: no"; fi
 echo "load: $(cut -d ' ' -f 1-3 /proc/loadavg)"
 library
-compile target/bench bench/bench.c bench/plain.c
+digits_object now
+objects=(target/now-digits.o)
+if [ -n "$before" ]; then
+    earlier
+    objects+=(target/before.o target/before-digits.o)
+fi
+compile target/bench bench/bench.c bench/plain.c "${objects[@]}"
 run target/bench
-if [ -d crates/line ]; then programs; fi
+if [ "$lines" -gt 0 ]; then programs; fi

@@ -32,13 +32,6 @@ spelling-turn l₀ k n l (suc i) rest s h =
       left = s .left ∙ front-snoc l d (48 + rest % 10) (omega arith) ∙ rw (p, e);
     }
 
-pub spelling-done : (l₀ : List ℕ) (k n : ℕ) (l : List ℕ) (i rest : ℕ) → Spelling l₀ k n l i rest → i ≤ 0
-    → l ≡ laid l₀ (digitsOf k n)
-unfolding digitsOf
-spelling-done l₀ k n l zero rest s h =
-    sym (laid-in l₀ (digitsOf k n) (omega (arith, digits-length k n)) ∙ s .left ∙ front-nil l)
-spelling-done l₀ k n l (suc i) rest s h = absurd (omega arith)
-
 -- two digits at a time: those of n/10 and n mod 10, where n is the last two of what is left
 pub spelling-pair : (l₀ : List ℕ) (k n : ℕ) (l : List ℕ) (i rest tens ones : ℕ) → Spelling l₀ k n l i rest → 1 < i
     → tens ≡ 48 + rest % 100 / 10 → ones ≡ 48 + rest % 100 % 10
@@ -51,6 +44,13 @@ spelling-pair l₀ k n l i rest tens ones s h t o =
     let d : 48 + rest / 10 % 10 ≡ tens = omega arith in
     let e : 48 + rest % 10 ≡ ones = omega arith in
     rw (p, q, d, e) at two
+
+pub spelling-done : (l₀ : List ℕ) (k n : ℕ) (l : List ℕ) (i rest : ℕ) → Spelling l₀ k n l i rest → i ≤ 0
+    → l ≡ laid l₀ (digitsOf k n)
+unfolding digitsOf
+spelling-done l₀ k n l zero rest s h =
+    sym (laid-in l₀ (digitsOf k n) (omega (arith, digits-length k n)) ∙ s .left ∙ front-nil l)
+spelling-done l₀ k n l (suc i) rest s h = absurd (omega arith)
 
 -- the first digit of an odd number of them
 pub spelling-first : (l₀ : List ℕ) (k n : ℕ) (l : List ℕ) (i rest : ℕ) → Spelling l₀ k n l i rest → 0 < i → i ≤ 1

@@ -67,6 +67,7 @@ pub fn run_at(s: &[u8], at: usize) -> Run
 pub fn width_of(least: usize, n: u64) -> usize
     ensures answer { λ r. ⌜ r ≡ max least (width n) ⌝ }
 {
+    // two digits are enough: nothing is counted
     if n < 100 {
         if 1 < least {
             return least;
