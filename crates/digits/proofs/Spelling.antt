@@ -32,7 +32,7 @@ spelling-turn l₀ k n l (suc i) rest s h =
       left = s .left ∙ front-snoc l d (48 + rest % 10) (omega arith) ∙ rw (p, e);
     }
 
--- two digits at a time: those of n/10 and n mod 10, where n is the last two of what is left
+-- two digits at a time: the last two of what is left
 pub spelling-pair : (l₀ : List ℕ) (k n : ℕ) (l : List ℕ) (i rest tens ones : ℕ) → Spelling l₀ k n l i rest → 1 < i
     → tens ≡ 48 + rest % 100 / 10 → ones ≡ 48 + rest % 100 % 10
     → Spelling l₀ k n (set (set l (i - 1) ones) (i - 2) tens) (i - 2) (rest / 100)
