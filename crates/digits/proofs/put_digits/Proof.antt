@@ -35,13 +35,13 @@ same-length : tie.Need-same-length Inv-loop μ-loop
 same-length c = simp length-set (c .before .before .loop .inv .long)
 
 returns-2 : tie.Need-returns-2 Inv-loop μ-loop
-returns-2 c = spelling-first _ _ _ _ _ _ (c .before .before .loop .inv) (c .if2 .taken) (c .before .loop-test .left)
+returns-2 c = spelling-first _ _ _ _ _ _ (c .before .before .loop .inv) (omega arith) (omega arith)
 
 same-length-2 : tie.Need-same-length-2 Inv-loop μ-loop
 same-length-2 c = c .before .before .loop .inv .long
 
 returns-3 : tie.Need-returns-3 Inv-loop μ-loop
-returns-3 c = spelling-done _ _ _ _ _ _ (c .before .before .loop .inv) (c .if2 .left)
+returns-3 c = spelling-done _ _ _ _ _ _ (c .before .before .loop .inv) (omega arith)
 
 pub put-digits-spec : {M : Type 1} → statement M
 put-digits-spec =
