@@ -136,10 +136,18 @@ enum { NOWHERE = -1 };
 
 static int64_t first_long(int64_t before, size_t at, run r) { return before == NOWHERE && r.digits > 9 ? (int64_t)at : before; }
 
+/* whether so many frames occur in a foot of 4-perf or 3-perf, and a marker that is there is feet modulo 3 */
+static bool on_film(uint64_t feet, uint64_t frames, bool perf, uint64_t marker) {
+    if (!perf)
+        return frames < 16;
+    return frames < (feet % 3 == 2 ? 22 : 21) && marker == feet % 3;
+}
+
 static tzq_read_count read_footage(const uint8_t *text, size_t length, bool minus, run feet) {
     size_t at = feet.next + 1;
     run frames = digits_at(text, length, at);
     bool perf = false;
+    uint64_t marker = 0;
     if (frames.digits == 0)
         return refused(TZQ_NO_SHAPE, at);
     int64_t over = first_long(first_long(NOWHERE, minus ? 1 : 0, feet), at, frames);
@@ -150,12 +158,15 @@ static tzq_read_count read_footage(const uint8_t *text, size_t length, bool minu
             return refused(TZQ_NO_SHAPE, end + 1);
         over = first_long(over, end + 1, p);
         perf = true;
+        marker = p.value;
         end = p.next;
     }
     if (end != length)
         return refused(TZQ_NO_SHAPE, end);
     if (over != NOWHERE)
         return refused(TZQ_TOO_LONG, (size_t)over);
+    if (!on_film(feet.value, frames.value, perf, marker))
+        return refused(TZQ_NOT_ON_FILM, 0);
     if (perf)
         return held(minus, 64 * (feet.value / 3) + 21 * (feet.value % 3) + frames.value, 2);
     return held(minus, 16 * feet.value + frames.value, 1);

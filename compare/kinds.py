@@ -15,11 +15,12 @@ import model
 
 
 def model_without_bounds():
-    """The model a second time, where every number and every field is taken."""
+    """The model a second time, where every number, every field and every footage is taken."""
     spec = importlib.util.spec_from_file_location("unbounded", model.__file__)
     unbounded = importlib.util.module_from_spec(spec)
     spec.loader.exec_module(unbounded)
     unbounded.within = lambda *_: None
+    unbounded.on_film = lambda *_: True
     unbounded.fields = lambda *texts, fraction=b"": [int(text) for text in texts]
     return unbounded
 
@@ -98,7 +99,7 @@ def runtime_kind(precision, right, crate):
     return 3 if re.search(r":[0-9]{2}1\.$", crate) else 5
 
 
-# -- Reading texts (8 to 15; a count out of bounds is 16) --
+# -- Reading texts (8 to 15, 21; a count out of bounds is 16) --
 
 # the crate's shapes: `|` divides fields, `;` those of a runtime too, and a perf field is one digit
 CRATE_LABEL = re.compile(rb"-?[0-9]+(?:[:|;][0-9]+){0,3}")
@@ -164,6 +165,8 @@ def of_text(word, numbers, text, right, crate):
         return 8 if b"|" in text else 9
     if right == "refused 2":
         return 12 if re.search(rb"[0-9]{10}", text.partition(b".")[0]) else 13
+    if right == "refused 13":
+        return 21
     return 16 if right == "refused 5" else 11
 
 

@@ -50,7 +50,7 @@ class Refused(Exception):
         self.number = number
 
 
-# -- What is checked first: "Order: 6, input bounds (5), 7, 1, 2, 4, 3, resulting count (5), 8." --
+# -- What is checked first: "Order: 6, input bounds (5), 7, 1, 2, 4, 13, 3, resulting count (5), 8." --
 
 
 def known_rates(*rates):
@@ -195,10 +195,12 @@ def label_read(rate, match):
 
 def footage_read(form, match):
     sign, feet, frames, perf = match.groups()
-    feet, frames, *_ = fields(*(text for text in (feet, frames, perf) if text is not None))
-    # 4: "a perf field with a stated format that has none"; "The perf value is not used."
+    feet, frames, *marker = fields(*(text for text in (feet, frames, perf) if text is not None))
+    # 4: "a perf field with a stated format that has none"
     if perf is not None and form != 2:
         raise Refused(4)
+    if not on_film(form, feet, frames, marker):
+        raise Refused(13)
     return with_sign(sign, footage_count(form, feet) + frames)
 
 
@@ -272,6 +274,14 @@ def footage_count(form, feet):
     if form == 2:
         return feet // 3 * 64 + feet % 3 * 21
     return feet * {1: 16, 3: 32, 4: 20}[form]
+
+
+def on_film(form, feet, frames, marker):
+    """Not so for a footage "whose frames number doesn't occur in that foot (21 frames in 3-perf feet that leave 0 or 1 modulo 3, 22 in
+    those that leave 2; 16, 32 and 20 a foot in the others), or whose marker is present and isn't feet modulo 3"."""
+    left = feet % 3
+    occurring = {1: 16, 2: 22 if left == 2 else 21, 3: 32, 4: 20}[form]
+    return frames < occurring and marker in ([], [left])
 
 
 def footage(form, rate, count):

@@ -70,15 +70,32 @@ def label_scan(random, rate):
     return sign(random) + some_fields(random, 4, random.choice([b":", b":;", b":;|"]))
 
 
-def footage_scan(random, rate):
-    """A footage, with a perf field or none; one in ten near a bound."""
+# frames numbers around the last one of a foot in each format
+LAST_FRAMES = [0, 1, 15, 16, 17, 19, 20, 21, 22, 23, 31, 32, 33]
+
+
+def on_film(random, count):
+    """A footage as a count is written in some format, zeros in front of its fields, at times with the marker left out or another one."""
+    perfs, perfs_a_foot = model.FORMATS[random.choice([*FORMATS, 2, 2])]
+    feet, rest = divmod(count * perfs + perfs - 1, perfs_a_foot)
     chance = random.random()
-    if chance < 0.1:
+    marker = feet % 3 if chance < 0.6 else random.choice([0, 1, 2, 3, feet % 100])
+    perf = b"" if chance > 0.8 or perfs != 3 and chance > 0.2 else b".%0*d" % (random.randint(1, 2), marker)
+    return b"%0*d+%0*d%s" % (random.randint(1, 4), feet, random.randint(1, 3), rest // perfs, perf)
+
+
+def footage_scan(random, rate):
+    """A footage, with a perf field or none; four in ten as written for a count or nearly so, two in ten near a bound."""
+    chance = random.random()
+    if chance < 0.3:
+        return sign(random) + on_film(random, near_bound(random) if chance < 0.1 else random.randint(0, BOUND >> random.randint(0, 28)))
+    if chance < 0.4:
         feet = random.randint(0, BOUND // 40)
         frames = near_bound(random) - model.footage_count(random.choice(FORMATS), feet)
         return sign(random) + b"%d+%d" % (feet, frames)
-    perf = b"" if chance < 0.5 else b"." + digits(random, 1 if chance < 0.8 else random.randint(2, 11))
-    return sign(random) + field(random) + b"+" + field(random) + perf
+    frames = b"%d" % random.choice(LAST_FRAMES) if chance < 0.6 else field(random)
+    perf = b"" if random.random() < 0.45 else b"." + digits(random, random.choice([1, 1, 1, 2, 2, random.randint(3, 11)]))
+    return sign(random) + field(random) + b"+" + frames + perf
 
 
 def runtime_scan(random, rate):

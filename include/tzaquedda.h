@@ -14,8 +14,8 @@
  *
  * Each answer begins with `refused`: 0, or one of the numbers below, and then every other number of the answer is 0 (but the place in
  * the text that tzq_read and tzq_read_as answer with 1 and 2), a fraction 0/1, and no byte of the line has changed. Of several refusals
- * the first is given in the order 6, 5 (of an input), 7, 1, 2, 4, 3, 5 (of the resulting count), 8; of a shot list the earliest record at
- * fault decides, and for a record the order is 9, 10, 6, 5, 11, 12; where a list is written, 8 comes last.
+ * the first is given in the order 6, 5 (of an input), 7, 1, 2, 4, 13, 3, 5 (of the resulting count), 8; of a shot list the earliest record
+ * at fault decides, and for a record the order is 9, 10, 6, 5, 11, 12; where a list is written, 8 comes last.
  */
 #ifndef TZAQUEDDA_H
 #define TZAQUEDDA_H
@@ -42,7 +42,8 @@ enum {
     TZQ_NO_SUCH_KIND = 9,  /* a record of a shot list has no such kind (1 to 3) */
     TZQ_CUT_SHORT = 10,    /* the body of a record is cut short */
     TZQ_NO_RATE_YET = 11,  /* a shot before any rate */
-    TZQ_END_BEFORE_FIRST = 12 /* a shot's end before its first frame */
+    TZQ_END_BEFORE_FIRST = 12, /* a shot's end before its first frame */
+    TZQ_NOT_ON_FILM = 13   /* a footage's frames number does not occur in that foot, or its marker is not that foot's */
 };
 
 /* ---- Numbers that are passed and answered ---- */
@@ -106,14 +107,16 @@ typedef struct { uint64_t refused; size_t records; } tzq_checked;
 /* What the `length` bytes of text read as at a rate, with no film format stated.
  * A label: optional `-`, one to four fields of digits divided by `:` or `;`, the last is frames, then leftward seconds, minutes, hours.
  * A footage: optional `-`, feet, `+`, frames, optionally `.` and a perf field; with a perf field it is 3-perf, without 4-perf.
- * The whole text counts, nothing around it. Refuses 6: no such rate; 1, 2, 3, 5.
+ * A foot has 16, 32 or 20 frames in 4-perf, 2-perf and 16 mm, and in 3-perf 22 where feet modulo 3 is 2, else 21; frames are numbered from
+ * 0. The perf field, if there is one, must be feet modulo 3 by value.
+ * The whole text counts, nothing around it. Refuses 6: no such rate; 1, 2; 13: a footage that cannot be on the film; 3, 5.
  * `place` is the byte of the text, from 0, where it went wrong. Refused 1: the length of the longest beginning of the text that also
  * begins some label or footage, so text[place], if the text goes that far, is the byte that none has there. Refused 2: the first digit
  * of the first field that is too long. Else 0. */
 tzq_read_count tzq_read(const uint8_t *text, size_t length, uint64_t rate);
 
 /* The same with a stated film format, 1 to 4: then only a footage is taken, and the place of 1 is that of footages alone.
- * Refuses 6: no such rate or film format; 1, 2; 4: a perf field with a format other than 3-perf; 5. */
+ * Refuses 6: no such rate or film format; 1, 2; 4: a perf field with a format other than 3-perf; 13, 5. 3-perf may leave the field out. */
 tzq_read_count tzq_read_as(const uint8_t *text, size_t length, uint64_t format, uint64_t rate);
 
 /* The frame nearest to the time that a runtime gives, halves away from zero.

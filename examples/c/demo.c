@@ -90,6 +90,14 @@ static void texts(void) {
     read_footage("1:00", 1);
     read_footage("1+2.", 1);
     read_footage("2+00", 5);
+    read_footage("0+21", 2);
+    read_footage("2+21", 2);
+    read_footage("1+00.2", 2);
+    read_footage("1+00", 2);
+    read_label("0+20", 2);
+    read_label("2+21.2", 2);
+    read_label("-2+05.1", 2);
+    read_label("25000000+16", 2);
     read_runtime("01:00:03.6", 1);
     read_runtime("1:00:00:00", 1);
 

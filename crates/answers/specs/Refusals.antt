@@ -66,6 +66,10 @@ noRateYet = refusal 11
 abbrev pub endBeforeFirst : Refusal
 endBeforeFirst = refusal 12
 
+-- 13: a footage that cannot be on the film
+abbrev pub notOnFilm : Refusal
+notOnFilm = refusal 13
+
 -- counts from -400,000,000 to 400,000,000
 abbrev pub mostCount : ℕ
 mostCount = 400000000

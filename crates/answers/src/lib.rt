@@ -83,6 +83,12 @@ pub const END_BEFORE_FIRST: Refusal = Refusal {
     place: 0,
 };
 
+// A footage that cannot be on the film.
+pub const NOT_ON_FILM: Refusal = Refusal {
+    number: 13,
+    place: 0,
+};
+
 // The refusal with the place that a scanner says.
 pub fn at_place(e: Refusal, place: usize) -> Refusal
     ensures answer { λ r. ⌜ r ≡ atPlace e place ⌝ }

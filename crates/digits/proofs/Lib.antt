@@ -1,5 +1,6 @@
 pub mod Values
 pub mod Width
+pub mod Leading
 pub mod Runs
 pub mod Taking
 pub mod Counting

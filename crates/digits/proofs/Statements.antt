@@ -2,10 +2,11 @@
 -- Assumes nothing.
 use Prim.Native.Nat.{max}
 use mathlib.Core.Path.{sym, ap, _∙_}
-use Rattle.digits.specs.Statements.{AllDigits, DecimalBack, ValueBack, DecimalLength, WidthIs, DecimalPadded}
+use Rattle.digits.specs.Statements.{AllDigits, DecimalBack, ValueBack, LeadingZeros, DecimalLength, WidthIs, DecimalPadded}
 use Rattle.digits.specs.Digits as digits
 use Rattle.digits.proofs.Values as values
 use Rattle.digits.proofs.Width as width
+use Rattle.digits.proofs.Leading as leading
 
 pub all-digits : AllDigits
 all-digits = values.digits-all
@@ -15,6 +16,9 @@ decimal-back = width.decimal-back
 
 pub value-back : ValueBack
 value-back = values.value-back
+
+pub leading-zeros : LeadingZeros
+leading-zeros = leading.leading-zeros
 
 pub decimal-length : DecimalLength
 decimal-length = width.decimal-length

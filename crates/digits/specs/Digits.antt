@@ -32,6 +32,11 @@ valueFrom v (b ∷ l) = valueFrom (v * 10 + (b - 48)) l
 abbrev pub valueOf : List ℕ → ℕ
 valueOf l = valueFrom 0 l
 
+-- the digits that count: those behind the zeros in front
+unfoldable pub significant : List ℕ → List ℕ
+significant [] = []
+significant (b ∷ d) = cond (eqb b 48) (significant d) (b ∷ d)
+
 -- what a field is read as: the value of at most its first nine digits (over nine are refused by whoever reads it)
 abbrev pub fieldValue : List ℕ → ℕ
 fieldValue d = valueOf (take 9 d)

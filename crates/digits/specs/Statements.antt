@@ -2,10 +2,11 @@
 -- Assumes nothing.
 use Prim.Native.Nat.{ℕ, _^_, _≤_, _<_, max}
 use mathlib.Core.Path.{_≡_}
+use mathlib.Core.Logic.{_↔_}
 use mathlib.Core.List.{List}
 use mathlib.Core.Bool.{true}
 use lib.ListN.{length}
-use Rattle.digits.specs.Digits.{allDigits, IsField, valueOf, digitsOf, width, decimal}
+use Rattle.digits.specs.Digits.{allDigits, IsField, valueOf, significant, digitsOf, width, decimal}
 
 -- every byte of a number's digits is a digit
 abbrev pub AllDigits : Type 0
@@ -18,6 +19,10 @@ DecimalBack = (k n : ℕ) → valueOf (decimal k n) ≡ n
 -- digits read and written, as many as they are, are these digits
 abbrev pub ValueBack : Type 0
 ValueBack = (d : List ℕ) → allDigits d ≡ true → digitsOf (length d) (valueOf d) ≡ d
+
+-- digits have one value exactly when they are the same but for leading zeros
+abbrev pub LeadingZeros : Type 0
+LeadingZeros = (d e : List ℕ) → allDigits d ≡ true → allDigits e ≡ true → (valueOf d ≡ valueOf e) ↔ (significant d ≡ significant e)
 
 -- a number written in k digits at least has k, or as many as it is wide
 abbrev pub DecimalLength : Type 0

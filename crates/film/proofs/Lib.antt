@@ -1,2 +1,3 @@
+pub mod OnFilm
 pub mod Statements
 pub mod Determined

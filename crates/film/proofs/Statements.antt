@@ -1,12 +1,20 @@
--- The statements of specs/Statements.antt, proved: each by the four formats.
+-- The statements of specs/Statements.antt, proved: by the four formats, and by the tests of a footage.
 -- Assumes nothing.
+use Prim.Native.Nat.{ℕ, _%_, _<_}
 use native.Mathlib.Omega.{arith}
-use mathlib.Core.Path.{refl, ap, _∙_}
+use mathlib.Core.Path.{_≡_, refl, sym, ap, ap₂, _∙_, subst}
+use mathlib.Core.Bool.{Bool, true, false, not, _&&_, _||_, false≢true}
+use mathlib.Core.Logic.{_⊎_, inl, inr, ⊎-elim}
+use borrow.Author.Tests.{ltb-true, ltb-false, eqb-true, eqb-false}
+use lib.Dec.{eqb, ltb}
+use Rattle.film.specs.declared.FilmFormat.{FilmFormat}
 use Rattle.film.specs.declared.FilmFormat.the-variants.{FF35mm4perf, FF35mm3perf, FF35mm2perf, FF16mm}
 use Rattle.film.specs.Film.{formatAt, allowsPerfField}
 use Rattle.film.specs.Footage.{footageCount, footageOf}
+use Rattle.film.specs.OnFilm.{framesInFoot, onFilm}
 use Rattle.film.specs.FormatLaws.{at-number, formatAt-told}
-use Rattle.film.specs.Statements.{FormatNumbered, OnlyThreePerf, FootageBack}
+use Rattle.film.specs.Statements.{FormatNumbered, OnlyThreePerf, FootageBack, Occurs, FramesInFoot, ThreePerfFrames, OnFilmExactly, OffFilmExactly, FootageForth}
+use Rattle.film.proofs.OnFilm.{three-perf-two, three-perf-other, below-occurs, occurs-below}
 
 pub format-numbered : FormatNumbered
 format-numbered n format = (formatAt-told n format, λ e. ap formatAt e ∙ at-number format)
@@ -23,3 +31,67 @@ footage-back FF35mm4perf f = omega arith
 footage-back FF35mm3perf f = omega arith
 footage-back FF35mm2perf f = omega arith
 footage-back FF16mm f = omega arith
+
+-- ---- which footages can be on the film
+pub frames-in-foot : FramesInFoot
+frames-in-foot feet frames = (
+  (occurs-below FF35mm4perf feet frames, below-occurs FF35mm4perf feet frames),
+  (occurs-below FF35mm2perf feet frames, below-occurs FF35mm2perf feet frames),
+  (occurs-below FF16mm feet frames, below-occurs FF16mm feet frames),
+)
+
+pub three-perf-frames : ThreePerfFrames
+three-perf-frames feet frames = (
+  λ h. let is = three-perf-other feet h in
+      (λ o. omega (arith, occurs-below FF35mm3perf feet frames o), λ l. below-occurs FF35mm3perf feet frames (omega arith)),
+  λ h. let is = three-perf-two feet h in
+      (λ o. omega (arith, occurs-below FF35mm3perf feet frames o), λ l. below-occurs FF35mm3perf feet frames (omega arith)),
+)
+
+-- what a footage that can be on the film has, and what one that cannot
+abbrev On : FilmFormat → (feet frames : ℕ) (perf : Bool) (marker : ℕ) → Type 0
+On format feet frames perf marker = Occurs format feet frames × (perf ≡ true → marker ≡ feet % 3)
+
+abbrev Off : FilmFormat → (feet frames : ℕ) (perf : Bool) (marker : ℕ) → Type 0
+Off format feet frames perf marker = (¬ Occurs format feet frames) ⊎ ((perf ≡ true) × ¬ (marker ≡ feet % 3))
+
+module _ (format : FilmFormat) (feet frames : ℕ) (perf : Bool) (marker : ℕ) where
+  -- by its two tests, passed or not
+  tested : (p s t : Bool) → ltb frames (framesInFoot format feet) ≡ s → eqb marker (feet % 3) ≡ t
+      → (((s && (not p || t)) ≡ true) × On format feet frames p marker) ⊎ (((s && (not p || t)) ≡ false) × Off format feet frames p marker)
+  tested p false t e f =
+      let past = ltb-false frames (framesInFoot format feet) e in
+      inr (refl, inl (λ o. omega (arith, occurs-below format feet frames o)))
+  tested false true t e f =
+      inl (refl, (below-occurs format feet frames (ltb-true frames (framesInFoot format feet) e), λ h. absurd (false≢true h)))
+  tested true true true e f =
+      inl (refl, (below-occurs format feet frames (ltb-true frames (framesInFoot format feet) e), λ h. eqb-true marker (feet % 3) f))
+  tested true true false e f = inr (refl, inr (refl, eqb-false marker (feet % 3) f))
+
+  judged : ((onFilm format feet frames perf marker ≡ true) × On format feet frames perf marker)
+      ⊎ ((onFilm format feet frames perf marker ≡ false) × Off format feet frames perf marker)
+  unfolding onFilm
+  judged = tested perf (ltb frames (framesInFoot format feet)) (eqb marker (feet % 3)) refl refl
+
+  -- no footage has both
+  apart : On format feet frames perf marker → Off format feet frames perf marker → ⊥
+  apart on off = ⊎-elim (λ never. never (on .0)) (λ other. other .1 (on .1 (other .0))) off
+
+pub on-film-exactly : OnFilmExactly
+on-film-exactly format feet frames perf marker = (
+  λ e. ⊎-elim (λ x. x .1) (λ x. absurd (false≢true (sym (x .0) ∙ e))) (judged format feet frames perf marker),
+  λ on. ⊎-elim (λ x. x .0) (λ x. absurd (apart format feet frames perf marker on (x .1))) (judged format feet frames perf marker),
+)
+
+pub off-film-exactly : OffFilmExactly
+off-film-exactly format feet frames perf marker = (
+  λ e. ⊎-elim (λ x. absurd (false≢true (sym e ∙ x .0))) (λ x. x .1) (judged format feet frames perf marker),
+  λ off. ⊎-elim (λ x. absurd (apart format feet frames perf marker (x .1) off)) (λ x. x .0) (judged format feet frames perf marker),
+)
+
+-- the count of feet and frames that occur is the one that they occur in
+pub footage-forth : FootageForth
+unfolding footageOf
+footage-forth format feet frames o =
+    let back = ap₂ (footageCount format) (sym (o .feet-of)) (sym (o .frames-of)) ∙ footage-back format (o .count) in
+    ap (footageOf format) back ∙ ap₂ (λ (x y : ℕ). record { feet = x; frames = y; perf = x % 3 }) (o .feet-of) (o .frames-of)

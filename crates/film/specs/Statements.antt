@@ -1,14 +1,15 @@
 -- What holds of film beyond one call (BEHAVIOUR: Footage): the statements, in order. Proofs: proofs/Statements.antt.
 -- Assumes nothing.
-use Prim.Native.Nat.{ℕ}
+use Prim.Native.Nat.{ℕ, _%_, _<_}
 use mathlib.Core.Path.{_≡_}
-use mathlib.Core.Bool.{true}
-use mathlib.Core.Logic.{_↔_}
+use mathlib.Core.Bool.{Bool, true, false}
+use mathlib.Core.Logic.{_↔_, _⊎_}
 use Rattle.film.specs.declared.FilmFormat.{FilmFormat}
-use Rattle.film.specs.declared.FilmFormat.the-variants.{FF35mm3perf}
+use Rattle.film.specs.declared.FilmFormat.the-variants.{FF35mm4perf, FF35mm3perf, FF35mm2perf, FF16mm}
 use Rattle.film.specs.declared.Filmed.the-variants.{Format}
 use Rattle.film.specs.Film.{formatNumber, formatAt, allowsPerfField}
 use Rattle.film.specs.Footage.{footageCount, footageOf}
+use Rattle.film.specs.OnFilm.{onFilm}
 
 -- a film format and its number give each other back
 abbrev pub FormatNumbered : Type 0
@@ -22,3 +23,40 @@ OnlyThreePerf = (format : FilmFormat) → (allowsPerfField format ≡ true) ↔ 
 abbrev pub FootageBack : Type 0
 FootageBack =
     (format : FilmFormat) (f : ℕ) → footageCount format (footageOf format f .feet) (footageOf format f .frames) ≡ f
+
+-- ---- which footages can be on the film
+-- a frames number occurs in a foot: some count is written with that number in that foot
+pub record Occurs (format : FilmFormat) (feet frames : ℕ) : Type 0 where
+  pub count : ℕ
+  pub feet-of : footageOf format count .feet ≡ feet
+  pub frames-of : footageOf format count .frames ≡ frames
+
+-- so written, 16, 32 and 20 frames occur in each foot of 4-perf, 2-perf and 16 mm
+abbrev pub FramesInFoot : Type 0
+FramesInFoot =
+    (feet frames : ℕ)
+    → (Occurs FF35mm4perf feet frames ↔ (frames < 16)) × (Occurs FF35mm2perf feet frames ↔ (frames < 32)) × (Occurs FF16mm feet frames ↔ (frames < 20))
+
+-- and 21 in 3-perf feet that leave 0 or 1 modulo 3, 22 in those that leave 2
+abbrev pub ThreePerfFrames : Type 0
+ThreePerfFrames =
+    (feet frames : ℕ)
+    → (feet % 3 < 2 → Occurs FF35mm3perf feet frames ↔ (frames < 21)) × (feet % 3 ≡ 2 → Occurs FF35mm3perf feet frames ↔ (frames < 22))
+
+-- a footage can be on the film exactly when its frames number occurs in that foot, and its marker, if present, is feet modulo 3
+abbrev pub OnFilmExactly : Type 0
+OnFilmExactly =
+    (format : FilmFormat) (feet frames : ℕ) (perf : Bool) (marker : ℕ)
+    → (onFilm format feet frames perf marker ≡ true) ↔ (Occurs format feet frames × (perf ≡ true → marker ≡ feet % 3))
+
+-- and cannot exactly when its frames number does not occur in that foot, or its marker is present and is not feet modulo 3
+abbrev pub OffFilmExactly : Type 0
+OffFilmExactly =
+    (format : FilmFormat) (feet frames : ℕ) (perf : Bool) (marker : ℕ)
+    → (onFilm format feet frames perf marker ≡ false) ↔ ((¬ Occurs format feet frames) ⊎ ((perf ≡ true) × ¬ (marker ≡ feet % 3)))
+
+-- feet and frames that occur are those that are written of their count, and the marker is feet modulo 3
+abbrev pub FootageForth : Type 0
+FootageForth =
+    (format : FilmFormat) (feet frames : ℕ) → Occurs format feet frames
+    → footageOf format (footageCount format feet frames) ≡ record { feet = feet; frames = frames; perf = feet % 3 }

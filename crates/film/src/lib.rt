@@ -1,4 +1,4 @@
-// The four film formats by number, and footage: the count of feet and frames, and the feet and frames of a count.
+// The four film formats by number, and footage: the count of feet and frames, the feet and frames of a count, and which can be on the film.
 // A number that is no film format is refused 6, a count outside its bounds 5.
 use answers::Counted;
 use answers::Refusal;
@@ -8,6 +8,7 @@ ghost use Rattle.numbers.specs.Sign.{signed};
 ghost use Rattle.answers.specs.Refusals.{mostCount, held};
 ghost use Rattle.film.specs.Film.{formatNumber, perfsPerFrame, perfsPerFoot, allowsPerfField, formatAt};
 ghost use Rattle.film.specs.Footage.{footageCount, footageOf, footageIn};
+ghost use Rattle.film.specs.OnFilm.{framesInFoot, onFilm};
 
 // vtc's film formats: 4-perf, 3-perf and 2-perf on 35 mm, and 16 mm.
 pub enum FilmFormat {
@@ -73,6 +74,36 @@ impl FilmFormat {
     {
         self.perfs_per_foot() % self.perfs_per_frame() != 0
     }
+
+    // How many frames a foot has: those whose last perf lies in it.
+    pub fn frames_in_foot(self, feet: u64) -> u64
+        ensures answer { λ r. ⌜ r ≡ framesInFoot self feet ⌝ }
+    {
+        match self {
+            FilmFormat::FF35mm4perf => 16,
+            FilmFormat::FF35mm3perf => {
+                if feet % 3 == 2 {
+                    return 22;
+                }
+                21
+            }
+            FilmFormat::FF35mm2perf => 32,
+            FilmFormat::FF16mm => 20,
+        }
+    }
+}
+
+// Whether a footage can be on the film: its frames number occurs in that foot, and a marker that is present is feet modulo 3.
+pub fn on_film(format: FilmFormat, feet: u64, frames: u64, perf: bool, marker: u64) -> bool
+    ensures answer { λ r. ⌜ r ≡ onFilm format feet frames perf marker ⌝ }
+{
+    if frames >= format.frames_in_foot(feet) {
+        return false;
+    }
+    if !perf {
+        return true;
+    }
+    marker == feet % 3
 }
 
 // The film format of a number. Refuses 6: no such film format.

@@ -8,16 +8,16 @@ use native.Mathlib.Omega.{arith}
 use lib.ListN.{length}
 use borrow.Author.Tests.{lt-ltb}
 use Rattle.beginnings.specs.Beginning.{LongestBeginning}
-use Rattle.digits.specs.Digits.{allDigits, decimal}
+use Rattle.digits.specs.Digits.{allDigits, IsField, valueFrom, valueOf, decimal}
 use Rattle.digits.proofs.Width.{decimal-back}
 use Rattle.scanner.specs.declared.text.Fit.the-variants.{Fits, TooLong, NoShape}
-use Rattle.scanner.specs.Long.{isLong, fieldsLong}
+use Rattle.scanner.specs.Long.{isLong, fieldsLong, ShortField}
 use Rattle.scanner.specs.Shapes.{last, more, pointed, TextParts, textParts, withMinus, TextShape, someLong, HasTextShape, Possible}
-use Rattle.scanner.proofs.Long.{not-long, written-short}
+use Rattle.scanner.proofs.Long.{neither, not-long, value-short, written-short}
 use Rattle.scanner.proofs.Bodies.{point-some}
 use Rattle.scanner.proofs.Statements.{one-text-shape, text-bounded, fields-count, fit-told, text-short, text-long, long-place, place-long, stop-longest, text-stops}
 use Rattle.footage_scan.specs.declared.FootageScan.{FootageScan}
-use Rattle.footage_scan.specs.Shape.{footageGrammar, footageParts, asText, hasPerf, HasFootageShape, FootageParts, FootageShape, IsFootage, LongFootage}
+use Rattle.footage_scan.specs.Shape.{footageGrammar, footageParts, asText, hasPerf, footageLong, HasFootageShape, FootageParts, FootageShape, IsFootage, LongFootage}
 use Rattle.footage_scan.specs.Footage.{fittingFootage, footageFrom, footageScan}
 use Rattle.footage_scan.specs.Statements.{FootageReads, FootageFits, FootageTooLong, FootageNoShape, OneFootageShape, FootageBelow, FootageTextBack}
 
@@ -47,7 +47,10 @@ has-footage l long h =
 -- ---- each fit
 pub footage-reads : FootageReads
 unfolding footageScan
-footage-reads l p shape short = ap footageFrom (text-short footageGrammar l (asText p) shape short)
+footage-reads l p shape short =
+    let perf = neither (isLong (length (p .perf))) (fieldsLong (p .feet ∷ p .frames ∷ [])) short .0 in
+    ap footageFrom (text-short footageGrammar l (asText p) shape short)
+    ∙ ap (fittingFootage (p .minus) (valueOf (p .feet)) (valueOf (p .frames)) (hasPerf (p .perf))) (value-short (p .perf) perf)
 
 pub footage-fits : FootageFits
 unfolding footageScan
@@ -110,41 +113,45 @@ one-footage-shape l p q s t =
 
 pub footage-below : FootageBelow
 unfolding footageScan
-footage-below l = let b = text-bounded footageGrammar l in (b .below 2, b .below 3)
+footage-below l = let b = text-bounded footageGrammar l in (b .below 2, b .below 3, b .tail)
 
 -- ---- written and read
+-- two fields divided by `+`, and digits behind a `.` or none, are a footage
+pub footage-shape : (m : Bool) (d e w : List ℕ) → IsField d → IsField e → allDigits w ≡ true
+    → FootageShape (withMinus m ((d ++ 43 ∷ e) ++ pointed w)) (footageParts m d e w)
+footage-shape m d e w i j digits =
+    record {
+      body = (d ++ 43 ∷ e) ++ pointed w;
+      shape = record {
+        front = d ++ 43 ∷ e;
+        shape = more i 43 refl (last j);
+        enough = omega arith;
+        digits = digits;
+        allowed = λ z. omega arith;
+        all = refl;
+      };
+      text = refl;
+    }
+
+-- none of its fields is too long, where none has over 9 digits
+pub footage-short : (m : Bool) (d e w : List ℕ) → ShortField d → ShortField e → isLong (length w) ≡ false → footageLong (footageParts m d e w) ≡ false
+unfolding fieldsLong
+footage-short m d e w i j short = rw (short, not-long d i, not-long e j)
+
 module _ (m : Bool) (feet frames : ℕ) (h : feet < 10 ^ 9) (k : frames < 10 ^ 9) where
-  abbrev d : List ℕ
-  d = decimal 1 feet
-
-  abbrev e : List ℕ
-  e = decimal 2 frames
-
   -- with any digits behind a `.`, or none
   text-back : (w : List ℕ) → allDigits w ≡ true → isLong (length w) ≡ false
-      → footageScan (withMinus m ((d ++ 43 ∷ e) ++ pointed w)) ≡ fittingFootage m feet frames (hasPerf w)
-  unfolding fieldsLong
+      → footageScan (withMinus m ((decimal 1 feet ++ 43 ∷ decimal 2 frames) ++ pointed w)) ≡ fittingFootage m feet frames (hasPerf w) (valueOf w)
   text-back w digits short =
       let i = written-short 1 feet (omega arith) h in
       let j = written-short 2 frames (omega arith) k in
-      footage-reads (withMinus m ((d ++ 43 ∷ e) ++ pointed w)) (footageParts m d e w)
-      (record {
-        body = (d ++ 43 ∷ e) ++ pointed w;
-        shape = record {
-          front = d ++ 43 ∷ e;
-          shape = more (i .is) 43 refl (last (j .is));
-          enough = omega arith;
-          digits = digits;
-          allowed = λ z. omega arith;
-          all = refl;
-        };
-        text = refl;
-      })
-      (rw (short, not-long d i, not-long e j))
+      footage-reads (withMinus m ((decimal 1 feet ++ 43 ∷ decimal 2 frames) ++ pointed w)) (footageParts m (decimal 1 feet) (decimal 2 frames) w)
+      (footage-shape m (decimal 1 feet) (decimal 2 frames) w (i .is) (j .is) digits)
+      (footage-short m (decimal 1 feet) (decimal 2 frames) w i j short)
       ∙ rw (decimal-back 1 feet, decimal-back 2 frames)
 
 pub footage-text-back : FootageTextBack
-unfolding allDigits
+unfolding allDigits valueFrom
 footage-text-back m feet frames h k = (
   ap (λ (x : List ℕ). footageScan (withMinus m x)) (sym (append-nil (decimal 1 feet ++ 43 ∷ decimal 2 frames)))
       ∙ text-back m feet frames h k [] refl refl,
@@ -154,5 +161,5 @@ footage-text-back m feet frames h k = (
       (sym (append-assoc (decimal 1 feet) (43 ∷ decimal 2 frames) (46 ∷ w))
       ∙ ap (λ (x : List ℕ). (decimal 1 feet ++ 43 ∷ decimal 2 frames) ++ x) (sym (point-some w (f .is .some))))
       ∙ text-back m feet frames h k w (f .is .digits) (not-long w f)
-      ∙ ap (fittingFootage m feet frames) (lt-ltb 0 (length w) (f .is .some)),
+      ∙ ap₂ (fittingFootage m feet frames) (lt-ltb 0 (length w) (f .is .some)) (decimal-back 1 perf),
 )

@@ -12,11 +12,12 @@ use Rattle.scanner.specs.Shapes.{withMinus}
 use Rattle.footage_scan.specs.Shape.{FootageParts, FootageShape, hasPerf, footageLong, HasFootageShape, IsFootage, LongFootage}
 use Rattle.footage_scan.specs.Footage.{fittingFootage, misfitFootage, footageScan}
 
--- a text of the shape, no field of over 9 digits, reads as its sign, the values of its feet and frames, and whether it has a perf field
+-- a text of the shape, no field of over 9 digits, reads as its sign, the values of its feet and frames, whether it has a perf field, and
+-- the value of that
 abbrev pub FootageReads : Type 0
 FootageReads =
     (l : List ℕ) (p : FootageParts) → FootageShape l p → footageLong p ≡ false
-    → footageScan l ≡ fittingFootage (p .minus) (valueOf (p .feet)) (valueOf (p .frames)) (hasPerf (p .perf))
+    → footageScan l ≡ fittingFootage (p .minus) (valueOf (p .feet)) (valueOf (p .frames)) (hasPerf (p .perf)) (valueOf (p .perf))
 
 -- a text fits exactly when it has the shape, and no field has over 9 digits
 abbrev pub FootageFits : Type 0
@@ -38,12 +39,12 @@ OneFootageShape = (l : List ℕ) (p q : FootageParts) → FootageShape l p → F
 
 -- whatever the text, the numbers answered are below 10^9
 abbrev pub FootageBelow : Type 0
-FootageBelow = (l : List ℕ) → (footageScan l .feet < 10 ^ 9) × (footageScan l .frames < 10 ^ 9)
+FootageBelow = (l : List ℕ) → (footageScan l .feet < 10 ^ 9) × (footageScan l .frames < 10 ^ 9) × (footageScan l .marker < 10 ^ 9)
 
 -- a footage that is written, its numbers below 10^9, is read as these numbers: without a perf field and with one
 abbrev pub FootageTextBack : Type 0
 FootageTextBack =
     (minus : Bool) (feet frames : ℕ) → feet < 10 ^ 9 → frames < 10 ^ 9
-    → (footageScan (withMinus minus (decimal 1 feet ++ 43 ∷ decimal 2 frames)) ≡ fittingFootage minus feet frames false)
+    → (footageScan (withMinus minus (decimal 1 feet ++ 43 ∷ decimal 2 frames)) ≡ fittingFootage minus feet frames false 0)
     × ((perf : ℕ) → perf < 10 ^ 9
-    → footageScan (withMinus minus (decimal 1 feet ++ 43 ∷ (decimal 2 frames ++ 46 ∷ decimal 1 perf))) ≡ fittingFootage minus feet frames true)
+    → footageScan (withMinus minus (decimal 1 feet ++ 43 ∷ (decimal 2 frames ++ 46 ∷ decimal 1 perf))) ≡ fittingFootage minus feet frames true perf)

@@ -1,4 +1,4 @@
-// A footage's text taken apart: its sign, its feet and frames, and whether it has a perf field, or why it is none.
+// A footage's text taken apart: its sign, its feet and frames, whether it has a perf field and what that marks, or why it is none.
 ghost use mathlib.Core.Path.{_≡_};
 ghost use Rattle.footage_scan.specs.Footage.{footageScan};
 use scanner::Dividers;
@@ -13,14 +13,15 @@ const FOOTAGE: Grammar = Grammar {
     tail: 9,
 };
 
-// A footage's sign, its feet and frames, each below 10^9, and whether a perf field stands behind them. Where it does not fit: no sign,
-// all 0, and no perf field.
+// A footage's sign, its feet and frames, each below 10^9, whether a perf field stands behind them, and the value of that field, below
+// 10^9, its marker: 0 where it has none. Where it does not fit: no sign, all 0, and no perf field.
 pub struct FootageScan {
     pub fit: Fit,
     pub minus: bool,
     pub feet: u64,
     pub frames: u64,
     pub perf: bool,
+    pub marker: u64,
 }
 
 // The sign and the fields of a footage; the crate's feet and frames regex and what it captures.
@@ -36,5 +37,6 @@ pub fn scan_footage(text: &[u8]) -> FootageScan
         feet: fields[2],
         frames: fields[3],
         perf: 0 < scan.digits,
+        marker: scan.tail,
     }
 }

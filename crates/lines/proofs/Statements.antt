@@ -57,8 +57,8 @@ timecode-short tc v =
       signed-most (isNeg (instant tc)) (natAbs (instant tc)) 19 (omega arith) (omega (arith, instant-abs-le tc v)),
     )
 
-refused-short : (e : Refusal) → e .number ≤ 6 → length (refusedText (e .number)) ≤ 47
-refused-short e h = omega (arith, refused-length (e .number), padded-length false 1 (e .number), width-at-most (e .number) 1 (omega arith) (omega arith))
+refused-short : (e : Refusal) → e .number < 100 → length (refusedText (e .number)) ≤ 47
+refused-short e h = omega (arith, refused-length (e .number), padded-length false 1 (e .number), width-at-most (e .number) 2 (omega arith) (omega arith))
 
 held-short : (held : Answer) → Sound held → length (heldText held) ≤ 47
 held-short (At tc) v = timecode-short tc v

@@ -8,6 +8,7 @@ use Rattle.answers.specs.Refusals.{held}
 use Rattle.rates.specs.Rates.{rates, isRate, rateRow, dropFrames, isDrop}
 use Rattle.film.specs.Film.{isFormat, formatAt}
 use Rattle.film.specs.Footage.{footageCount, footageOf}
+use Rattle.film.specs.OnFilm.{onFilm}
 use Rattle.labels.specs.Label.{labelCount, isDropped}
 use Rattle.labels.specs.Sections.{fieldsAt, droppedBefore, sectionsOf}
 use Rattle.scanner.specs.Then.{fieldThen, byteThen}
@@ -36,13 +37,15 @@ use Rattle.promises.specs.Cases.{All, cases, StarredCases}
 
 pub starred-cases : StarredCases
 unfolding nearestN valueFrom span digitsOf widthBy width decimal held rates isRate rateRow
-    dropFrames isDrop isFormat formatAt footageCount footageOf labelCount isDropped fieldsAt droppedBefore sectionsOf
+    dropFrames isDrop isFormat formatAt footageCount footageOf onFilm labelCount isDropped fieldsAt droppedBefore sectionsOf
     fieldThen byteThen signOf tailOf fieldsIn fieldsFound textScan labelScan footageScan labelRead footageRead readText labelFields
     labelSections clockText sectionsText labelText feetText footageText isFraction instant joined divOf divqOf convertOf
     worth signedOf lowBytes twosOf bodyFixed ofKind faults entryOf readFrom recordBytes listBytes
 starred-cases =
-    let of-lists : All (drop 20 cases) =
+    let of-lists : All (drop 27 cases) =
     ((refl, refl), (refl, ((refl, refl), ((refl, refl), (refl, (refl, (refl, (refl, (refl, (refl, tt)))))))))) in
+    let of-film : All (drop 20 cases) =
+    (λ rate r. simp r, (λ rate r. simp r, (refl, (refl, (refl, (refl, (refl, of-lists))))))) in
     let behind-labels : All (drop 9 cases) =
-    ((refl, λ rate r. simp r), ((refl, λ rate r. simp r), (λ rate r. simp r, (λ rate r. simp r, (refl, (refl, (refl, (refl, (refl, (refl, (refl, of-lists))))))))))) in
+    ((refl, λ rate r. simp r), ((refl, λ rate r. simp r), (λ rate r. simp r, (λ rate r. simp r, (refl, (refl, (refl, (refl, (refl, (refl, (refl, of-film))))))))))) in
     ((refl, refl), ((refl, refl), (refl, ((refl, refl), ((refl, refl), ((refl, refl), ((refl, refl), ((refl, refl), (refl, behind-labels)))))))))

@@ -45,6 +45,7 @@ use Rattle.promises.proofs.When.{refused-when}
 use Rattle.promises.proofs.Demand1.{refused-zero, refused-keeps-line}
 use Rattle.promises.proofs.Demand2.{demand2-at5, demand2-at11}
 use Rattle.promises.proofs.ReadBack.{labels-read-back, footage-read-back, unstated-read-back}
+use Rattle.promises.proofs.AsWritten.{read-as-written}
 use Rattle.promises.proofs.Cases.{starred-cases}
 
 pub promises : Promises
@@ -72,6 +73,7 @@ promises = record {
   labels-read-back = labels-read-back;
   footage-read-back = footage-read-back;
   unstated-read-back = unstated-read-back;
+  read-as-written = read-as-written;
   starred-cases = starred-cases;
   nearest-is = numbers.nearest-is;
   nearest-one = numbers.nearest-one;
@@ -86,6 +88,7 @@ promises = record {
   all-digits = digits.all-digits;
   decimal-back = digits.decimal-back;
   value-back = digits.value-back;
+  leading-zeros = digits.leading-zeros;
   decimal-length = digits.decimal-length;
   width-is = digits.width-is;
   decimal-padded = digits.decimal-padded;
@@ -98,6 +101,11 @@ promises = record {
   format-numbered = film.format-numbered;
   only-three-perf = film.only-three-perf;
   footage-back = film.footage-back;
+  frames-in-foot = film.frames-in-foot;
+  three-perf-frames = film.three-perf-frames;
+  on-film-exactly = film.on-film-exactly;
+  off-film-exactly = film.off-film-exactly;
+  footage-forth = film.footage-forth;
   has-fields = labels.has-fields;
   one-number = labels.one-number;
   counts-earlier = labels.counts-earlier;
@@ -145,6 +153,7 @@ promises = record {
   place-two = reading.place-two;
   place-else = reading.place-else;
   refused-four = reading.refused-four;
+  refused-thirteen = reading.refused-thirteen;
   refused-three = reading.refused-three;
   label-counted = reading.label-counted;
   footage-counted = reading.footage-counted;

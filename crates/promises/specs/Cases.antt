@@ -36,6 +36,7 @@ pub data Case : Type 0 where
   label : (rate : ℕ) (count : ℤ) (text : String) → Case  -- rate 5: 1800 is `00:01:00;02`
   gives : (rate : ℕ) (text : String) (number : ℕ) → Case  -- rate 5: `00:01:00;00` gives 3
   stops : (stated : Stated) (rate : ℕ) (text : String) (number place : ℕ) → Case  -- 4-perf stated, rate 2: `1+2.` gives 1 at 4
+  takes : (stated : Stated) (text : String) (count : ℤ) (format : FilmFormat) → Case  -- 3-perf stated: `1+00` is 21
   lists : (bytes : List ℕ) (records : List Record) → Case  -- 1 5 3 7 0 0 0 is rate 5, reel 7
   handsOver : (numbers : List ℤ) (records : List Record) → Case  -- 1 5 3 7 hands rate 5, reel 7 over
   listRefused : (bytes : List ℕ) (number : ℕ) → Case  -- 1 5 4 gives 9
@@ -53,6 +54,7 @@ Holds (stops stated rate text number place) = readText (bytesOf text) stated rat
 Holds (footage format count text) =
     (footageText format count ≡ bytesOf text)
     × ((rate : ℕ) → isRate rate ≡ true → readText (bytesOf text) (Format (formatNumber format)) rate ≡ Footage (timecode count rate) format)
+Holds (takes stated text count format) = (rate : ℕ) → isRate rate ≡ true → readText (bytesOf text) stated rate ≡ Footage (timecode count rate) format
 Holds (lists bytes rs) = (readOf onDisk bytes ≡ AllOf rs) × (listBytes rs ≡ bytes)
 Holds (handsOver numbers rs) = readOf inNumbers numbers ≡ AllOf rs
 Holds (listRefused bytes number) = readOf onDisk bytes ≡ FaultOf (refusal number)
@@ -88,6 +90,13 @@ cases =
     ∷ stops Nothing 2 "1:00+5" 1 4
     ∷ stops Nothing 2 "-0000000001:0000000002" 2 1
     ∷ stops (Format 1) 2 "1+2.0000000003" 2 4
+    ∷ takes (Format 2) "1+00" (pos 21) FF35mm3perf
+    ∷ takes Nothing "4+00.01" (pos 85) FF35mm3perf
+    ∷ stops Nothing 2 "0+20" 13 0
+    ∷ stops (Format 2) 2 "1+21" 13 0
+    ∷ stops Nothing 2 "-4+00.4" 13 0
+    ∷ stops Nothing 2 "25000000+16" 13 0
+    ∷ stops (Format 1) 2 "1+16.9" 4 0
     ∷ lists (1 ∷ 5 ∷ 2 ∷ 246 ∷ 255 ∷ 255 ∷ 255 ∷ 100 ∷ 0 ∷ 0 ∷ 0 ∷ 3 ∷ 7 ∷ 0 ∷ 0 ∷ 0 ∷ []) (Rate 5 ∷ Shot (negsuc 9) (pos 100) ∷ Reel 7 ∷ [])
     ∷ handsOver (pos 1 ∷ pos 5 ∷ pos 2 ∷ negsuc 9 ∷ pos 100 ∷ pos 3 ∷ pos 7 ∷ []) (Rate 5 ∷ Shot (negsuc 9) (pos 100) ∷ Reel 7 ∷ [])
     ∷ lists [] []

@@ -10,5 +10,6 @@ pub mod Given
 pub mod When
 pub mod Demand2
 pub mod ReadBack
+pub mod AsWritten
 pub mod Cases
 pub mod Promises

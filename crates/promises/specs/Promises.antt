@@ -42,6 +42,7 @@ use Rattle.promises.specs.When.{RefusedWhen}
 use Rattle.promises.specs.Demand1.{RefusedZero, RefusedKeepsLine}
 use Rattle.promises.specs.Demand2.{Demand2At5, Demand2At11}
 use Rattle.promises.specs.ReadBack.{LabelsReadBack, FootageReadBack, UnstatedReadBack}
+use Rattle.promises.specs.AsWritten.{ReadAsWritten}
 use Rattle.promises.specs.Cases.{StarredCases}
 
 pub record Promises : Type 1 where
@@ -72,6 +73,8 @@ pub record Promises : Type 1 where
   pub labels-read-back : LabelsReadBack
   pub footage-read-back : FootageReadBack
   pub unstated-read-back : UnstatedReadBack
+  -- and a footage that is read is what is written
+  pub read-as-written : ReadAsWritten
   -- the cases marked with a star
   pub starred-cases : StarredCases
   -- numbers and lines
@@ -88,6 +91,7 @@ pub record Promises : Type 1 where
   pub all-digits : digits.AllDigits
   pub decimal-back : digits.DecimalBack
   pub value-back : digits.ValueBack
+  pub leading-zeros : digits.LeadingZeros
   pub decimal-length : digits.DecimalLength
   pub width-is : digits.WidthIs
   pub decimal-padded : digits.DecimalPadded
@@ -101,6 +105,11 @@ pub record Promises : Type 1 where
   pub format-numbered : film.FormatNumbered
   pub only-three-perf : film.OnlyThreePerf
   pub footage-back : film.FootageBack
+  pub frames-in-foot : film.FramesInFoot
+  pub three-perf-frames : film.ThreePerfFrames
+  pub on-film-exactly : film.OnFilmExactly
+  pub off-film-exactly : film.OffFilmExactly
+  pub footage-forth : film.FootageForth
   pub has-fields : labels.HasFields
   pub one-number : labels.OneNumber
   pub counts-earlier : labels.CountsEarlier
@@ -149,6 +158,7 @@ pub record Promises : Type 1 where
   pub place-two : reading.PlaceTwo
   pub place-else : reading.PlaceElse
   pub refused-four : reading.RefusedFour
+  pub refused-thirteen : reading.RefusedThirteen
   pub refused-three : reading.RefusedThree
   pub label-counted : reading.LabelCounted
   pub footage-counted : reading.FootageCounted

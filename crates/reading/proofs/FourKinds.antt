@@ -33,7 +33,7 @@ pub data Kind (stated : Stated) (l : List ℕ) : Shaped → Type 0 where
   long : (place : ℕ) → LongShape stated l place → Kind stated l (refused (atPlace tooLong place))
   labelled : {m : Bool} {fields : List ℕ} → stated ≡ Nothing → LabelText l m fields → Kind stated l (label m fields)
   filmed : (p : FootageParts) → FootageText l p
-      → Kind stated l (footage (p .minus) (valueOf (p .feet)) (valueOf (p .frames)) (hasPerf (p .perf)))
+      → Kind stated l (footage (p .minus) (valueOf (p .feet)) (valueOf (p .frames)) (hasPerf (p .perf)) (valueOf (p .perf)))
 
 -- ---- a text that can be a footage only, where the scanner of another shape stopped at a place
 module _ (stated : Stated) (l : List ℕ) (stopped : ℕ)

@@ -1,13 +1,14 @@
 -- What a text's shape and its fault give: the answer of each case.
 -- Assumes nothing.
 use Prim.Native.Nat.{ℕ}
-use mathlib.Core.Path.{_≡_, ap, _∙_}
+use mathlib.Core.Path.{_≡_, refl, ap, _∙_}
 use mathlib.Core.List.{List}
-use mathlib.Core.Bool.{Bool, true}
+use mathlib.Core.Bool.{Bool, true, false}
 use lib.IntN.{ℤ}
 use Rattle.digits.specs.Digits.{valueOf}
-use Rattle.answers.specs.Refusals.{atPlace, noShape, tooLong, droppedLabel, noPerfField, held}
+use Rattle.answers.specs.Refusals.{atPlace, noShape, tooLong, droppedLabel, noPerfField, notOnFilm, held}
 use Rattle.film.specs.declared.FilmFormat.{FilmFormat}
+use Rattle.film.proofs.Statements.{on-film-exactly, off-film-exactly}
 use Rattle.footage_scan.specs.Shape.{FootageParts, hasPerf}
 use Rattle.reading.specs.declared.Stated.{Stated}
 use Rattle.reading.specs.declared.Stated.the-variants.{Nothing}
@@ -15,8 +16,8 @@ use Rattle.reading.specs.declared.Read.the-variants.{Refused}
 use Rattle.reading.specs.Answer.{asLabel, asFootage}
 use Rattle.reading.specs.Shaped.{formatFor, Shaped, shapeOf}
 use Rattle.reading.specs.Reading.{labelRead, takesPerf, footageRead, readShaped, readText}
-use Rattle.reading.specs.ReadingLaws.{label-dropped, label-kept, footage-marked, footage-taken, read-shaped}
-use Rattle.reading.specs.Statements.{RateAndFormat, HasShape, FootageText, PerfRefused, LabelText, DroppedText, LabelCount, FootageCount}
+use Rattle.reading.specs.ReadingLaws.{label-dropped, label-kept, footage-marked, footage-off, footage-on, read-shaped}
+use Rattle.reading.specs.Statements.{RateAndFormat, HasShape, FootageText, PerfRefused, InFormat, OffFilm, FilmRefused, LabelText, DroppedText, LabelCount, FootageCount}
 use Rattle.reading.proofs.Shapes.{shape-label, shape-footage, shape-long, long-place}
 use Rattle.reading.proofs.FourKinds.{shape-none}
 
@@ -44,24 +45,41 @@ module _ (l : List ℕ) (stated : Stated) (rate : ℕ) (a : RateAndFormat stated
       ∙ ap (λ (y : ℤ). asLabel rate (held y)) (x .count)
 
   -- ---- a footage
-  pub gives-footage : (p : FootageParts) → FootageText l p
-      → readText l stated rate
-      ≡ footageRead rate (formatFor stated (hasPerf (p .perf))) (p .minus) (valueOf (p .feet)) (valueOf (p .frames)) (hasPerf (p .perf))
-  gives-footage p t = by-shape _ (shape-footage stated l p t)
+  module _ (p : FootageParts) (t : FootageText l p) where
+    abbrev perf : Bool
+    perf = hasPerf (p .perf)
+
+    pub gives-footage : (format : FilmFormat) → formatFor stated perf ≡ format
+        → readText l stated rate ≡ footageRead rate format (p .minus) (valueOf (p .feet)) (valueOf (p .frames)) perf (valueOf (p .perf))
+    gives-footage format chosen =
+        by-shape _ (shape-footage stated l p t)
+        ∙ ap (λ (f : FilmFormat). footageRead rate f (p .minus) (valueOf (p .feet)) (valueOf (p .frames)) perf (valueOf (p .perf))) chosen
+
+    -- a perf field that the format has not
+    gives-marked : takesPerf (formatFor stated perf) perf ≡ false → readText l stated rate ≡ Refused noPerfField
+    gives-marked e =
+        gives-footage (formatFor stated perf) refl
+        ∙ footage-marked rate (formatFor stated perf) (p .minus) (valueOf (p .feet)) (valueOf (p .frames)) perf (valueOf (p .perf)) e
+
+    -- one that cannot be on the film
+    gives-off : (format : FilmFormat) → InFormat stated p format → OffFilm format p → readText l stated rate ≡ Refused notOnFilm
+    gives-off format i off =
+        gives-footage format (i .chosen)
+        ∙ footage-off rate format (p .minus) (valueOf (p .feet)) (valueOf (p .frames)) perf (valueOf (p .perf)) (i .takes)
+        (off-film-exactly format (valueOf (p .feet)) (valueOf (p .frames)) perf (valueOf (p .perf)) .1 off)
 
   pub gives-no-perf : PerfRefused l stated → readText l stated rate ≡ Refused noPerfField
   gives-no-perf x =
-      let p = x .parts in
-      let perf = hasPerf (p .perf) in
-      gives-footage p (x .text)
-      ∙ footage-marked rate (formatFor stated perf) (p .minus) (valueOf (p .feet)) (valueOf (p .frames)) perf
-      (ap (λ (b : Bool). takesPerf (formatFor stated b) b) (x .present) ∙ x .none)
+      gives-marked (x .parts) (x .text) (ap (λ (b : Bool). takesPerf (formatFor stated b) b) (x .present) ∙ x .none)
+
+  pub gives-not-on-film : FilmRefused l stated → readText l stated rate ≡ Refused notOnFilm
+  gives-not-on-film x = gives-off (x .parts) (x .text) (x .format) (x .in-format) (x .off)
 
   pub gives-footage-count : (format : FilmFormat) (z : ℤ) → FootageCount l stated format z → readText l stated rate ≡ asFootage rate format (held z)
   gives-footage-count format z x =
       let p = x .parts in
       let perf = hasPerf (p .perf) in
-      gives-footage p (x .text)
-      ∙ ap (λ (f : FilmFormat). footageRead rate f (p .minus) (valueOf (p .feet)) (valueOf (p .frames)) perf) (x .chosen)
-      ∙ footage-taken rate format (p .minus) (valueOf (p .feet)) (valueOf (p .frames)) perf (x .takes)
+      gives-footage p (x .text) format (x .in-format .chosen)
+      ∙ footage-on rate format (p .minus) (valueOf (p .feet)) (valueOf (p .frames)) perf (valueOf (p .perf)) (x .in-format .takes)
+      (on-film-exactly format (valueOf (p .feet)) (valueOf (p .frames)) perf (valueOf (p .perf)) .1 (x .occurs, x .marker))
       ∙ ap (λ (y : ℤ). asFootage rate format (held y)) (x .count)

@@ -20,7 +20,7 @@ module _ (other : (stop : ℕ) → Shaped) (scan : LabelScan) where
 
 module _ (stopped : ℕ) (scan : FootageScan) where
   abbrev taken : Shaped
-  taken = footage (scan .minus) (scan .feet) (scan .frames) (scan .perf)
+  taken = footage (scan .minus) (scan .feet) (scan .frames) (scan .perf) (scan .marker)
 
   pub footage-fits : scan .fit ≡ Fits → footageShaped stopped scan ≡ taken
   footage-fits e = ap (byFit taken (farthest stopped)) e

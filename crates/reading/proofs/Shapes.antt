@@ -60,7 +60,7 @@ shape-label l m fields t =
     ∙ ap (label m) (t .values)
 
 pub shape-footage : (stated : Stated) (l : List ℕ) (p : FootageParts) → FootageText l p
-    → shapeOf stated l ≡ footage (p .minus) (valueOf (p .feet)) (valueOf (p .frames)) (hasPerf (p .perf))
+    → shapeOf stated l ≡ footage (p .minus) (valueOf (p .feet)) (valueOf (p .frames)) (hasPerf (p .perf)) (valueOf (p .perf))
 shape-footage stated l p t =
     let none = no-label-scan l p (t .shape) in
     as-footage stated l (none .0) (none .1) ∙ ap (footageShaped (stoppedAt stated (none .0))) (footage-reads l p (t .shape) (t .short))

@@ -3,9 +3,11 @@
 use Prim.Native.Nat.{ℕ, zero, suc, _≤_}
 use native.Mathlib.Omega.{arith}
 use mathlib.Core.Path.{_≡_, refl, sym, ap, _∙_, subst}
-use mathlib.Core.Logic.{⊎-elim}
+use mathlib.Core.Logic.{_⊎_, inl, inr, ⊎-elim}
 use mathlib.Core.List.{List}
 use mathlib.Core.Bool.{Bool, true, false}
+use borrow.Author.Tests.{eqb-true}
+use lib.Dec.{eqb}
 use Rattle.beginnings.specs.Beginning.{LongestBeginning}
 use Rattle.beginnings.proofs.Statements.{one-longest}
 use Rattle.answers.specs.Refusals.{isCount}
@@ -20,11 +22,11 @@ use Rattle.reading.specs.Answer.{numberOf, placeOf, timecodeOf, asLabel,
 use Rattle.reading.specs.Shaped.{isStated, Shaped, label, footage, refused}
 use Rattle.reading.specs.Reading.{readText}
 use Rattle.reading.specs.ReadingLaws.{no-rate, no-format}
-use Rattle.reading.specs.Statements.{RateAndFormat, ShapesApart, RefusedSix, RefusedOne, RefusedTwo, AllowedShape, PlaceOne, LongShape, PlaceTwo, PlaceElse, RefusedFour, RefusedThree, LabelCounted, FootageCounted, CountOut, RefusedFive, CountBounded, AtRate, ReadValid, NumberMost}
+use Rattle.reading.specs.Statements.{RateAndFormat, ShapesApart, RefusedSix, RefusedOne, RefusedTwo, AllowedShape, PlaceOne, LongShape, PlaceTwo, PlaceElse, RefusedFour, RefusedThirteen, RefusedThree, LabelCounted, FootageCounted, CountOut, RefusedFive, CountBounded, AtRate, ReadValid, NumberMost}
 use Rattle.reading.proofs.Shapes as shapes
-use Rattle.reading.proofs.Told.{Told, told, cause}
+use Rattle.reading.proofs.Told.{Behind, Told, told, cause}
 use Rattle.reading.proofs.Told as tells
-use Rattle.reading.proofs.Gives.{gives-none, gives-long, gives-dropped, gives-label-count, gives-no-perf, gives-footage-count}
+use Rattle.reading.proofs.Gives.{gives-none, gives-long, gives-dropped, gives-label-count, gives-no-perf, gives-not-on-film, gives-footage-count}
 
 pub shapes-apart : ShapesApart
 shapes-apart = shapes.shapes-apart
@@ -59,7 +61,7 @@ place-one l stated rate place e =
 
 abbrev placeIn : Shaped → ℕ
 placeIn (label m fields) = 0
-placeIn (footage m feet frames perf) = 0
+placeIn (footage m feet frames perf marker) = 0
 placeIn (refused e) = e .place
 
 pub place-two : PlaceTwo
@@ -75,6 +77,9 @@ place-else = tells.place-else
 
 pub refused-four : RefusedFour
 refused-four l stated rate a = (λ e. cause l stated rate 4 (omega arith) e .0, λ x. ap numberOf (gives-no-perf l stated rate a x))
+
+pub refused-thirteen : RefusedThirteen
+refused-thirteen l stated rate a = (λ e. cause l stated rate 13 (omega arith) e .0, λ x. ap numberOf (gives-not-on-film l stated rate a x))
 
 pub refused-three : RefusedThree
 refused-three l stated rate a = (λ e. cause l stated rate 3 (omega arith) e .0, λ x. ap numberOf (gives-dropped l stated rate a (x .0) (x .1)))
@@ -127,15 +132,22 @@ module _ (l : List ℕ) (stated : Stated) (rate : ℕ) where
     count = ap (λ (x : Timecode). isCount (x .count)) (sym e) ∙ count-bounded l stated rate;
   }
 
-  number-by : (n : ℕ) → numberOf (readText l stated rate) ≡ n → n ≤ 6
-  number-by zero e = omega arith
-  number-by (suc zero) e = omega arith
-  number-by (suc (suc zero)) e = omega arith
-  number-by (suc (suc (suc zero))) e = omega arith
-  number-by (suc (suc (suc (suc zero)))) e = omega arith
-  number-by (suc (suc (suc (suc (suc zero))))) e = omega arith
-  number-by (suc (suc (suc (suc (suc (suc n)))))) e =
-      let f = refused-six l stated rate .1 (cause l stated rate (suc (suc (suc (suc (suc (suc n)))))) (omega arith) e .0) in omega arith
+  behind-by : (past : ℕ) (six thirteen : Bool) → eqb past 0 ≡ six → eqb past 7 ≡ thirteen
+      → Behind l stated rate six thirteen (placeOf (readText l stated rate))
+      → (suc (suc (suc (suc (suc (suc past))))) ≤ 6) ⊎ (suc (suc (suc (suc (suc (suc past))))) ≡ 13)
+  behind-by past true t p q c = inl (omega (arith, eqb-true past 0 p))
+  behind-by past false true p q c = inr (omega (arith, eqb-true past 7 q))
+  behind-by past false false p q c = absurd c
+
+  number-by : (n : ℕ) → numberOf (readText l stated rate) ≡ n → (n ≤ 6) ⊎ (n ≡ 13)
+  number-by zero e = inl (omega arith)
+  number-by (suc zero) e = inl (omega arith)
+  number-by (suc (suc zero)) e = inl (omega arith)
+  number-by (suc (suc (suc zero))) e = inl (omega arith)
+  number-by (suc (suc (suc (suc zero)))) e = inl (omega arith)
+  number-by (suc (suc (suc (suc (suc zero))))) e = inl (omega arith)
+  number-by (suc (suc (suc (suc (suc (suc past)))))) e =
+      behind-by past (eqb past 0) (eqb past 7) refl refl (cause l stated rate (suc (suc (suc (suc (suc (suc past)))))) (omega arith) e)
 
 pub read-valid : ReadValid
 read-valid l stated rate tc = (

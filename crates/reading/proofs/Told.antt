@@ -6,6 +6,7 @@ use mathlib.Core.Path.{_≡_, refl, sym, ap, _∙_, subst}
 use mathlib.Core.Logic.{_⊎_, inl, inr}
 use mathlib.Core.List.{List}
 use mathlib.Core.Bool.{Bool, true, false}
+use lib.Dec.{eqb}
 use lib.IntN.{ℤ}
 use Rattle.beginnings.specs.Beginning.{LongestBeginning}
 use Rattle.digits.specs.Digits.{valueOf}
@@ -16,6 +17,8 @@ use Rattle.timecodes.specs.declared.Timecode.{Timecode}
 use Rattle.timecodes.specs.Timecode.{timecode}
 use Rattle.film.specs.declared.FilmFormat.{FilmFormat}
 use Rattle.film.specs.Film.{allowsPerfField}
+use Rattle.film.specs.OnFilm.{onFilm}
+use Rattle.film.proofs.Statements.{on-film-exactly, off-film-exactly}
 use Rattle.labels.specs.Label.{droppedIn}
 use Rattle.labels.specs.AtRate.{labelFrames}
 use Rattle.footage_scan.specs.Shape.{FootageParts, hasPerf}
@@ -26,11 +29,17 @@ use Rattle.reading.specs.declared.Read.the-variants.{Label, Footage, Ref
 use Rattle.reading.specs.Answer.{numberOf, placeOf, asLabel, asFootage}
 use Rattle.reading.specs.Shaped.{isStated, formatFor, Shaped, shapeOf}
 use Rattle.reading.specs.Reading.{labelRead, takesPerf, footageFrames, footageRead, readShaped, readText}
-use Rattle.reading.specs.ReadingLaws.{label-dropped, label-kept, footage-marked, footage-taken, no-rate, no-format, read-shaped}
-use Rattle.reading.specs.Statements.{HasShape, AllowedShape, LongShape, FootageText, PerfRefused, LabelText, DroppedText, LabelCount, FootageCount, CountOut}
+use Rattle.reading.specs.ReadingLaws.{label-dropped, label-kept, footage-marked, footage-off, footage-on, no-rate, no-format, read-shaped}
+use Rattle.reading.specs.Statements.{HasShape, AllowedShape, LongShape, FootageText, PerfRefused, FilmRefused, LabelText, DroppedText, LabelCount, FootageCount, CountOut}
 use Rattle.reading.proofs.FourKinds.{Kind, none, long, labelled, filmed, kind}
 
 module _ (l : List ℕ) (stated : Stated) (rate : ℕ) where
+  -- what a number behind 5 tells: 6 or 13, and no other is given
+  abbrev pub Behind : (six thirteen : Bool) (place : ℕ) → Type 0
+  Behind true thirteen place = ((isRate rate ≡ false) ⊎ (isStated stated ≡ false)) × (place ≡ 0)
+  Behind false true place = FilmRefused l stated × (place ≡ 0)
+  Behind false false place = ⊥
+
   -- what each number and its place tell
   abbrev pub Cause : (number place : ℕ) → Type 0
   Cause zero place = ⊥
@@ -39,7 +48,7 @@ module _ (l : List ℕ) (stated : Stated) (rate : ℕ) where
   Cause (suc (suc (suc zero))) place = ((stated ≡ Nothing) × DroppedText l rate) × (place ≡ 0)
   Cause (suc (suc (suc (suc zero)))) place = PerfRefused l stated × (place ≡ 0)
   Cause (suc (suc (suc (suc (suc zero))))) place = CountOut l stated rate × (place ≡ 0)
-  Cause (suc (suc (suc (suc (suc (suc n)))))) place = ((isRate rate ≡ false) ⊎ (isStated stated ≡ false)) × (place ≡ 0)
+  Cause (suc (suc (suc (suc (suc (suc past)))))) place = Behind (eqb past 0) (eqb past 7) place
 
   abbrev pub Told : Read → Type 0
   Told (Label tc) = (tc .rate ≡ rate) × (LabelCount l stated rate (tc .count) × (isCount (tc .count) ≡ true))
@@ -71,27 +80,50 @@ module _ (l : List ℕ) (stated : Stated) (rate : ℕ) where
   refuses format true e = (refl, e)
   refuses format false e = let z : _≡_ {A = ℕ} 0 1 = cc in absurd (omega arith)
 
-  footage-told : (p : FootageParts) → FootageText l p → (t : Bool)
-      → takesPerf (formatFor stated (hasPerf (p .perf))) (hasPerf (p .perf)) ≡ t
-      → Told (footageRead rate (formatFor stated (hasPerf (p .perf))) (p .minus) (valueOf (p .feet)) (valueOf (p .frames)) (hasPerf (p .perf)))
-  footage-told p x false e =
-      let perf = hasPerf (p .perf) in
-      let r = refuses (formatFor stated perf) perf e in
-      subst Told (sym (footage-marked rate (formatFor stated perf) (p .minus) (valueOf (p .feet)) (valueOf (p .frames)) perf e))
-      (record { parts = p; text = x; present = r .0; none = ap (λ (b : Bool). allowsPerfField (formatFor stated b)) (sym (r .0)) ∙ r .1 }, refl)
-  footage-told p x true e =
-      let perf = hasPerf (p .perf) in
-      let format = formatFor stated perf in
-      let z = footageFrames format (p .minus) (valueOf (p .feet)) (valueOf (p .frames)) in
-      subst Told (sym (footage-taken rate format (p .minus) (valueOf (p .feet)) (valueOf (p .frames)) perf e))
-      (footage-by-count format z (record { parts = p; text = x; chosen = refl; takes = e; count = refl }) (isCount z) refl)
+  module _ (p : FootageParts) (x : FootageText l p) where
+    abbrev perf : Bool
+    perf = hasPerf (p .perf)
+
+    abbrev format : FilmFormat
+    format = formatFor stated perf
+
+    abbrev read : Read
+    read = footageRead rate format (p .minus) (valueOf (p .feet)) (valueOf (p .frames)) perf (valueOf (p .perf))
+
+    -- in a format that takes it, by whether it can be on the film
+    film-told : takesPerf format perf ≡ true → (t : Bool) → onFilm format (valueOf (p .feet)) (valueOf (p .frames)) perf (valueOf (p .perf)) ≡ t → Told read
+    film-told e true f =
+        let z = footageFrames format (p .minus) (valueOf (p .feet)) (valueOf (p .frames)) in
+        let on = on-film-exactly format (valueOf (p .feet)) (valueOf (p .frames)) perf (valueOf (p .perf)) .0 f in
+        subst Told (sym (footage-on rate format (p .minus) (valueOf (p .feet)) (valueOf (p .frames)) perf (valueOf (p .perf)) e f))
+        (footage-by-count format z
+        (record { parts = p; text = x; in-format = record { chosen = refl; takes = e }; occurs = on .0; marker = on .1; count = refl })
+        (isCount z) refl)
+    film-told e false f =
+        subst Told (sym (footage-off rate format (p .minus) (valueOf (p .feet)) (valueOf (p .frames)) perf (valueOf (p .perf)) e f)) (
+          record {
+            parts = p;
+            text = x;
+            format = format;
+            in-format = record { chosen = refl; takes = e };
+            off = off-film-exactly format (valueOf (p .feet)) (valueOf (p .frames)) perf (valueOf (p .perf)) .0 f;
+          },
+          refl,
+        )
+
+    footage-told : (t : Bool) → takesPerf format perf ≡ t → Told read
+    footage-told false e =
+        let r = refuses format perf e in
+        subst Told (sym (footage-marked rate format (p .minus) (valueOf (p .feet)) (valueOf (p .frames)) perf (valueOf (p .perf)) e))
+        (record { parts = p; text = x; present = r .0; none = ap (λ (b : Bool). allowsPerfField (formatFor stated b)) (sym (r .0)) ∙ r .1 }, refl)
+    footage-told true e = film-told e (onFilm format (valueOf (p .feet)) (valueOf (p .frames)) perf (valueOf (p .perf))) refl
 
   -- ---- a text
   kind-told : (x : Shaped) → Kind stated l x → Told (readShaped rate stated x)
   kind-told x (none place h longest) = (h, longest)
   kind-told x (long place h) = h
   kind-told x (labelled {m = m} {fields = fields} u t) = label-told u m fields t (droppedIn (dropFrames rate) fields) refl
-  kind-told x (filmed p t) = footage-told p t (takesPerf (formatFor stated (hasPerf (p .perf))) (hasPerf (p .perf))) refl
+  kind-told x (filmed p t) = footage-told p t (takesPerf (format p t) (perf p t)) refl
 
   by-format : isRate rate ≡ true → (t : Bool) → isStated stated ≡ t → Told (readText l stated rate)
   by-format r true s = subst Told (sym (read-shaped l stated rate r s)) (kind-told (shapeOf stated l) (kind stated l))
@@ -113,6 +145,11 @@ module _ (l : List ℕ) (stated : Stated) (rate : ℕ) where
   pub cause : (n : ℕ) → 0 < n → numberOf (readText l stated rate) ≡ n → Cause n (placeOf (readText l stated rate))
   cause n h e = number-by (readText l stated rate) n told h e
 
+  behind-else : (six thirteen : Bool) (place : ℕ) → Behind six thirteen place → place ≡ 0
+  behind-else true t place c = c .1
+  behind-else false true place c = c .1
+  behind-else false false place c = absurd c
+
   -- any other number than 1 and 2 comes with place 0
   cause-else : (n place : ℕ) → Cause n place → ¬ (n ≡ 1) → ¬ (n ≡ 2) → place ≡ 0
   cause-else zero place c one two = absurd c
@@ -121,7 +158,7 @@ module _ (l : List ℕ) (stated : Stated) (rate : ℕ) where
   cause-else (suc (suc (suc zero))) place c one two = c .1
   cause-else (suc (suc (suc (suc zero)))) place c one two = c .1
   cause-else (suc (suc (suc (suc (suc zero))))) place c one two = c .1
-  cause-else (suc (suc (suc (suc (suc (suc n)))))) place c one two = c .1
+  cause-else (suc (suc (suc (suc (suc (suc past)))))) place c one two = behind-else (eqb past 0) (eqb past 7) place c
 
   else-by : (r : Read) → Told r → ¬ (numberOf r ≡ 1) → ¬ (numberOf r ≡ 2) → placeOf r ≡ 0
   else-by (Label tc) t one two = refl

@@ -12,6 +12,7 @@ use Rattle.timecodes.specs.Timecode.{timecode}
 use Rattle.film.specs.declared.FilmFormat.{FilmFormat}
 use Rattle.film.specs.Film.{allowsPerfField}
 use Rattle.film.specs.Footage.{footageCount}
+use Rattle.film.specs.OnFilm.{badFootage}
 use Rattle.labels.specs.Label.{droppedIn}
 use Rattle.labels.specs.AtRate.{labelFrames}
 use Rattle.reading.specs.declared.Stated.{Stated}
@@ -37,20 +38,21 @@ takesPerf format perf = not perf || allowsPerfField format
 abbrev pub footageFrames : FilmFormat → (minus : Bool) (feet frames : ℕ) → ℤ
 footageFrames format minus feet frames = signed minus (footageCount format feet frames)
 
--- a footage: 4, a perf field with a stated format that has none (where none is stated, the one chosen has it); then 5 of the resulting count
-abbrev pub footageReadWhen : FilmFormat → (minus : Bool) (feet frames : ℕ) (perf : Bool) → List Condition
-footageReadWhen format minus feet frames perf =
-    when noPerfField (not (takesPerf format perf)) ∷ badCount (footageFrames format minus feet frames) ∷ []
+-- a footage: 4, a perf field with a stated format that has none (where none is stated, the one chosen has it); 13, it cannot be on the
+-- film, sign ignored; then 5 of the resulting count
+abbrev pub footageReadWhen : FilmFormat → (minus : Bool) (feet frames : ℕ) (perf : Bool) (marker : ℕ) → List Condition
+footageReadWhen format minus feet frames perf marker =
+    when noPerfField (not (takesPerf format perf)) ∷ badFootage format feet frames perf marker ∷ badCount (footageFrames format minus feet frames) ∷ []
 
 -- else its count at the rate, together with the film format
-unfoldable pub footageRead : (rate : ℕ) → FilmFormat → (minus : Bool) (feet frames : ℕ) (perf : Bool) → Read
-footageRead rate format minus feet frames perf =
-    unless Refused (footageReadWhen format minus feet frames perf) (Footage (timecode (footageFrames format minus feet frames) rate) format)
+unfoldable pub footageRead : (rate : ℕ) → FilmFormat → (minus : Bool) (feet frames : ℕ) (perf : Bool) (marker : ℕ) → Read
+footageRead rate format minus feet frames perf marker =
+    unless Refused (footageReadWhen format minus feet frames perf marker) (Footage (timecode (footageFrames format minus feet frames) rate) format)
 
 -- what was taken by its shape; 1 and 2 come before it
 abbrev pub readShaped : (rate : ℕ) → Stated → Shaped → Read
 readShaped rate stated (label minus fields) = labelRead rate minus fields
-readShaped rate stated (footage minus feet frames perf) = footageRead rate (formatFor stated perf) minus feet frames perf
+readShaped rate stated (footage minus feet frames perf marker) = footageRead rate (formatFor stated perf) minus feet frames perf marker
 readShaped rate stated (refused e) = Refused e
 
 -- 6: no such rate (1 to 12) or film format (1 to 4); then what the shape gives

@@ -7,11 +7,12 @@ use mathlib.Core.List.{List, [], _∷_}
 use lib.IntN.{ℤ}
 use Rattle.answers.specs.declared.Counted.the-variants as counted
 use Rattle.answers.specs.OrderLaws.{unless-map}
-use Rattle.answers.specs.Refusals.{droppedLabel, noPerfField, noSuch, isCount, badCount, held}
+use Rattle.answers.specs.Refusals.{droppedLabel, noPerfField, noSuch, notOnFilm, isCount, badCount, held}
 use Rattle.answers.specs.Laws.{held-in}
 use Rattle.rates.specs.Rates.{isRate, dropFrames}
 use Rattle.timecodes.specs.Timecode.{timecode}
 use Rattle.film.specs.declared.FilmFormat.{FilmFormat}
+use Rattle.film.specs.OnFilm.{onFilm}
 use Rattle.labels.specs.Label.{droppedIn}
 use Rattle.labels.specs.AtRate.{labelFrames}
 use Rattle.reading.specs.declared.Stated.{Stated}
@@ -40,23 +41,23 @@ module _ (rate : ℕ) (minus : Bool) (fields : List ℕ) where
   label-within kept bounds = label-kept kept ∙ ap (asLabel rate) (held-in (labelFrames rate minus fields) bounds)
 
 -- ---- a footage
-module _ (rate : ℕ) (format : FilmFormat) (minus : Bool) (feet frames : ℕ) (perf : Bool) where
-  pub footage-marked : takesPerf format perf ≡ false → footageRead rate format minus feet frames perf ≡ Refused noPerfField
+module _ (rate : ℕ) (format : FilmFormat) (minus : Bool) (feet frames : ℕ) (perf : Bool) (marker : ℕ) where
+  pub footage-marked : takesPerf format perf ≡ false → footageRead rate format minus feet frames perf marker ≡ Refused noPerfField
   unfolding footageRead
   footage-marked e = simp e
 
-  pub footage-taken : takesPerf format perf ≡ true
-      → footageRead rate format minus feet frames perf ≡ asFootage rate format (held (footageFrames format minus feet frames))
-  unfolding footageRead held
-  footage-taken e =
-      let z = footageFrames format minus feet frames in
-      simp e (sym (unless-map (asFootage rate format) counted.Refused Refused (λ f. refl) (badCount z ∷ []) (counted.Count z)))
+  pub footage-off : takesPerf format perf ≡ true → onFilm format feet frames perf marker ≡ false
+      → footageRead rate format minus feet frames perf marker ≡ Refused notOnFilm
+  unfolding footageRead
+  footage-off e f = simp (e, f)
 
-  -- a footage whose format has its perf field, or that has none, and whose count is within its bounds, is read as that count
-  pub footage-within :
-      takesPerf format perf ≡ true → isCount (footageFrames format minus feet frames) ≡ true
-      → footageRead rate format minus feet frames perf ≡ Footage (timecode (footageFrames format minus feet frames) rate) format
-  footage-within takes bounds = footage-taken takes ∙ ap (asFootage rate format) (held-in (footageFrames format minus feet frames) bounds)
+  -- a footage that can be on the film is its count, held to the bounds
+  pub footage-on : takesPerf format perf ≡ true → onFilm format feet frames perf marker ≡ true
+      → footageRead rate format minus feet frames perf marker ≡ asFootage rate format (held (footageFrames format minus feet frames))
+  unfolding footageRead held
+  footage-on e f =
+      let z = footageFrames format minus feet frames in
+      simp (e, f) (sym (unless-map (asFootage rate format) counted.Refused Refused (λ r. refl) (badCount z ∷ []) (counted.Count z)))
 
 -- ---- a text
 module _ (text : List ℕ) (stated : Stated) (rate : ℕ) where

@@ -42,10 +42,11 @@ formatFor Nothing false = FF35mm4perf
 formatFor (Format n) perf = formatFrom (formatAt n)
 
 -- ---- the shape
--- a label's sign and fields, a footage's sign, fields and whether it has a perf field, or the refusal of a text that is neither
+-- a label's sign and fields, a footage's sign, fields, whether it has a perf field and what that marks, or the refusal of a text that is
+-- neither
 pub data Shaped : Type 0 where
   label : (minus : Bool) (fields : List ℕ) → Shaped
-  footage : (minus : Bool) (feet frames : ℕ) (perf : Bool) → Shaped
+  footage : (minus : Bool) (feet frames : ℕ) (perf : Bool) (marker : ℕ) → Shaped
   refused : Refusal → Shaped
 
 -- 1: no shape; 2: the shape fits, but a field is too long, the first such at the place that the scan says
@@ -59,7 +60,7 @@ abbrev pub farthest : (stopped stop : ℕ) → Shaped
 farthest stopped stop = refused (atPlace noShape (max stopped stop))
 
 abbrev pub footageShaped : (stopped : ℕ) → FootageScan → Shaped
-footageShaped stopped s = byFit (footage (s .minus) (s .feet) (s .frames) (s .perf)) (farthest stopped) (s .fit)
+footageShaped stopped s = byFit (footage (s .minus) (s .feet) (s .frames) (s .perf) (s .marker)) (farthest stopped) (s .fit)
 
 -- a label; where the text has not that shape, what else it is
 abbrev pub labelOr : (other : (stop : ℕ) → Shaped) → LabelScan → Shaped

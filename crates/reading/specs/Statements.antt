@@ -1,6 +1,6 @@
 -- What a text reads as, by its shape (BEHAVIOUR: Text shapes): each refusal exactly, and the counts. Proofs: proofs/Statements.antt.
 -- Assumes nothing.
-use Prim.Native.Nat.{ℕ, _≤_}
+use Prim.Native.Nat.{ℕ, _%_, _≤_}
 use mathlib.Core.Path.{_≡_}
 use mathlib.Core.Logic.{_↔_, _⊎_}
 use mathlib.Core.List.{List, map}
@@ -15,6 +15,7 @@ use Rattle.timecodes.specs.Timecode.{timecode}
 use Rattle.timecodes.specs.Admitted.{Valid}
 use Rattle.film.specs.declared.FilmFormat.{FilmFormat}
 use Rattle.film.specs.Film.{allowsPerfField}
+use Rattle.film.specs.Statements.{Occurs}
 use Rattle.labels.specs.Label.{droppedIn}
 use Rattle.labels.specs.AtRate.{labelFrames}
 use Rattle.scanner.specs.Long.{fieldsLong}
@@ -111,6 +112,31 @@ RefusedFour =
     (l : List ℕ) (stated : Stated) (rate : ℕ) → RateAndFormat stated rate
     → (numberOf (readText l stated rate) ≡ 4) ↔ PerfRefused l stated
 
+-- ---- 13
+-- a footage of these parts is one of this film format: the stated one, or that which the perf field chooses, and it has that field
+pub record InFormat (stated : Stated) (p : FootageParts) (format : FilmFormat) : Type 0 where
+  pub chosen : formatFor stated (hasPerf (p .perf)) ≡ format
+  pub takes : takesPerf format (hasPerf (p .perf)) ≡ true
+
+-- its frames number does not occur in that foot, or its marker is present and is not feet modulo 3; by value, and whatever the sign
+abbrev pub OffFilm : FilmFormat → FootageParts → Type 0
+OffFilm format p =
+    (¬ Occurs format (valueOf (p .feet)) (valueOf (p .frames))) ⊎ ((hasPerf (p .perf) ≡ true) × ¬ (valueOf (p .perf) ≡ valueOf (p .feet) % 3))
+
+-- a text is a footage that cannot be on the film
+pub record FilmRefused (l : List ℕ) (stated : Stated) : Type 0 where
+  pub parts : FootageParts
+  pub text : FootageText l parts
+  pub format : FilmFormat
+  pub in-format : InFormat stated parts format
+  pub off : OffFilm format parts
+
+-- refusal 13 exactly when the frames number does not occur in that foot, or the marker is present and is not feet modulo 3
+abbrev pub RefusedThirteen : Type 0
+RefusedThirteen =
+    (l : List ℕ) (stated : Stated) (rate : ℕ) → RateAndFormat stated rate
+    → (numberOf (readText l stated rate) ≡ 13) ↔ FilmRefused l stated
+
 -- ---- 3
 -- a text is a label with these four fields, none of over 9 digits
 pub record LabelText (l : List ℕ) (minus : Bool) (fields : List ℕ) : Type 0 where
@@ -142,12 +168,13 @@ pub record LabelCount (l : List ℕ) (stated : Stated) (rate : ℕ) (z : ℤ) : 
   pub kept : droppedIn (dropFrames rate) fields ≡ false
   pub count : labelFrames rate minus fields ≡ z
 
--- a text is a footage in a film format that takes it, and this is its count
+-- a text is a footage that can be on the film, and this is its count
 pub record FootageCount (l : List ℕ) (stated : Stated) (format : FilmFormat) (z : ℤ) : Type 0 where
   pub parts : FootageParts
   pub text : FootageText l parts
-  pub chosen : formatFor stated (hasPerf (parts .perf)) ≡ format
-  pub takes : takesPerf format (hasPerf (parts .perf)) ≡ true
+  pub in-format : InFormat stated parts format
+  pub occurs : Occurs format (valueOf (parts .feet)) (valueOf (parts .frames))
+  pub marker : hasPerf (parts .perf) ≡ true → valueOf (parts .perf) ≡ valueOf (parts .feet) % 3
   pub count : footageFrames format (parts .minus) (valueOf (parts .feet)) (valueOf (parts .frames)) ≡ z
 
 -- a label is read as its count at the rate exactly when that is within its bounds
@@ -191,6 +218,6 @@ ReadValid =
     (l : List ℕ) (stated : Stated) (rate : ℕ) (tc : Timecode)
     → (readText l stated rate ≡ Label tc → Valid tc) × ((format : FilmFormat) → readText l stated rate ≡ Footage tc format → Valid tc)
 
--- and a refusal has one of the numbers 1 to 6
+-- and a refusal has one of the numbers 1 to 6, or 13
 abbrev pub NumberMost : Type 0
-NumberMost = (l : List ℕ) (stated : Stated) (rate : ℕ) → numberOf (readText l stated rate) ≤ 6
+NumberMost = (l : List ℕ) (stated : Stated) (rate : ℕ) → (numberOf (readText l stated rate) ≤ 6) ⊎ (numberOf (readText l stated rate) ≡ 13)

@@ -1,6 +1,7 @@
 // A text read as a timecode at a rate: that of a label or of a footage, but with a stated film format only of a footage.
 // Refuses 6: no such rate or film format; 1: no shape; 2: a field of over 9 digits; 4: a perf field with a stated format that has
-// none; 3: a dropped label; 5: the count is out of bounds; in this order. The place of 1 and 2 is the one that the scanners say.
+// none; 13: a footage that cannot be on the film; 3: a dropped label; 5: the count is out of bounds; in this order. The place of 1 and 2
+// is the one that the scanners say.
 ghost use Prim.Native.Nat.{max};
 ghost use mathlib.Core.Path.{_≡_};
 ghost use mathlib.Core.Bool.{true};
@@ -110,11 +111,15 @@ fn read_footage(
     feet: u64,
     frames: u64,
     perf: bool,
+    marker: u64,
 ) -> Read
-    ensures answer { λ r. ⌜ r ≡ footageRead rate format minus feet frames perf ⌝ }
+    ensures answer { λ r. ⌜ r ≡ footageRead rate format minus feet frames perf marker ⌝ }
 {
     if !takes_perf(format, perf) {
         return Read::Refused(answers::NO_PERF_FIELD);
+    }
+    if !film::on_film(format, feet, frames, perf, marker) {
+        return Read::Refused(answers::NOT_ON_FILM);
     }
     as_footage(
         rate,
@@ -142,7 +147,15 @@ fn only_footage(text: &[u8], stated: Stated, rate: u64, stopped: usize) -> Read
     match fit {
         Fit::Fits => {
             let format = format_for(stated, scan.perf);
-            read_footage(rate, format, scan.minus, scan.feet, scan.frames, scan.perf)
+            read_footage(
+                rate,
+                format,
+                scan.minus,
+                scan.feet,
+                scan.frames,
+                scan.perf,
+                scan.marker,
+            )
         }
         Fit::TooLong(place) => Read::Refused(answers::at_place(answers::TOO_LONG, place)),
         Fit::NoShape(stop) => {

@@ -27,7 +27,7 @@ returns c =
     let a = scanned .before .before .args in
     let s = scanned .scan-footage .result in
     c .read-footage .ensures
-    ∙ ap (λ (f : FilmFormat). footageRead (a .rate) f (s .minus) (s .feet) (s .frames) (s .perf)) (c .before .format-for .ensures)
+    ∙ ap (λ (f : FilmFormat). footageRead (a .rate) f (s .minus) (s .feet) (s .frames) (s .perf) (s .marker)) (c .before .format-for .ensures)
     ∙ scanned-as scanned _ (footage-fits (a .stopped) s (told .enum-told .given .1))
 
 returns-2 : tie.Need-returns-2
