@@ -2,6 +2,7 @@
 -- Assumes nothing.
 use Prim.Native.Nat.{ℕ, suc, _+_, _-_, _*_, _^_, _≤_, _<_}
 use mathlib.Core.Path.{_≡_, refl, sym, ap, ap₂, _∙_}
+use mathlib.Core.Logic.{_↔_}
 use mathlib.Core.List.{List, [], _∷_}
 use mathlib.Core.Bool.{Bool, true, false, cond}
 use native.Mathlib.Omega.{arith}
@@ -9,9 +10,10 @@ use native.Mathlib.Nat.{pow-suc, pow-le-pow-right, mul-le-mul-right}
 use lib.ListN.{length}
 use lib.Dec.{eqb, leb}
 use borrow.Author.Tests.{eqb-true, eqb-false, leb-true, leb-false}
-use Rattle.digits.specs.Digits.{allDigits, valueFrom, valueOf, significant, digitsOf}
+use Rattle.digits.specs.Digits.{allDigits, valueFrom, valueOf, significant, digitsOf, decimal}
 use Rattle.digits.specs.Statements.{LeadingZeros}
 use Rattle.digits.proofs.Values.{all-head, all-tail, digit-bounds, value-below, value-back}
+use Rattle.digits.proofs.Width.{decimal-back, decimal-field}
 
 -- ---- without the zeros in front
 -- the value stays
@@ -99,3 +101,9 @@ leading-zeros d e a b = (
       ∙ value-back (significant e) (q .digits),
   λ h. sym (significant-value d) ∙ ap valueOf h ∙ significant-value e,
 )
+
+-- so digits are a number as it is written, but for leading zeros, exactly when that is their value
+pub leading-decimal : (d : List ℕ) (k n : ℕ) → allDigits d ≡ true → (valueOf d ≡ n) ↔ (significant d ≡ significant (decimal k n))
+leading-decimal d k n a =
+    let same = leading-zeros d (decimal k n) a (decimal-field k n .digits) in
+    (λ e. same .0 (e ∙ sym (decimal-back k n)), λ e. same .1 e ∙ decimal-back k n)

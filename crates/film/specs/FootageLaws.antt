@@ -1,9 +1,9 @@
 -- Laws of footage that callers cite (BEHAVIOUR: Footage): the bounds of what is counted and of what is written.
 -- Assumes nothing.
-use Prim.Native.Nat.{ℕ, _+_, _*_, _≤_, _<_}
+use Prim.Native.Nat.{ℕ, _+_, _*_, _%_, _≤_, _<_}
 use native.Mathlib.Nat.{mul-le-mul-left}
 use native.Mathlib.Omega.{arith}
-use mathlib.Core.Path.{_≡_}
+use mathlib.Core.Path.{_≡_, refl}
 use Rattle.film.specs.declared.FilmFormat.{FilmFormat}
 use Rattle.film.specs.declared.FilmFormat.the-variants.{FF35mm4perf, FF35mm3perf, FF35mm2perf, FF16mm}
 use Rattle.film.specs.Film.{perfsPerFrame}
@@ -28,6 +28,14 @@ count-ge FF35mm3perf feet frames = (omega arith, omega arith)
 count-ge FF35mm2perf feet frames = (omega arith, omega arith)
 count-ge FF16mm feet frames = (omega arith, omega arith)
 
+-- no feet and no frames are none
+pub count-none : (format : FilmFormat) → footageCount format 0 0 ≡ 0
+unfolding footageCount
+count-none FF35mm4perf = refl
+count-none FF35mm3perf = refl
+count-none FF35mm2perf = refl
+count-none FF16mm = refl
+
 -- the frames of a count, and the last one's perfs, are at most four times as many perfs
 pub perfs-le : (format : FilmFormat) (f P : ℕ) → P ≡ perfsPerFrame format → (0 < P) × (f * P + P ≤ 4 * f + 4)
 perfs-le format f P e =
@@ -49,6 +57,11 @@ frames-le FF35mm4perf f = omega arith
 frames-le FF35mm3perf f = omega arith
 frames-le FF35mm2perf f = omega arith
 frames-le FF16mm f = omega arith
+
+-- which is feet modulo 3
+pub perf-modulo : (format : FilmFormat) (f : ℕ) → footageOf format f .perf ≡ footageOf format f .feet % 3
+unfolding footageOf
+perf-modulo format f = refl
 
 pub perf-lt : (format : FilmFormat) (f : ℕ) → footageOf format f .perf < 3
 unfolding footageOf

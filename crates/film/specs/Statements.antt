@@ -31,7 +31,7 @@ pub record Occurs (format : FilmFormat) (feet frames : ℕ) : Type 0 where
   pub feet-of : footageOf format count .feet ≡ feet
   pub frames-of : footageOf format count .frames ≡ frames
 
--- so written, 16, 32 and 20 frames occur in each foot of 4-perf, 2-perf and 16 mm
+-- the frames that occur in a foot, being those of some count, are 16, 32 and 20 in each foot of 4-perf, 2-perf and 16 mm
 abbrev pub FramesInFoot : Type 0
 FramesInFoot =
     (feet frames : ℕ)

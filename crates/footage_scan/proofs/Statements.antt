@@ -10,9 +10,11 @@ use borrow.Author.Tests.{lt-ltb}
 use Rattle.beginnings.specs.Beginning.{LongestBeginning}
 use Rattle.digits.specs.Digits.{allDigits, IsField, valueFrom, valueOf, decimal}
 use Rattle.digits.proofs.Width.{decimal-back}
+use Rattle.scanner.specs.declared.fields.Dividers.{Dividers}
+use Rattle.scanner.specs.declared.fields.Dividers.the-variants.{Plus}
 use Rattle.scanner.specs.declared.text.Fit.the-variants.{Fits, TooLong, NoShape}
 use Rattle.scanner.specs.Long.{isLong, fieldsLong, ShortField}
-use Rattle.scanner.specs.Shapes.{last, more, pointed, TextParts, textParts, withMinus, TextShape, someLong, HasTextShape, Possible}
+use Rattle.scanner.specs.Shapes.{FieldsShape, last, more, pointed, TextParts, textParts, withMinus, TextShape, someLong, HasTextShape, Possible}
 use Rattle.scanner.proofs.Long.{neither, not-long, value-short, written-short}
 use Rattle.scanner.proofs.Bodies.{point-some}
 use Rattle.scanner.proofs.Statements.{one-text-shape, text-bounded, fields-count, fit-told, text-short, text-long, long-place, place-long, stop-longest, text-stops}
@@ -43,6 +45,17 @@ has-footage l long h =
     let q = footageParts (p .minus) (t .feet) (t .frames) (p .tail) in
     let e : asText q ≡ p = ap (λ (x : List (List ℕ)). textParts (p .minus) x (p .tail)) (t .is) in
     record { parts = q; shape = rw e (h .shape); digits = ap (someLong footageGrammar) e ∙ h .digits }
+
+-- feet and frames are fields
+first-field : {d : Dividers} {k : ℕ} {l f : List ℕ} {fs : List (List ℕ)} → FieldsShape d k l (f ∷ fs) → IsField f
+first-field (last i) = i
+first-field (more i c e r) = i
+
+second-field : (l f g : List ℕ) → FieldsShape Plus 2 l (f ∷ g ∷ []) → IsField g
+second-field l f g (more i c e r) = first-field r
+
+pub footage-fields : (l : List ℕ) (p : FootageParts) → FootageShape l p → IsField (p .feet) × IsField (p .frames)
+footage-fields l p t = let s = t .shape in (first-field (s .shape), second-field (s .front) (p .feet) (p .frames) (s .shape))
 
 -- ---- each fit
 pub footage-reads : FootageReads

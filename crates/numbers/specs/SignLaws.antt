@@ -2,6 +2,7 @@
 -- Assumes nothing.
 use mathlib.Core.Path.{_≡_, refl, sym, _∙_, ap}
 use mathlib.Core.Bool.{Bool, true, false}
+use mathlib.Core.Logic.{_⊎_, inl, inr}
 use Prim.Native.Nat.{ℕ, zero, suc, _*_, _<_}
 use native.Mathlib.Nat.{zero-mul}
 use native.Mathlib.Omega.{arith}
@@ -21,6 +22,18 @@ abs-signed true m = abs-neg (pos m)
 pub signed-back : (z : ℤ) → signed (isNeg z) (natAbs z) ≡ z
 signed-back (pos m) = refl
 signed-back (negsuc m) = refl
+
+-- a sign is that of the number, unless this is zero, of which any sign will do
+pub isNeg-signed : (minus : Bool) (m : ℕ) → (minus ≡ isNeg (signed minus m)) ⊎ (m ≡ 0)
+isNeg-signed false m = inl refl
+isNeg-signed true zero = inr refl
+isNeg-signed true (suc m) = inl refl
+
+pub signed-zero : (minus : Bool) (z : ℤ) → natAbs z ≡ 0 → signed minus (natAbs z) ≡ z
+signed-zero false (pos zero) e = refl
+signed-zero true (pos zero) e = refl
+signed-zero minus (pos (suc m)) e = absurd (omega arith)
+signed-zero minus (negsuc m) e = absurd (omega arith)
 
 pub isNeg-neg : (m : ℕ) → 0 < m → isNeg (negℤ (pos m)) ≡ true
 isNeg-neg zero h = absurd (omega arith)

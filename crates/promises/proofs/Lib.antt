@@ -7,6 +7,7 @@ pub mod ListsC
 pub mod Demand1
 pub mod When
 pub mod Read
+pub mod WrittenFootage
 pub mod AsWritten
 pub mod ReadBack
 pub mod StrictLabels

@@ -154,6 +154,7 @@ promises = record {
   place-else = reading.place-else;
   refused-four = reading.refused-four;
   refused-thirteen = reading.refused-thirteen;
+  marker-absent = reading.marker-absent;
   refused-three = reading.refused-three;
   label-counted = reading.label-counted;
   footage-counted = reading.footage-counted;

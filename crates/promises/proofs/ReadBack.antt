@@ -4,12 +4,11 @@ use Prim.Native.Nat.{ℕ, _≤_}
 use mathlib.Core.Path.{_≡_, refl, sym, ap, _∙_}
 use mathlib.Core.Bool.{Bool, true, false, cond}
 use native.Mathlib.Omega.{arith}
-use borrow.Author.Tests.{leb-true, lt-ltb}
+use borrow.Author.Tests.{leb-true}
 use lib.IntN.{ℤ, natAbs}
 use Rattle.numbers.specs.Sign.{isNeg}
 use Rattle.numbers.specs.Sign as sign
 use Rattle.numbers.specs.SignLaws.{signed-back}
-use Rattle.digits.proofs.Width.{decimal-field}
 use Rattle.answers.specs.Refusals.{mostCount, isCount}
 use Rattle.rates.specs.Rates.{isRate, isDrop}
 use Rattle.timecodes.specs.Timecode.{timecode}
@@ -25,17 +24,20 @@ use Rattle.label_scan.specs.Label.{fittingLabel, labelScan}
 use Rattle.label_scan.proofs.Statements.{label-back}
 use Rattle.footage_scan.specs.Shape.{hasPerf}
 use Rattle.reading.specs.declared.Read.the-variants as read
+use Rattle.reading.specs.declared.Stated.{Stated}
 use Rattle.reading.specs.declared.Stated.the-variants.{Nothing, Format}
 use Rattle.reading.specs.Shaped.{formatFrom, formatFor}
 use Rattle.reading.specs.Reading.{readText}
 use Rattle.reading.specs.ReadingLaws.{label-within}
+use Rattle.reading.specs.Statements.{RateAndFormat}
 use Rattle.label_writer.specs.Sections.{labelFields}
 use Rattle.label_writer.specs.LabelText.{framesMark, labelText}
 use Rattle.label_writer.proofs.Answers.{label-of, label-small, label-parts}
 use Rattle.footage_writer.specs.FootageText.{footageText}
 use Rattle.promises.specs.ReadBack.{LabelsReadBack, FootageReadBack, UnstatedReadBack}
 use Rattle.promises.proofs.Read.{sign-is, four-fields, read-label}
-use Rattle.promises.proofs.AsWritten.{markerDigits, read-as-written, self}
+use Rattle.promises.proofs.WrittenFootage.{marker-there, partsOf}
+use Rattle.promises.proofs.AsWritten.{read-as-written, itself}
 
 -- ---- labels
 mark-divides : (drop : Bool) → isDivider (cond drop 59 58) ≡ true
@@ -66,7 +68,7 @@ labels-read-back rate count r c =
     ∙ ap (λ (z : ℤ). read.Label (timecode z rate)) same
 
 -- ---- footage
--- a format's number is one of a format, and chooses it
+-- a format's number is one of a format
 numbered : (format : FilmFormat) → isFormat (formatNumber format) ≡ true
 unfolding isFormat
 numbered FF35mm4perf = refl
@@ -74,16 +76,20 @@ numbered FF35mm3perf = refl
 numbered FF35mm2perf = refl
 numbered FF16mm = refl
 
+-- in a film format that is stated, or that its marker chooses
+back : (format : FilmFormat) (rate : ℕ) (count : ℤ) → isCount count ≡ true → (stated : Stated) → RateAndFormat stated rate
+    → formatFor stated (hasPerf (partsOf format count .perf)) ≡ format
+    → readText (footageText format count) stated rate ≡ read.Footage (timecode count rate) format
+back format rate count c stated a chosen =
+    read-as-written (footageText format count) stated rate format count a .1 (itself stated format count c chosen, c)
+
 pub footage-read-back : FootageReadBack
 footage-read-back format rate count r c =
-    read-as-written (footageText format count) (Format (formatNumber format)) rate format count (record { rated = r; filmed = numbered format })
-    .1 (self (Format (formatNumber format)) format count c (ap formatFrom (at-number format)), c)
+    back format rate count c (Format (formatNumber format)) (record { rated = r; filmed = numbered format }) (ap formatFrom (at-number format))
 
 pub unstated-read-back : UnstatedReadBack
-unstated-read-back rate count r c = (back FF35mm4perf refl, back FF35mm3perf (ap (formatFor Nothing) (lt-ltb 0 _ (decimal-field 1 _ .some))))
-  where
-    back : (format : FilmFormat) → formatFor Nothing (hasPerf (markerDigits format (footageOf format (natAbs count) .perf))) ≡ format
-        → readText (footageText format count) Nothing rate ≡ read.Footage (timecode count rate) format
-    back format chosen =
-        read-as-written (footageText format count) Nothing rate format count (record { rated = r; filmed = refl })
-        .1 (self Nothing format count c chosen, c)
+unstated-read-back rate count r c =
+    let a : RateAndFormat Nothing rate = record { rated = r; filmed = refl } in (
+      back FF35mm4perf rate count c Nothing a refl,
+      back FF35mm3perf rate count c Nothing a (ap (formatFor Nothing) (marker-there (footageOf FF35mm3perf (natAbs count) .perf))),
+    )

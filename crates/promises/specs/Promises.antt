@@ -159,6 +159,7 @@ pub record Promises : Type 1 where
   pub place-else : reading.PlaceElse
   pub refused-four : reading.RefusedFour
   pub refused-thirteen : reading.RefusedThirteen
+  pub marker-absent : reading.MarkerAbsent
   pub refused-three : reading.RefusedThree
   pub label-counted : reading.LabelCounted
   pub footage-counted : reading.FootageCounted

@@ -5,7 +5,7 @@ use native.Mathlib.Omega.{arith}
 use mathlib.Core.Path.{_≡_, refl, sym, ap, _∙_, subst}
 use mathlib.Core.Logic.{_⊎_, inl, inr, ⊎-elim}
 use mathlib.Core.List.{List}
-use mathlib.Core.Bool.{Bool, true, false}
+use mathlib.Core.Bool.{Bool, true, false, false≢true}
 use borrow.Author.Tests.{eqb-true}
 use lib.Dec.{eqb}
 use Rattle.beginnings.specs.Beginning.{LongestBeginning}
@@ -15,14 +15,19 @@ use Rattle.answers.specs.Laws.{held-in, held-out}
 use Rattle.rates.specs.Rates.{isRate}
 use Rattle.timecodes.specs.declared.Timecode.{Timecode}
 use Rattle.timecodes.specs.Admitted.{Valid}
+use Rattle.digits.specs.Digits.{valueOf}
+use Rattle.film.specs.declared.FilmFormat.{FilmFormat}
+use Rattle.film.specs.Statements.{Occurs}
+use Rattle.footage_scan.specs.Shape.{FootageParts, hasPerf}
+use Rattle.footage_scan.proofs.Statements.{one-footage-shape}
 use Rattle.reading.specs.declared.Stated.{Stated}
 use Rattle.reading.specs.declared.Read.{Read}
 use Rattle.reading.specs.declared.Read.the-variants.{Label, Footage, Refused}
 use Rattle.reading.specs.Answer.{numberOf, placeOf, timecodeOf, asLabel, asFootage}
-use Rattle.reading.specs.Shaped.{isStated, Shaped, label, footage, refused}
-use Rattle.reading.specs.Reading.{readText}
+use Rattle.reading.specs.Shaped.{isStated, formatFor, Shaped, label, footage, refused}
+use Rattle.reading.specs.Reading.{takesPerf, readText}
 use Rattle.reading.specs.ReadingLaws.{no-rate, no-format}
-use Rattle.reading.specs.Statements.{RateAndFormat, ShapesApart, RefusedSix, RefusedOne, RefusedTwo, AllowedShape, PlaceOne, LongShape, PlaceTwo, PlaceElse, RefusedFour, RefusedThirteen, RefusedThree, LabelCounted, FootageCounted, CountOut, RefusedFive, CountBounded, AtRate, ReadValid, NumberMost}
+use Rattle.reading.specs.Statements.{RateAndFormat, ShapesApart, RefusedSix, RefusedOne, RefusedTwo, AllowedShape, PlaceOne, LongShape, PlaceTwo, PlaceElse, RefusedFour, OffFilm, FootageText, RefusedThirteen, MarkerAbsent, RefusedThree, LabelCounted, FootageCounted, CountOut, RefusedFive, CountBounded, AtRate, ReadValid, NumberMost}
 use Rattle.reading.proofs.Shapes as shapes
 use Rattle.reading.proofs.Told.{Behind, Told, told, cause}
 use Rattle.reading.proofs.Told as tells
@@ -80,6 +85,34 @@ refused-four l stated rate a = (λ e. cause l stated rate 4 (omega arith) e .0, 
 
 pub refused-thirteen : RefusedThirteen
 refused-thirteen l stated rate a = (λ e. cause l stated rate 13 (omega arith) e .0, λ x. ap numberOf (gives-not-on-film l stated rate a x))
+
+-- a text that is refused 13 has its own parts and film format, and where it has no marker its frames number is at fault
+unmarked-off : (stated : Stated) (p q : FootageParts) (format : FilmFormat) → q ≡ p → formatFor stated (hasPerf (q .perf)) ≡ format → OffFilm format q
+    → hasPerf (p .perf) ≡ false → ¬ Occurs (formatFor stated false) (valueOf (p .feet)) (valueOf (p .frames))
+unmarked-off stated p q format same chosen off absent =
+    let is : formatFor stated false ≡ format =
+    ap (formatFor stated) (sym (ap (λ (x : FootageParts). hasPerf (x .perf)) same ∙ absent)) ∙ chosen in
+    ⊎-elim
+    (λ never. subst (λ (f : FilmFormat). ¬ Occurs f (valueOf (p .feet)) (valueOf (p .frames))) (sym is)
+    (subst (λ (x : FootageParts). ¬ Occurs format (valueOf (x .feet)) (valueOf (x .frames))) same never))
+    (λ other. absurd (false≢true (sym absent ∙ ap (λ (x : FootageParts). hasPerf (x .perf)) (sym same) ∙ other .0)))
+    off
+
+pub marker-absent : MarkerAbsent
+marker-absent l stated rate p a t absent = (
+  λ e. let x = refused-thirteen l stated rate a .0 e in
+      unmarked-off stated p (x .parts) (x .format) (one-footage-shape l (x .parts) p (x .text .shape) (t .shape)) (x .in-format .chosen) (x .off) absent,
+  λ never. refused-thirteen l stated rate a .1 (record {
+    parts = p;
+    text = t;
+    format = formatFor stated false;
+    in-format = record {
+      chosen = ap (formatFor stated) absent;
+      takes = ap (λ (b : Bool). takesPerf (formatFor stated false) b) absent;
+    };
+    off = inl never;
+  }),
+)
 
 pub refused-three : RefusedThree
 refused-three l stated rate a = (λ e. cause l stated rate 3 (omega arith) e .0, λ x. ap numberOf (gives-dropped l stated rate a (x .0) (x .1)))

@@ -137,6 +137,12 @@ RefusedThirteen =
     (l : List ℕ) (stated : Stated) (rate : ℕ) → RateAndFormat stated rate
     → (numberOf (readText l stated rate) ≡ 13) ↔ FilmRefused l stated
 
+-- an absent marker is allowed: without one, a footage is refused 13 exactly when its frames number does not occur in that foot
+abbrev pub MarkerAbsent : Type 0
+MarkerAbsent =
+    (l : List ℕ) (stated : Stated) (rate : ℕ) (p : FootageParts) → RateAndFormat stated rate → FootageText l p → hasPerf (p .perf) ≡ false
+    → (numberOf (readText l stated rate) ≡ 13) ↔ (¬ Occurs (formatFor stated false) (valueOf (p .feet)) (valueOf (p .frames)))
+
 -- ---- 3
 -- a text is a label with these four fields, none of over 9 digits
 pub record LabelText (l : List ℕ) (minus : Bool) (fields : List ℕ) : Type 0 where
