@@ -2,9 +2,9 @@
 -- Assumes nothing.
 use Prim.Native.Nat.{ℕ, zero, suc, _+_, _-_, _*_, _/_, _%_, _≤_, _<_}
 use native.Mathlib.Omega.{arith}
-use mathlib.Core.Path.{_≡_, refl, ap, subst}
+use mathlib.Core.Path.{_≡_, refl, subst}
 use mathlib.Core.Bool.{Bool, true, false, cond}
-use borrow.Author.Tests.{lt-ltb, le-ltb, ltb-true, ltb-false, eqb-true, eqb-false, eq-eqb, ne-eqb}
+use borrow.Author.Tests.{lt-ltb, le-ltb, ltb-true, ltb-false, eqb-true, eqb-false}
 use lib.Dec.{eqb, ltb}
 use Rattle.film.specs.declared.FilmFormat.{FilmFormat}
 use Rattle.film.specs.declared.FilmFormat.the-variants.{FF35mm4perf, FF35mm3perf, FF35mm2perf, FF16mm}
@@ -14,10 +14,18 @@ use Rattle.film.specs.Statements.{Occurs}
 
 -- ---- 3-perf feet
 pub three-perf-two : (feet : ℕ) → feet % 3 ≡ 2 → framesInFoot FF35mm3perf feet ≡ 22
-three-perf-two feet h = ap (λ (t : Bool). cond t 22 21) (eq-eqb (feet % 3) 2 h)
+three-perf-two feet h = by (leavesTwo feet) refl
+  where
+    by : (t : Bool) → leavesTwo feet ≡ t → _≡_ {A = ℕ} (cond t 22 21) 22
+    by true e = refl
+    by false e = let other = eqb-false (feet % 3) _ e in absurd (omega (arith, other))
 
 pub three-perf-other : (feet : ℕ) → feet % 3 < 2 → framesInFoot FF35mm3perf feet ≡ 21
-three-perf-other feet h = ap (λ (t : Bool). cond t 22 21) (ne-eqb (feet % 3) 2 (λ e. omega arith))
+three-perf-other feet h = by (leavesTwo feet) refl
+  where
+    by : (t : Bool) → leavesTwo feet ≡ t → _≡_ {A = ℕ} (cond t 22 21) 21
+    by true e = absurd (omega (arith, eqb-true (feet % 3) _ e))
+    by false e = refl
 
 -- ---- what is written occurs
 -- in 3-perf a frame ends with a foot's last perf only where the foot leaves 2 modulo 3
