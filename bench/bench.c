@@ -127,6 +127,22 @@ static void agree_on_numbers(void) {
                 agree_on_digits(k, power + near - 100);
 }
 
+static void agree_on_text(const uint8_t *text, size_t length, uint64_t i) {
+    tzq_read_count x = tzq_read(text, length, i % 14), y = plain_read(text, length, i % 14);
+    if (x.refused != y.refused || x.count != y.count || x.format != y.format || x.place != y.place)
+        die("text", i);
+}
+
+/* footages around the last frame of a foot, with no marker and with each digit */
+static void agree_on_footages(void) {
+    for (uint64_t i = 0; i < 40 * 40 * 11; i++) {
+        char text[WIDTH];
+        uint64_t feet = i / 11 / 40, frames = i / 11 % 40, marker = i % 11;
+        int length = snprintf(text, sizeof text, marker < 10 ? "%" PRIu64 "+%02" PRIu64 ".%" PRIu64 : "%" PRIu64 "+%02" PRIu64, feet, frames, marker);
+        agree_on_text((const uint8_t *)text, (size_t)length, i);
+    }
+}
+
 /* texts of the reader's alphabet, most of them refused */
 static void agree_on_texts(void) {
     static const char alphabet[] = "0123456789:;+.- 00000";
@@ -138,9 +154,7 @@ static void agree_on_texts(void) {
             seed = seed * 6364136223846793005u + 1442695040888963407u;
             text[k] = (uint8_t)alphabet[(seed >> 33) % (sizeof alphabet - 1)];
         }
-        tzq_read_count x = tzq_read(text, length, i % 14), y = plain_read(text, length, i % 14);
-        if (x.refused != y.refused || x.count != y.count || x.format != y.format || x.place != y.place)
-            die("text", i);
+        agree_on_text(text, length, i);
     }
 }
 

@@ -136,7 +136,7 @@ enum { NOWHERE = -1 };
 
 static int64_t first_long(int64_t before, size_t at, run r) { return before == NOWHERE && r.digits > 9 ? (int64_t)at : before; }
 
-/* whether so many frames occur in a foot of 4-perf or 3-perf, and a marker that is there is feet modulo 3 */
+/* whether this frames number occurs in a foot of 4-perf or 3-perf, and a marker that is there is feet modulo 3 */
 static bool on_film(uint64_t feet, uint64_t frames, bool perf, uint64_t marker) {
     if (!perf)
         return frames < 16;

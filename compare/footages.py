@@ -17,22 +17,20 @@ import all as comparison
 GAUGES = {1: (4, 64), 2: (3, 64), 3: (2, 64), 4: (1, 20)}
 BOUND = 400_000_000
 
-# feet that begin with a frame, its count, and the marker 0: the film's beginning; feet of many digits; where the bound on counts is passed;
-# and feet far behind it, the last of nine digits among them
-STARTS = {
-    1: [(0, 0), (99_999, 1_599_984), (24_999_999, 399_999_984), (999_999_996, 15_999_999_936)],
-    2: [(0, 0), (99_999, 2_133_312), (18_749_997, 399_999_936), (999_999_996, 21_333_333_248)],
-    3: [(0, 0), (99_999, 3_199_968), (12_499_998, 399_999_936), (999_999_996, 31_999_999_872)],
-    4: [(0, 0), (99_999, 1_999_980), (19_999_998, 399_999_960), (999_999_996, 19_999_999_920)],
-}
+# frames in three feet, which begin and end with a frame and with the marker 0
+IN_THREE = {1: 48, 2: 64, 3: 96, 4: 60}
+
+# where the walks begin: the film's beginning; feet of five digits; where each format passes the bound on counts; the last feet of nine digits
+STARTS = [0, 99_999, 12_499_998, 18_749_997, 19_999_998, 24_999_999, 999_999_996]
 
 
 @lru_cache(maxsize=None)
-def walk(form, foot, frame, feet):
+def walk(form, foot, feet):
     """From where a foot, a frame and three feet begin together, for so many feet: the count of each frame by its foot and its number in
     that foot; and each foot's marker."""
     perfs_a_frame, perfs_a_foot = GAUGES[form]
     met, markers = {}, {}
+    frame = foot // 3 * IN_THREE[form]
     of_frame = of_foot = number = marker = 0
     for _ in range(feet * perfs_a_foot):
         markers[foot] = marker
@@ -51,7 +49,7 @@ def right(start, feet, stated, minus, foot, number, marker):
     if marker is not None and stated not in (None, 2):
         return b"refused 4 0"
     form = stated or (1 if marker is None else 2)
-    met, markers = walk(form, *STARTS[form][start], feet)
+    met, markers = walk(form, start, feet)
     if (foot, number) not in met or marker not in (None, markers[foot]):
         return b"refused 13 0"
     count = met[foot, number]
@@ -59,13 +57,14 @@ def right(start, feet, stated, minus, foot, number, marker):
 
 
 MARKERS = [b"", *(b".%0*d" % (width, n) for width in (1, 2) for n in range(10**width)), b".000", b".002", b".003", b".000000001", b".999999999"]
+NUMBERS = [*range(35), 63, 64, 999_999_999]
 
 
-def commands(quick, start, stated, first):
+def commands(quick, start, stated):
     """Every frames number past the last one of a foot, with every marker, from a foot on; with a sign and zeros in front, and without."""
-    feet = 3 if quick else 9
+    feet = min(3 if quick else 9, 10**9 - start)
     ask = b"read 5 " if stated is None else b"read_as %d 5 " % stated
-    for foot, number, perf in product(range(first, min(first + feet, 10**9)), [*range(35), 63, 64, 999_999_999], MARKERS):
+    for foot, number, perf in product(range(start, start + feet), NUMBERS, [*MARKERS[:5], *MARKERS[5:: 12 if quick else 1]]):
         marker = int(perf[1:]) if perf else None
         for minus in (False, True):
             wide = minus and (foot + number) % 2 == 0
@@ -81,13 +80,8 @@ def work(job):
 
 
 def jobs(quick, ask):
-    """With no format stated every start's feet are walked in 4-perf and 3-perf, so those of 4-perf and 3-perf must be the same there."""
-    for start in range(4):
-        for stated in (1, 2, 3, 4):
-            yield ask, quick, start, stated, STARTS[stated][start][0]
-    yield ask, quick, 0, None, 0
-    yield ask, quick, 1, None, 99_999
-    yield ask, quick, 3, None, 999_999_996
+    for start, stated in product(STARTS, (None, *GAUGES)):
+        yield ask, quick, start, stated
 
 
 def main():

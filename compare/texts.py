@@ -85,7 +85,7 @@ def on_film(random, count):
 
 
 def footage_scan(random, rate):
-    """A footage, with a perf field or none; four in ten as written for a count or nearly so, two in ten near a bound."""
+    """A footage, with a perf field or none; three in ten as written for a count or nearly so, two in ten near a bound."""
     chance = random.random()
     if chance < 0.3:
         return sign(random) + on_film(random, near_bound(random) if chance < 0.1 else random.randint(0, BOUND >> random.randint(0, 28)))

@@ -43,7 +43,7 @@ enum {
     TZQ_CUT_SHORT = 10,    /* the body of a record is cut short */
     TZQ_NO_RATE_YET = 11,  /* a shot before any rate */
     TZQ_END_BEFORE_FIRST = 12, /* a shot's end before its first frame */
-    TZQ_NOT_ON_FILM = 13   /* a footage's frames number does not occur in that foot, or its marker is not that foot's */
+    TZQ_NOT_ON_FILM = 13   /* a footage's frames number does not occur in that foot, or its perf field, if any, is not feet modulo 3 */
 };
 
 /* ---- Numbers that are passed and answered ---- */
@@ -107,9 +107,9 @@ typedef struct { uint64_t refused; size_t records; } tzq_checked;
 /* What the `length` bytes of text read as at a rate, with no film format stated.
  * A label: optional `-`, one to four fields of digits divided by `:` or `;`, the last is frames, then leftward seconds, minutes, hours.
  * A footage: optional `-`, feet, `+`, frames, optionally `.` and a perf field; with a perf field it is 3-perf, without 4-perf.
- * A foot has 16, 32 or 20 frames in 4-perf, 2-perf and 16 mm, and in 3-perf 22 where feet modulo 3 is 2, else 21; frames are numbered from
- * 0. The perf field, if there is one, must be feet modulo 3 by value.
  * The whole text counts, nothing around it. Refuses 6: no such rate; 1, 2; 13: a footage that cannot be on the film; 3, 5.
+ * The frames of a foot are numbered from 0: 4-perf has 16 a foot, 2-perf 32, 16 mm 20, and 3-perf 22 where feet modulo 3 is 2, else 21. A
+ * frames number that the foot has not, or a perf field that is not feet modulo 3 by value, is refused 13, whatever the sign.
  * `place` is the byte of the text, from 0, where it went wrong. Refused 1: the length of the longest beginning of the text that also
  * begins some label or footage, so text[place], if the text goes that far, is the byte that none has there. Refused 2: the first digit
  * of the first field that is too long. Else 0. */

@@ -9,7 +9,7 @@ use crate::handed::TzqRead;
 use reading::Stated;
 
 // What a text reads as at a rate, with no film format stated: a label or a footage. Refuses 6: no such rate; 1: no shape; 2: a field of
-// over 9 digits; 3: a dropped label; 5: the count is out of bounds.
+// over 9 digits; 13: a footage that cannot be on the film; 3: a dropped label; 5: the count is out of bounds.
 #[no_mangle]
 pub extern "C" fn tzq_read(text: &[u8], rate: u64) -> TzqRead
     ensures answer { λ r. ⌜ r ≡ handedRead (readText (now (text .entry)) Stated.Nothing rate) ⌝ }
@@ -18,7 +18,8 @@ pub extern "C" fn tzq_read(text: &[u8], rate: u64) -> TzqRead
 }
 
 // What a text reads as at a rate, with a film format stated: a footage only. Refuses 6: no such rate or film format; 1: no shape; 2: a
-// field of over 9 digits; 4: a perf field with a format that has none; 5: the count is out of bounds.
+// field of over 9 digits; 4: a perf field with a format that has none; 13: a footage that cannot be on the film; 5: the count is out of
+// bounds.
 #[no_mangle]
 pub extern "C" fn tzq_read_as(text: &[u8], format: u64, rate: u64) -> TzqRead
     ensures answer { λ r. ⌜ r ≡ handedRead (readText (now (text .entry)) (Stated.Format format) rate) ⌝ }

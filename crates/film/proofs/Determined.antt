@@ -10,8 +10,6 @@ use Rattle.film.proofs.FilmFormat.perfs_per_foot as perfs-per-foot
 use Rattle.film.proofs.FilmFormat.perfs_per_foot.Reads as perfs-per-foot-reads
 use Rattle.film.proofs.FilmFormat.allows_perf_field as allows-perf-field
 use Rattle.film.proofs.FilmFormat.allows_perf_field.Reads as allows-perf-field-reads
-use Rattle.film.proofs.FilmFormat.frames_in_foot as frames-in-foot
-use Rattle.film.proofs.FilmFormat.frames_in_foot.Reads as frames-in-foot-reads
 use Rattle.film.proofs.format_at as format-at
 use Rattle.film.proofs.format_at.Reads as format-at-reads
 use Rattle.film.proofs.on_film as on-film
@@ -32,9 +30,6 @@ perfs-per-foot-determined κs a asked x y p q = ap (λ z. (z, x .1)) (p ∙ sym 
 
 pub allows-perf-field-determined : Determined allows-perf-field.ended allows-perf-field-reads.Asked allows-perf-field-reads.Learnt
 allows-perf-field-determined κs a asked x y p q = ap (λ z. (z, x .1)) (p ∙ sym q)
-
-pub frames-in-foot-determined : Determined frames-in-foot.ended frames-in-foot-reads.Asked frames-in-foot-reads.Learnt
-frames-in-foot-determined κs a asked x y p q = ap (λ z. (z, x .1)) (p ∙ sym q)
 
 pub format-at-determined : Determined format-at.ended format-at-reads.Asked format-at-reads.Learnt
 format-at-determined κs a asked x y p q = ap (λ z. (z, x .1)) (p ∙ sym q)

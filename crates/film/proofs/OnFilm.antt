@@ -47,7 +47,7 @@ three-below f false e = by (ltb (lastPerf f 3 % 64 / 3) 21) refl
         let last : lastPerf f 3 % 64 ≡ 63 = omega (arith, ltb-false (lastPerf f 3 % 64 / 3) 21 past) in
         absurd (ends-with-foot f (lastPerf f 3 / 64 / 3) (lastPerf f 3 / 64 % 3) left (omega arith))
 
-pub written-below : (format : FilmFormat) (f : ℕ) → footageOf format f .frames < framesInFoot format (footageOf format f .feet)
+written-below : (format : FilmFormat) (f : ℕ) → footageOf format f .frames < framesInFoot format (footageOf format f .feet)
 unfolding footageOf
 written-below FF35mm4perf f = omega arith
 written-below FF35mm3perf f = three-below f (leavesTwo (lastPerf f 3 / 64)) refl
@@ -84,15 +84,15 @@ occurs-below format feet frames o =
     (subst (λ (x : ℕ). footageOf format (o .count) .frames < framesInFoot format x) (o .feet-of) (written-below format (o .count)))
 
 -- ---- by the tests, one after the other
-module _ (format : FilmFormat) (feet frames : ℕ) (perf : Bool) (marker : ℕ) where
-  pub onFilm-past : framesInFoot format feet ≤ frames → onFilm format feet frames perf marker ≡ false
+module _ (format : FilmFormat) (feet frames : ℕ) (marked : Bool) (marker : ℕ) where
+  pub onFilm-past : framesInFoot format feet ≤ frames → onFilm format feet frames marked marker ≡ false
   unfolding onFilm
   onFilm-past h = rw (le-ltb frames (framesInFoot format feet) h)
 
-  pub onFilm-unmarked : frames < framesInFoot format feet → perf ≡ false → onFilm format feet frames perf marker ≡ true
+  pub onFilm-unmarked : frames < framesInFoot format feet → marked ≡ false → onFilm format feet frames marked marker ≡ true
   unfolding onFilm
   onFilm-unmarked h e = rw (lt-ltb frames (framesInFoot format feet) h, e)
 
-  pub onFilm-marked : frames < framesInFoot format feet → perf ≡ true → onFilm format feet frames perf marker ≡ eqb marker (feet % 3)
+  pub onFilm-marked : frames < framesInFoot format feet → marked ≡ true → onFilm format feet frames marked marker ≡ eqb marker (feet % 3)
   unfolding onFilm
   onFilm-marked h e = rw (lt-ltb frames (framesInFoot format feet) h, e)

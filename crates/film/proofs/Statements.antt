@@ -1,19 +1,20 @@
 -- The statements of specs/Statements.antt, proved: by the four formats, and by the tests of a footage.
 -- Assumes nothing.
-use Prim.Native.Nat.{ℕ, _%_, _<_}
+use Prim.Native.Nat.{ℕ, _%_}
 use native.Mathlib.Omega.{arith}
-use mathlib.Core.Path.{_≡_, refl, sym, ap, ap₂, _∙_, subst}
+use mathlib.Core.Path.{_≡_, refl, sym, ap, ap₂, _∙_}
 use mathlib.Core.Bool.{Bool, true, false, not, _&&_, _||_, false≢true}
 use mathlib.Core.Logic.{_⊎_, inl, inr, ⊎-elim}
 use borrow.Author.Tests.{ltb-true, ltb-false, eqb-true, eqb-false}
 use lib.Dec.{eqb, ltb}
 use Rattle.film.specs.declared.FilmFormat.{FilmFormat}
 use Rattle.film.specs.declared.FilmFormat.the-variants.{FF35mm4perf, FF35mm3perf, FF35mm2perf, FF16mm}
-use Rattle.film.specs.Film.{formatAt, allowsPerfField}
+use Rattle.film.specs.Film.{perfsPerFrame, perfsPerFoot, formatAt, allowsPerfField}
 use Rattle.film.specs.Footage.{footageCount, footageOf}
 use Rattle.film.specs.OnFilm.{framesInFoot, onFilm}
-use Rattle.film.specs.FormatLaws.{at-number, formatAt-told}
-use Rattle.film.specs.Statements.{FormatNumbered, OnlyThreePerf, FootageBack, Occurs, FramesInFoot, ThreePerfFrames, OnFilmExactly, OffFilmExactly, FootageForth}
+use Rattle.film.specs.FormatLaws.{at-number, formatAt-told, frame-perfs, foot-perfs}
+use Rattle.film.specs.Statements.{FormatNumbered, OnlyThreePerf, FootageBack, FootageNext, FramesInFoot, ThreePerfFrames, OnFilm, OffFilm, OnFilmExactly, OffFilmExactly, FootageForth}
+use Rattle.film.proofs.Next.{first, next}
 use Rattle.film.proofs.OnFilm.{three-perf-two, three-perf-other, below-occurs, occurs-below}
 
 pub format-numbered : FormatNumbered
@@ -32,6 +33,13 @@ footage-back FF35mm3perf f = omega arith
 footage-back FF35mm2perf f = omega arith
 footage-back FF16mm f = omega arith
 
+pub footage-next : FootageNext
+unfolding footageOf
+footage-next format =
+    let P = frame-perfs format in
+    let foot = foot-perfs format in
+    (first (perfsPerFrame format) (perfsPerFoot format) (P .0) (omega arith), λ f. next (perfsPerFrame format) (perfsPerFoot format) (P .0) (omega arith) f)
+
 -- ---- which footages can be on the film
 pub frames-in-foot : FramesInFoot
 frames-in-foot feet frames = (
@@ -48,45 +56,40 @@ three-perf-frames feet frames = (
       (λ o. omega (arith, occurs-below FF35mm3perf feet frames o), λ l. below-occurs FF35mm3perf feet frames (omega arith)),
 )
 
--- what a footage that can be on the film has, and what one that cannot
-abbrev On : FilmFormat → (feet frames : ℕ) (perf : Bool) (marker : ℕ) → Type 0
-On format feet frames perf marker = Occurs format feet frames × (perf ≡ true → marker ≡ feet % 3)
-
-abbrev Off : FilmFormat → (feet frames : ℕ) (perf : Bool) (marker : ℕ) → Type 0
-Off format feet frames perf marker = (¬ Occurs format feet frames) ⊎ ((perf ≡ true) × ¬ (marker ≡ feet % 3))
-
-module _ (format : FilmFormat) (feet frames : ℕ) (perf : Bool) (marker : ℕ) where
+module _ (format : FilmFormat) (feet frames : ℕ) (marked : Bool) (marker : ℕ) where
   -- by its two tests, passed or not
-  tested : (p s t : Bool) → ltb frames (framesInFoot format feet) ≡ s → eqb marker (feet % 3) ≡ t
-      → (((s && (not p || t)) ≡ true) × On format feet frames p marker) ⊎ (((s && (not p || t)) ≡ false) × Off format feet frames p marker)
-  tested p false t e f =
+  tested : (m s t : Bool) → ltb frames (framesInFoot format feet) ≡ s → eqb marker (feet % 3) ≡ t
+      → (((s && (not m || t)) ≡ true) × OnFilm format feet frames m marker) ⊎ (((s && (not m || t)) ≡ false) × OffFilm format feet frames m marker)
+  tested m false t e f =
       let past = ltb-false frames (framesInFoot format feet) e in
       inr (refl, inl (λ o. omega (arith, occurs-below format feet frames o)))
   tested false true t e f =
-      inl (refl, (below-occurs format feet frames (ltb-true frames (framesInFoot format feet) e), λ h. absurd (false≢true h)))
+      let there = below-occurs format feet frames (ltb-true frames (framesInFoot format feet) e) in
+      inl (refl, record { occurs = there; modulo = λ h. absurd (false≢true h) })
   tested true true true e f =
-      inl (refl, (below-occurs format feet frames (ltb-true frames (framesInFoot format feet) e), λ h. eqb-true marker (feet % 3) f))
+      let there = below-occurs format feet frames (ltb-true frames (framesInFoot format feet) e) in
+      inl (refl, record { occurs = there; modulo = λ h. eqb-true marker (feet % 3) f })
   tested true true false e f = inr (refl, inr (refl, eqb-false marker (feet % 3) f))
 
-  judged : ((onFilm format feet frames perf marker ≡ true) × On format feet frames perf marker)
-      ⊎ ((onFilm format feet frames perf marker ≡ false) × Off format feet frames perf marker)
+  judged : ((onFilm format feet frames marked marker ≡ true) × OnFilm format feet frames marked marker)
+      ⊎ ((onFilm format feet frames marked marker ≡ false) × OffFilm format feet frames marked marker)
   unfolding onFilm
-  judged = tested perf (ltb frames (framesInFoot format feet)) (eqb marker (feet % 3)) refl refl
+  judged = tested marked (ltb frames (framesInFoot format feet)) (eqb marker (feet % 3)) refl refl
 
   -- no footage has both
-  apart : On format feet frames perf marker → Off format feet frames perf marker → ⊥
-  apart on off = ⊎-elim (λ never. never (on .0)) (λ other. other .1 (on .1 (other .0))) off
+  apart : OnFilm format feet frames marked marker → OffFilm format feet frames marked marker → ⊥
+  apart on off = ⊎-elim (λ never. never (on .occurs)) (λ other. other .1 (on .modulo (other .0))) off
 
 pub on-film-exactly : OnFilmExactly
-on-film-exactly format feet frames perf marker = (
-  λ e. ⊎-elim (λ x. x .1) (λ x. absurd (false≢true (sym (x .0) ∙ e))) (judged format feet frames perf marker),
-  λ on. ⊎-elim (λ x. x .0) (λ x. absurd (apart format feet frames perf marker on (x .1))) (judged format feet frames perf marker),
+on-film-exactly format feet frames marked marker = (
+  λ e. ⊎-elim (λ x. x .1) (λ x. absurd (false≢true (sym (x .0) ∙ e))) (judged format feet frames marked marker),
+  λ on. ⊎-elim (λ x. x .0) (λ x. absurd (apart format feet frames marked marker on (x .1))) (judged format feet frames marked marker),
 )
 
 pub off-film-exactly : OffFilmExactly
-off-film-exactly format feet frames perf marker = (
-  λ e. ⊎-elim (λ x. absurd (false≢true (sym e ∙ x .0))) (λ x. x .1) (judged format feet frames perf marker),
-  λ off. ⊎-elim (λ x. absurd (apart format feet frames perf marker (x .1) off)) (λ x. x .0) (judged format feet frames perf marker),
+off-film-exactly format feet frames marked marker = (
+  λ e. ⊎-elim (λ x. absurd (false≢true (sym e ∙ x .0))) (λ x. x .1) (judged format feet frames marked marker),
+  λ off. ⊎-elim (λ x. absurd (apart format feet frames marked marker (x .1) off)) (λ x. x .0) (judged format feet frames marked marker),
 )
 
 -- the count of feet and frames that occur is the one that they occur in

@@ -28,14 +28,6 @@ count-ge FF35mm3perf feet frames = (omega arith, omega arith)
 count-ge FF35mm2perf feet frames = (omega arith, omega arith)
 count-ge FF16mm feet frames = (omega arith, omega arith)
 
--- no feet and no frames are none
-pub count-none : (format : FilmFormat) → footageCount format 0 0 ≡ 0
-unfolding footageCount
-count-none FF35mm4perf = refl
-count-none FF35mm3perf = refl
-count-none FF35mm2perf = refl
-count-none FF16mm = refl
-
 -- the frames of a count, and the last one's perfs, are at most four times as many perfs
 pub perfs-le : (format : FilmFormat) (f P : ℕ) → P ≡ perfsPerFrame format → (0 < P) × (f * P + P ≤ 4 * f + 4)
 perfs-le format f P e =

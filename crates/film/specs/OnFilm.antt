@@ -19,10 +19,10 @@ framesInFoot FF35mm3perf feet = cond (leavesTwo feet) 22 21
 framesInFoot FF35mm2perf feet = 32
 framesInFoot FF16mm feet = 20
 
--- the frames number occurs in that foot, and the marker is absent or, by value, feet modulo 3
-unfoldable pub onFilm : FilmFormat → (feet frames : ℕ) (perf : Bool) (marker : ℕ) → Bool
-onFilm format feet frames perf marker = ltb frames (framesInFoot format feet) && (not perf || eqb marker (feet % 3))
+-- the frames number occurs in that foot, and the marker, if the footage is marked, is feet modulo 3, by value
+unfoldable pub onFilm : FilmFormat → (feet frames : ℕ) (marked : Bool) (marker : ℕ) → Bool
+onFilm format feet frames marked marker = ltb frames (framesInFoot format feet) && (not marked || eqb marker (feet % 3))
 
 -- 13: a footage that cannot be on the film
-abbrev pub badFootage : FilmFormat → (feet frames : ℕ) (perf : Bool) (marker : ℕ) → Condition
-badFootage format feet frames perf marker = when notOnFilm (not (onFilm format feet frames perf marker))
+abbrev pub badFootage : FilmFormat → (feet frames : ℕ) (marked : Bool) (marker : ℕ) → Condition
+badFootage format feet frames marked marker = when notOnFilm (not (onFilm format feet frames marked marker))

@@ -1,6 +1,6 @@
 -- What holds of film beyond one call (BEHAVIOUR: Footage): the statements, in order. Proofs: proofs/Statements.antt.
 -- Assumes nothing.
-use Prim.Native.Nat.{ℕ, _%_, _<_}
+use Prim.Native.Nat.{ℕ, _+_, _%_, _<_}
 use mathlib.Core.Path.{_≡_}
 use mathlib.Core.Bool.{Bool, true, false}
 use mathlib.Core.Logic.{_↔_, _⊎_}
@@ -24,36 +24,54 @@ abbrev pub FootageBack : Type 0
 FootageBack =
     (format : FilmFormat) (f : ℕ) → footageCount format (footageOf format f .feet) (footageOf format f .frames) ≡ f
 
+-- writing goes along the film: count 0 is the first frame of foot 0, and each next count the next frame of its foot, or the first of the next foot
+abbrev pub FootageNext : Type 0
+FootageNext =
+    (format : FilmFormat)
+    → ((footageOf format 0 .feet ≡ 0) × (footageOf format 0 .frames ≡ 0))
+    × ((f : ℕ)
+    → ((footageOf format (f + 1) .feet ≡ footageOf format f .feet) × (footageOf format (f + 1) .frames ≡ footageOf format f .frames + 1))
+    ⊎ ((footageOf format (f + 1) .feet ≡ footageOf format f .feet + 1) × (footageOf format (f + 1) .frames ≡ 0)))
+
 -- ---- which footages can be on the film
--- a frames number occurs in a foot: some count is written with that number in that foot
+-- a frames number occurs in a foot: some count, within its bounds or not, has by the writing formula that number in that foot
 pub record Occurs (format : FilmFormat) (feet frames : ℕ) : Type 0 where
   pub count : ℕ
   pub feet-of : footageOf format count .feet ≡ feet
   pub frames-of : footageOf format count .frames ≡ frames
 
--- the frames that occur in a foot, being those of some count, are 16, 32 and 20 in each foot of 4-perf, 2-perf and 16 mm
+-- the frames numbers that occur in a foot, being those of some count, are those below 16, 32 and 20 in 4-perf, 2-perf and 16 mm
 abbrev pub FramesInFoot : Type 0
 FramesInFoot =
     (feet frames : ℕ)
     → (Occurs FF35mm4perf feet frames ↔ (frames < 16)) × (Occurs FF35mm2perf feet frames ↔ (frames < 32)) × (Occurs FF16mm feet frames ↔ (frames < 20))
 
--- and 21 in 3-perf feet that leave 0 or 1 modulo 3, 22 in those that leave 2
+-- and in 3-perf those below 21 in feet that leave 0 or 1 modulo 3, and below 22 in those that leave 2
 abbrev pub ThreePerfFrames : Type 0
 ThreePerfFrames =
     (feet frames : ℕ)
     → (feet % 3 < 2 → Occurs FF35mm3perf feet frames ↔ (frames < 21)) × (feet % 3 ≡ 2 → Occurs FF35mm3perf feet frames ↔ (frames < 22))
 
--- a footage can be on the film exactly when its frames number occurs in that foot, and its marker, if present, is feet modulo 3
+-- a footage can be on the film: its frames number occurs in that foot, and its marker, if present, is feet modulo 3
+pub record OnFilm (format : FilmFormat) (feet frames : ℕ) (marked : Bool) (marker : ℕ) : Type 0 where
+  pub occurs : Occurs format feet frames
+  pub modulo : marked ≡ true → marker ≡ feet % 3
+
+-- it cannot: its frames number does not occur in that foot, or its marker is present and is not feet modulo 3
+abbrev pub OffFilm : FilmFormat → (feet frames : ℕ) (marked : Bool) (marker : ℕ) → Type 0
+OffFilm format feet frames marked marker = (¬ Occurs format feet frames) ⊎ ((marked ≡ true) × ¬ (marker ≡ feet % 3))
+
+-- what is tested of a footage is that it can be on the film, exactly
 abbrev pub OnFilmExactly : Type 0
 OnFilmExactly =
-    (format : FilmFormat) (feet frames : ℕ) (perf : Bool) (marker : ℕ)
-    → (onFilm format feet frames perf marker ≡ true) ↔ (Occurs format feet frames × (perf ≡ true → marker ≡ feet % 3))
+    (format : FilmFormat) (feet frames : ℕ) (marked : Bool) (marker : ℕ)
+    → (onFilm format feet frames marked marker ≡ true) ↔ OnFilm format feet frames marked marker
 
--- and cannot exactly when its frames number does not occur in that foot, or its marker is present and is not feet modulo 3
+-- and where that fails, it cannot, exactly
 abbrev pub OffFilmExactly : Type 0
 OffFilmExactly =
-    (format : FilmFormat) (feet frames : ℕ) (perf : Bool) (marker : ℕ)
-    → (onFilm format feet frames perf marker ≡ false) ↔ ((¬ Occurs format feet frames) ⊎ ((perf ≡ true) × ¬ (marker ≡ feet % 3)))
+    (format : FilmFormat) (feet frames : ℕ) (marked : Bool) (marker : ℕ)
+    → (onFilm format feet frames marked marker ≡ false) ↔ OffFilm format feet frames marked marker
 
 -- feet and frames that occur are those that are written of their count, and the marker is feet modulo 3
 abbrev pub FootageForth : Type 0

@@ -76,7 +76,7 @@ impl FilmFormat {
     }
 
     // How many frames a foot has: those whose last perf lies in it.
-    pub fn frames_in_foot(self, feet: u64) -> u64
+    fn frames_in_foot(self, feet: u64) -> u64
         ensures answer { λ r. ⌜ r ≡ framesInFoot self feet ⌝ }
     {
         match self {
@@ -93,14 +93,14 @@ impl FilmFormat {
     }
 }
 
-// Whether a footage can be on the film: its frames number occurs in that foot, and a marker that is present is feet modulo 3.
-pub fn on_film(format: FilmFormat, feet: u64, frames: u64, perf: bool, marker: u64) -> bool
-    ensures answer { λ r. ⌜ r ≡ onFilm format feet frames perf marker ⌝ }
+// Whether a footage can be on the film: its frames number occurs in that foot, and its marker, if it is marked, is feet modulo 3.
+pub fn on_film(format: FilmFormat, feet: u64, frames: u64, marked: bool, marker: u64) -> bool
+    ensures answer { λ r. ⌜ r ≡ onFilm format feet frames marked marker ⌝ }
 {
     if frames >= format.frames_in_foot(feet) {
         return false;
     }
-    if !perf {
+    if !marked {
         return true;
     }
     marker == feet % 3

@@ -6,7 +6,7 @@ use mathlib.Core.List.{List, [], _∷_, _++_, append-nil, append-assoc}
 use mathlib.Core.Bool.{Bool, true, false}
 use native.Mathlib.Omega.{arith}
 use lib.ListN.{length}
-use borrow.Author.Tests.{lt-ltb}
+use borrow.Author.Tests.{lt-ltb, ltb-false}
 use Rattle.beginnings.specs.Beginning.{LongestBeginning}
 use Rattle.digits.specs.Digits.{allDigits, IsField, valueFrom, valueOf, decimal}
 use Rattle.digits.proofs.Width.{decimal-back}
@@ -21,7 +21,7 @@ use Rattle.scanner.proofs.Statements.{one-text-shape, text-bounded, fields-coun
 use Rattle.footage_scan.specs.declared.FootageScan.{FootageScan}
 use Rattle.footage_scan.specs.Shape.{footageGrammar, footageParts, asText, hasPerf, footageLong, HasFootageShape, FootageParts, FootageShape, IsFootage, LongFootage}
 use Rattle.footage_scan.specs.Footage.{fittingFootage, footageFrom, footageScan}
-use Rattle.footage_scan.specs.Statements.{FootageReads, FootageFits, FootageTooLong, FootageNoShape, OneFootageShape, FootageBelow, FootageTextBack}
+use Rattle.footage_scan.specs.Statements.{FootageReads, PerfPresent, FootageFits, FootageTooLong, FootageNoShape, OneFootageShape, FootageBelow, FootageTextBack}
 
 -- ---- a footage's grammar asks for two fields
 pub record Two (fields : List (List ℕ)) : Type 0 where
@@ -64,6 +64,10 @@ footage-reads l p shape short =
     let perf = neither (isLong (length (p .perf))) (fieldsLong (p .feet ∷ p .frames ∷ [])) short .0 in
     ap footageFrom (text-short footageGrammar l (asText p) shape short)
     ∙ ap (fittingFootage (p .minus) (valueOf (p .feet)) (valueOf (p .frames)) (hasPerf (p .perf))) (value-short (p .perf) perf)
+
+pub perf-present : PerfPresent
+perf-present [] = (λ e. refl, λ e. refl)
+perf-present (b ∷ perf) = (λ e. let none = ltb-false 0 (length (b ∷ perf)) e in absurd (omega arith), λ e. ap hasPerf e)
 
 pub footage-fits : FootageFits
 unfolding footageScan

@@ -3,7 +3,7 @@
 use Prim.Native.Nat.{ℕ, _^_, _<_}
 use mathlib.Core.Path.{_≡_}
 use mathlib.Core.Logic.{_↔_}
-use mathlib.Core.List.{List, _∷_, _++_}
+use mathlib.Core.List.{List, [], _∷_, _++_}
 use mathlib.Core.Bool.{Bool, true, false}
 use Rattle.beginnings.specs.Beginning.{LongestBeginning}
 use Rattle.digits.specs.Digits.{valueOf, decimal}
@@ -18,6 +18,10 @@ abbrev pub FootageReads : Type 0
 FootageReads =
     (l : List ℕ) (p : FootageParts) → FootageShape l p → footageLong p ≡ false
     → footageScan l ≡ fittingFootage (p .minus) (valueOf (p .feet)) (valueOf (p .frames)) (hasPerf (p .perf)) (valueOf (p .perf))
+
+-- a perf field is present exactly when it has a digit: of any value and any number of digits
+abbrev pub PerfPresent : Type 0
+PerfPresent = (perf : List ℕ) → (hasPerf perf ≡ false) ↔ (perf ≡ [])
 
 -- a text fits exactly when it has the shape, and no field has over 9 digits
 abbrev pub FootageFits : Type 0

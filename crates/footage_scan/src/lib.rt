@@ -1,4 +1,4 @@
-// A footage's text taken apart: its sign, its feet and frames, whether it has a perf field and what that marks, or why it is none.
+// A footage's text taken apart: its sign, its feet and frames, whether it has a perf field and its marker, or why it is none.
 ghost use mathlib.Core.Path.{_≡_};
 ghost use Rattle.footage_scan.specs.Footage.{footageScan};
 use scanner::Dividers;

@@ -14,7 +14,7 @@ use Rattle.reading.specs.declared.Read.{Read}
 use Rattle.reading.specs.declared.Read.the-variants as read
 use Rattle.reading.specs.Answer.{numberOf}
 use Rattle.reading.specs.Reading.{readText}
-use Rattle.reading.proofs.Statements.{read-valid, number-most}
+use Rattle.reading.proofs.Statements.{read-valid, numbers-given}
 use Rattle.lines.specs.Input.{rateIn, textIn, isLine, lineHolds, lineOf}
 use Rattle.lines.proofs.Begun.{not-line, line-held}
 
@@ -27,7 +27,7 @@ read-sound : (text : List ℕ) (rate : ℕ) (r : Read) → readText text Nothing
 read-sound text rate (read.Label tc) e = read-valid text Nothing rate tc .0 e
 read-sound text rate (read.Footage tc format) e = read-valid text Nothing rate tc .1 format e
 read-sound text rate (read.Refused f) e =
-    subst (λ (x : Read). numberOf x < 100) e (⊎-elim (λ h. omega arith) (λ h. omega arith) (number-most text Nothing rate))
+    subst (λ (x : Read). numberOf x < 100) e (⊎-elim (λ h. omega arith) (λ h. omega arith) (numbers-given text Nothing rate))
 
 pub line-sound : (l : List ℕ) → Sound (lineOf l)
 line-sound l = by (isLine l) refl

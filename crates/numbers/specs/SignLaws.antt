@@ -24,16 +24,14 @@ signed-back (pos m) = refl
 signed-back (negsuc m) = refl
 
 -- a sign is that of the number, unless this is zero, of which any sign will do
-pub isNeg-signed : (minus : Bool) (m : ℕ) → (minus ≡ isNeg (signed minus m)) ⊎ (m ≡ 0)
+pub isNeg-signed : (minus : Bool) (m : ℕ) → (minus ≡ isNeg (signed minus m)) ⊎ (signed minus m ≡ pos 0)
 isNeg-signed false m = inl refl
 isNeg-signed true zero = inr refl
 isNeg-signed true (suc m) = inl refl
 
-pub signed-zero : (minus : Bool) (z : ℤ) → natAbs z ≡ 0 → signed minus (natAbs z) ≡ z
-signed-zero false (pos zero) e = refl
-signed-zero true (pos zero) e = refl
-signed-zero minus (pos (suc m)) e = absurd (omega arith)
-signed-zero minus (negsuc m) e = absurd (omega arith)
+pub signed-none : (minus : Bool) → signed minus 0 ≡ pos 0
+signed-none true = refl
+signed-none false = refl
 
 pub isNeg-neg : (m : ℕ) → 0 < m → isNeg (negℤ (pos m)) ≡ true
 isNeg-neg zero h = absurd (omega arith)

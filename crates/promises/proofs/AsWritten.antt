@@ -3,20 +3,19 @@
 use Prim.Native.Nat.{ℕ, _%_}
 use mathlib.Core.Path.{_≡_, refl, sym, ap, ap₂, _∙_, subst}
 use mathlib.Core.Logic.{_⊎_, inl, inr, ⊎-elim}
-use mathlib.Core.List.{List, []}
+use mathlib.Core.List.{List}
 use mathlib.Core.Bool.{Bool, true}
-use native.Mathlib.Omega.{arith}
-use lib.IntN.{ℤ, natAbs}
+use lib.IntN.{ℤ, pos, natAbs}
 use Rattle.numbers.specs.Sign.{isNeg, signed}
-use Rattle.numbers.specs.SignLaws.{abs-signed, signed-back, isNeg-signed, signed-zero}
-use Rattle.digits.specs.Digits.{allDigits, valueFrom, valueOf, decimal}
+use Rattle.numbers.specs.SignLaws.{abs-signed, signed-back, isNeg-signed, signed-none}
+use Rattle.digits.specs.Digits.{valueOf}
 use Rattle.digits.proofs.Leading.{leading-zeros, leading-decimal}
 use Rattle.answers.specs.Refusals.{isCount}
 use Rattle.film.specs.declared.FilmFormat.{FilmFormat}
 use Rattle.film.specs.declared.Footage.{Footage}
 use Rattle.film.specs.Film.{allowsPerfField}
 use Rattle.film.specs.Footage.{footageCount, footageOf}
-use Rattle.film.specs.FootageLaws.{count-ge, count-none, perf-modulo}
+use Rattle.film.specs.FootageLaws.{perf-modulo}
 use Rattle.film.proofs.Statements.{footage-back, footage-forth}
 use Rattle.footage_scan.specs.Shape.{FootageParts, hasPerf}
 use Rattle.footage_scan.proofs.Statements.{one-footage-shape, footage-fields}
@@ -28,15 +27,6 @@ use Rattle.reading.specs.Statements.{FootageCount}
 use Rattle.reading.proofs.Statements.{footage-counted}
 use Rattle.promises.specs.AsWritten.{ButForZeros, Alike, AsWritten, ReadAsWritten}
 use Rattle.promises.proofs.WrittenFootage.{markerDigits, marker-digits, marker-some, marker-taken, written, partsOf, written-shape, written-text}
-
--- zeros are the digits of 0, and of no other number
-zeros-of : (k n : ℕ) → n ≡ 0 → ButForZeros (decimal k n) []
-unfolding allDigits valueFrom
-zeros-of k n e = sym (leading-decimal [] k n refl .0 (sym e))
-
-of-zeros : (k n : ℕ) → ButForZeros (decimal k n) [] → n ≡ 0
-unfolding allDigits valueFrom
-of-zeros k n e = sym (leading-decimal [] k n refl .1 (sym e))
 
 module _ (l : List ℕ) (stated : Stated) (format : FilmFormat) (count : ℤ) where
   -- ---- read, then as written
@@ -51,7 +41,7 @@ module _ (l : List ℕ) (stated : Stated) (format : FilmFormat) (count : ℤ) wh
     same : written format count ≡ record { feet = valueOf (p .feet); frames = valueOf (p .frames); perf = valueOf (p .feet) % 3 }
     same =
         let is : total ≡ natAbs count = sym (abs-signed (p .minus) total) ∙ ap natAbs (x .count) in
-        ap (footageOf format) (sym is) ∙ footage-forth format (valueOf (p .feet)) (valueOf (p .frames)) (x .occurs)
+        ap (footageOf format) (sym is) ∙ footage-forth format (valueOf (p .feet)) (valueOf (p .frames)) (x .on .occurs)
 
     feet-same : valueOf (p .feet) ≡ written format count .feet
     feet-same = sym (ap (λ (f : Footage). f .feet) same)
@@ -67,19 +57,11 @@ module _ (l : List ℕ) (stated : Stated) (format : FilmFormat) (count : ℤ) wh
         let some = marker-some has perf (ap (takesPerf format) (sym h) ∙ x .in-format .takes) in (
           some .0,
           leading-zeros (p .perf) (markerDigits has perf) (x .text .shape .shape .digits) (marker-digits has perf) .0
-              (x .marker h ∙ sym (ap (λ (f : Footage). f .perf) same) ∙ sym (some .1)),
+              (x .on .modulo h ∙ sym (ap (λ (f : Footage). f .perf) same) ∙ sym (some .1)),
         )
 
-    sign-alike : (p .minus ≡ isNeg count) ⊎ (ButForZeros (partsOf format count .feet) [] × ButForZeros (partsOf format count .frames) [])
-    sign-alike =
-        let few = count-ge format (valueOf (p .feet)) (valueOf (p .frames)) in
-        ⊎-elim
-        (λ e. inl (e ∙ ap isNeg (x .count)))
-        (λ z. inr (
-          zeros-of 1 (written format count .feet) (sym feet-same ∙ omega arith),
-          zeros-of 2 (written format count .frames) (sym frames-same ∙ omega arith),
-        ))
-        (isNeg-signed (p .minus) total)
+    sign-alike : (p .minus ≡ isNeg count) ⊎ (count ≡ pos 0)
+    sign-alike = ⊎-elim (λ e. inl (e ∙ ap isNeg (x .count))) (λ z. inr (sym (x .count) ∙ z)) (isNeg-signed (p .minus) total)
 
     as-written : AsWritten l stated format count
     as-written =
@@ -104,9 +86,9 @@ module _ (l : List ℕ) (stated : Stated) (format : FilmFormat) (count : ℤ) wh
     q = y .parts
 
     -- what is written has its parts in one way only
-    like : Alike q (partsOf format count)
+    like : Alike count q (partsOf format count)
     like =
-        subst (Alike q)
+        subst (Alike count q)
         (one-footage-shape (footageText format count) (y .written) (partsOf format count) (y .shape) (written-shape format count))
         (y .alike)
 
@@ -129,14 +111,11 @@ module _ (l : List ℕ) (stated : Stated) (format : FilmFormat) (count : ℤ) wh
         ∙ perf-modulo format (natAbs count)
         ∙ ap (λ (f : ℕ). f % 3) (sym feet-is)
 
-    none : written format count .feet ≡ 0 → written format count .frames ≡ 0 → natAbs count ≡ 0
-    none f r = sym (footage-back format (natAbs count)) ∙ ap₂ (footageCount format) f r ∙ count-none format
-
     signed-is : signed (q .minus) (natAbs count) ≡ count
     signed-is =
         ⊎-elim
         (λ e. ap (λ (b : Bool). signed b (natAbs count)) e ∙ signed-back count)
-        (λ z. signed-zero (q .minus) count (none (of-zeros 1 _ (z .0)) (of-zeros 2 _ (z .1))))
+        (λ z. ap (λ (c : ℤ). signed (q .minus) (natAbs c)) z ∙ signed-none (q .minus) ∙ sym z)
         (like .sign)
 
     footage-count : FootageCount l stated format count
@@ -145,8 +124,7 @@ module _ (l : List ℕ) (stated : Stated) (format : FilmFormat) (count : ℤ) wh
           parts = q;
           text = y .text;
           in-format = record { chosen = y .chosen; takes = takes };
-          occurs = record { count = natAbs count; feet-of = sym feet-is; frames-of = sym frames-is };
-          marker = marker-is;
+          on = record { occurs = record { count = natAbs count; feet-of = sym feet-is; frames-of = sym frames-is }; modulo = marker-is };
           count = ap (signed (q .minus)) (ap₂ (footageCount format) feet-is frames-is ∙ footage-back format (natAbs count)) ∙ signed-is;
         }
 

@@ -42,10 +42,10 @@ unfolding nearestN valueFrom span digitsOf widthBy width decimal held rates isRa
     labelSections clockText sectionsText labelText feetText footageText isFraction instant joined divOf divqOf convertOf
     worth signedOf lowBytes twosOf bodyFixed ofKind faults entryOf readFrom recordBytes listBytes
 starred-cases =
-    let of-lists : All (drop 27 cases) =
+    let of-lists : All (drop 31 cases) =
     ((refl, refl), (refl, ((refl, refl), ((refl, refl), (refl, (refl, (refl, (refl, (refl, (refl, tt)))))))))) in
     let of-film : All (drop 20 cases) =
-    (λ rate r. simp r, (λ rate r. simp r, (refl, (refl, (refl, (refl, (refl, of-lists))))))) in
+    (λ rate r. simp r, (λ rate r. simp r, (refl, (refl, (refl, (refl, (refl, (λ rate r. simp r, (λ rate r. simp r, (refl, (refl, of-lists))))))))))) in
     let behind-labels : All (drop 9 cases) =
     ((refl, λ rate r. simp r), ((refl, λ rate r. simp r), (λ rate r. simp r, (λ rate r. simp r, (refl, (refl, (refl, (refl, (refl, (refl, (refl, of-film))))))))))) in
     ((refl, refl), ((refl, refl), (refl, ((refl, refl), ((refl, refl), ((refl, refl), ((refl, refl), ((refl, refl), (refl, behind-labels)))))))))

@@ -3,9 +3,9 @@
 use Prim.Native.Nat.{ℕ}
 use mathlib.Core.Path.{_≡_}
 use mathlib.Core.Logic.{_↔_, _⊎_}
-use mathlib.Core.List.{List, []}
+use mathlib.Core.List.{List}
 use mathlib.Core.Bool.{true}
-use lib.IntN.{ℤ}
+use lib.IntN.{ℤ, pos}
 use Rattle.digits.specs.Digits.{significant}
 use Rattle.answers.specs.Refusals.{isCount}
 use Rattle.timecodes.specs.Timecode.{timecode}
@@ -22,12 +22,12 @@ use Rattle.reading.specs.Statements.{RateAndFormat, FootageText}
 abbrev pub ButForZeros : (d e : List ℕ) → Type 0
 ButForZeros d e = significant d ≡ significant e
 
--- a footage is another one but for leading zeros, an absent marker, and its sign where feet and frames are zeros
-pub record Alike (p q : FootageParts) : Type 0 where
+-- the parts p of a text are the parts q of what is written for a count, but for leading zeros, a marker that p has not, and the sign of zero
+pub record Alike (count : ℤ) (p q : FootageParts) : Type 0 where
   pub feet : ButForZeros (p .feet) (q .feet)
   pub frames : ButForZeros (p .frames) (q .frames)
   pub marker : hasPerf (p .perf) ≡ true → (hasPerf (q .perf) ≡ true) × ButForZeros (p .perf) (q .perf)
-  pub sign : (p .minus ≡ q .minus) ⊎ (ButForZeros (q .feet) [] × ButForZeros (q .frames) [])
+  pub sign : (p .minus ≡ q .minus) ⊎ (count ≡ pos 0)
 
 -- a text, no field of over 9 digits, is so what the writer gives for a count in this film format: the stated one, or that which its marker
 -- chooses
@@ -37,7 +37,7 @@ pub record AsWritten (l : List ℕ) (stated : Stated) (format : FilmFormat) (cou
   pub chosen : formatFor stated (hasPerf (parts .perf)) ≡ format
   pub written : FootageParts
   pub shape : FootageShape (footageText format count) written
-  pub alike : Alike parts written
+  pub alike : Alike count parts written
 
 -- a text is read as a footage exactly when it is so what the writer gives for its count
 abbrev pub ReadAsWritten : Type 0

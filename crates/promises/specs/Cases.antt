@@ -9,7 +9,7 @@ use lib.IntN.{ℤ, pos, negsuc}
 use Rattle.answers.specs.Refusals.{refusal, atPlace}
 use Rattle.rates.specs.Rates.{isRate}
 use Rattle.film.specs.declared.FilmFormat.{FilmFormat}
-use Rattle.film.specs.declared.FilmFormat.the-variants.{FF35mm3perf}
+use Rattle.film.specs.declared.FilmFormat.the-variants.{FF35mm3perf, FF35mm2perf, FF16mm}
 use Rattle.film.specs.Film.{formatNumber}
 use Rattle.reading.specs.declared.Stated.{Stated}
 use Rattle.reading.specs.declared.Stated.the-variants.{Nothing, Format}
@@ -97,6 +97,10 @@ cases =
     ∷ stops Nothing 2 "-4+00.4" 13 0
     ∷ stops Nothing 2 "25000000+16" 13 0
     ∷ stops (Format 1) 2 "1+16.9" 4 0
+    ∷ takes (Format 3) "0+31" (pos 31) FF35mm2perf
+    ∷ takes (Format 4) "0+19" (pos 19) FF16mm
+    ∷ stops (Format 3) 2 "1+00.1" 4 0
+    ∷ stops (Format 4) 2 "1+00.1" 4 0
     ∷ lists (1 ∷ 5 ∷ 2 ∷ 246 ∷ 255 ∷ 255 ∷ 255 ∷ 100 ∷ 0 ∷ 0 ∷ 0 ∷ 3 ∷ 7 ∷ 0 ∷ 0 ∷ 0 ∷ []) (Rate 5 ∷ Shot (negsuc 9) (pos 100) ∷ Reel 7 ∷ [])
     ∷ handsOver (pos 1 ∷ pos 5 ∷ pos 2 ∷ negsuc 9 ∷ pos 100 ∷ pos 3 ∷ pos 7 ∷ []) (Rate 5 ∷ Shot (negsuc 9) (pos 100) ∷ Reel 7 ∷ [])
     ∷ lists [] []

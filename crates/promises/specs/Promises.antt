@@ -105,6 +105,7 @@ pub record Promises : Type 1 where
   pub format-numbered : film.FormatNumbered
   pub only-three-perf : film.OnlyThreePerf
   pub footage-back : film.FootageBack
+  pub footage-next : film.FootageNext
   pub frames-in-foot : film.FramesInFoot
   pub three-perf-frames : film.ThreePerfFrames
   pub on-film-exactly : film.OnFilmExactly
@@ -138,6 +139,7 @@ pub record Promises : Type 1 where
   pub one-label-shape : label-scan.OneLabelShape
   pub label-back : label-scan.LabelBack
   pub footage-reads : footage-scan.FootageReads
+  pub perf-present : footage-scan.PerfPresent
   pub footage-fits : footage-scan.FootageFits
   pub footage-too-long : footage-scan.FootageTooLong
   pub footage-no-shape : footage-scan.FootageNoShape
@@ -158,6 +160,7 @@ pub record Promises : Type 1 where
   pub place-two : reading.PlaceTwo
   pub place-else : reading.PlaceElse
   pub refused-four : reading.RefusedFour
+  pub format-chosen : reading.FormatChosen
   pub refused-thirteen : reading.RefusedThirteen
   pub marker-absent : reading.MarkerAbsent
   pub refused-three : reading.RefusedThree
@@ -167,7 +170,7 @@ pub record Promises : Type 1 where
   pub reading-count-bounded : reading.CountBounded
   pub reading-at-rate : reading.AtRate
   pub read-valid : reading.ReadValid
-  pub number-most : reading.NumberMost
+  pub numbers-given : reading.NumbersGiven
   pub runtime-reading-refused-six : runtime-reading.RefusedSix
   pub runtime-reading-refused-one : runtime-reading.RefusedOne
   pub runtime-reading-refused-two : runtime-reading.RefusedTwo

@@ -8,6 +8,7 @@ use lib.IntN.{ℤ}
 use Rattle.digits.specs.Digits.{valueOf}
 use Rattle.answers.specs.Refusals.{atPlace, noShape, tooLong, droppedLabel, noPerfField, notOnFilm, held}
 use Rattle.film.specs.declared.FilmFormat.{FilmFormat}
+use Rattle.film.specs.Statements.{OffFilm}
 use Rattle.film.proofs.Statements.{on-film-exactly, off-film-exactly}
 use Rattle.footage_scan.specs.Shape.{FootageParts, hasPerf}
 use Rattle.reading.specs.declared.Stated.{Stated}
@@ -17,7 +18,7 @@ use Rattle.reading.specs.Answer.{asLabel, asFootage}
 use Rattle.reading.specs.Shaped.{formatFor, Shaped, shapeOf}
 use Rattle.reading.specs.Reading.{labelRead, takesPerf, footageRead, readShaped, readText}
 use Rattle.reading.specs.ReadingLaws.{label-dropped, label-kept, footage-marked, footage-off, footage-on, read-shaped}
-use Rattle.reading.specs.Statements.{RateAndFormat, HasShape, FootageText, PerfRefused, InFormat, OffFilm, FilmRefused, LabelText, DroppedText, LabelCount, FootageCount}
+use Rattle.reading.specs.Statements.{RateAndFormat, HasShape, FootageText, PerfRefused, InFormat, FilmRefused, LabelText, DroppedText, LabelCount, FootageCount}
 use Rattle.reading.proofs.Shapes.{shape-label, shape-footage, shape-long, long-place}
 use Rattle.reading.proofs.FourKinds.{shape-none}
 
@@ -49,7 +50,7 @@ module _ (l : List ℕ) (stated : Stated) (rate : ℕ) (a : RateAndFormat stated
     abbrev perf : Bool
     perf = hasPerf (p .perf)
 
-    pub gives-footage : (format : FilmFormat) → formatFor stated perf ≡ format
+    gives-footage : (format : FilmFormat) → formatFor stated perf ≡ format
         → readText l stated rate ≡ footageRead rate format (p .minus) (valueOf (p .feet)) (valueOf (p .frames)) perf (valueOf (p .perf))
     gives-footage format chosen =
         by-shape _ (shape-footage stated l p t)
@@ -62,7 +63,8 @@ module _ (l : List ℕ) (stated : Stated) (rate : ℕ) (a : RateAndFormat stated
         ∙ footage-marked rate (formatFor stated perf) (p .minus) (valueOf (p .feet)) (valueOf (p .frames)) perf (valueOf (p .perf)) e
 
     -- one that cannot be on the film
-    gives-off : (format : FilmFormat) → InFormat stated p format → OffFilm format p → readText l stated rate ≡ Refused notOnFilm
+    gives-off : (format : FilmFormat) → InFormat stated p format
+        → OffFilm format (valueOf (p .feet)) (valueOf (p .frames)) perf (valueOf (p .perf)) → readText l stated rate ≡ Refused notOnFilm
     gives-off format i off =
         gives-footage format (i .chosen)
         ∙ footage-off rate format (p .minus) (valueOf (p .feet)) (valueOf (p .frames)) perf (valueOf (p .perf)) (i .takes)
@@ -81,5 +83,5 @@ module _ (l : List ℕ) (stated : Stated) (rate : ℕ) (a : RateAndFormat stated
       let perf = hasPerf (p .perf) in
       gives-footage p (x .text) format (x .in-format .chosen)
       ∙ footage-on rate format (p .minus) (valueOf (p .feet)) (valueOf (p .frames)) perf (valueOf (p .perf)) (x .in-format .takes)
-      (on-film-exactly format (valueOf (p .feet)) (valueOf (p .frames)) perf (valueOf (p .perf)) .1 (x .occurs, x .marker))
+      (on-film-exactly format (valueOf (p .feet)) (valueOf (p .frames)) perf (valueOf (p .perf)) .1 (x .on))
       ∙ ap (λ (y : ℤ). asFootage rate format (held y)) (x .count)

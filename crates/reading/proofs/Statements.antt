@@ -17,17 +17,22 @@ use Rattle.timecodes.specs.declared.Timecode.{Timecode}
 use Rattle.timecodes.specs.Admitted.{Valid}
 use Rattle.digits.specs.Digits.{valueOf}
 use Rattle.film.specs.declared.FilmFormat.{FilmFormat}
-use Rattle.film.specs.Statements.{Occurs}
+use Rattle.film.specs.declared.FilmFormat.the-variants.{FF35mm4perf, FF35mm3perf, FF35mm2perf, FF16mm}
+use Rattle.film.specs.declared.Filmed.the-variants.{Format}
+use Rattle.film.specs.Film.{isFormat, formatAt}
+use Rattle.film.specs.FormatLaws.{at-number}
+use Rattle.film.specs.Statements.{Occurs, OffFilm}
 use Rattle.footage_scan.specs.Shape.{FootageParts, hasPerf}
 use Rattle.footage_scan.proofs.Statements.{one-footage-shape}
 use Rattle.reading.specs.declared.Stated.{Stated}
+use Rattle.reading.specs.declared.Stated.the-variants as stated
 use Rattle.reading.specs.declared.Read.{Read}
 use Rattle.reading.specs.declared.Read.the-variants.{Label, Footage, Refused}
 use Rattle.reading.specs.Answer.{numberOf, placeOf, timecodeOf, asLabel, asFootage}
-use Rattle.reading.specs.Shaped.{isStated, formatFor, Shaped, label, footage, refused}
+use Rattle.reading.specs.Shaped.{isStated, formatFrom, formatFor, Shaped, label, footage, refused}
 use Rattle.reading.specs.Reading.{takesPerf, readText}
 use Rattle.reading.specs.ReadingLaws.{no-rate, no-format}
-use Rattle.reading.specs.Statements.{RateAndFormat, ShapesApart, RefusedSix, RefusedOne, RefusedTwo, AllowedShape, PlaceOne, LongShape, PlaceTwo, PlaceElse, RefusedFour, OffFilm, FootageText, RefusedThirteen, MarkerAbsent, RefusedThree, LabelCounted, FootageCounted, CountOut, RefusedFive, CountBounded, AtRate, ReadValid, NumberMost}
+use Rattle.reading.specs.Statements.{RateAndFormat, ShapesApart, RefusedSix, RefusedOne, RefusedTwo, AllowedShape, PlaceOne, LongShape, PlaceTwo, PlaceElse, RefusedFour, FormatChosen, RefusedThirteen, MarkerAbsent, RefusedThree, LabelCounted, FootageCounted, CountOut, RefusedFive, CountBounded, AtRate, ReadValid, NumbersGiven}
 use Rattle.reading.proofs.Shapes as shapes
 use Rattle.reading.proofs.Told.{Behind, Told, told, cause}
 use Rattle.reading.proofs.Told as tells
@@ -86,33 +91,46 @@ refused-four l stated rate a = (λ e. cause l stated rate 4 (omega arith) e .0, 
 pub refused-thirteen : RefusedThirteen
 refused-thirteen l stated rate a = (λ e. cause l stated rate 13 (omega arith) e .0, λ x. ap numberOf (gives-not-on-film l stated rate a x))
 
--- a text that is refused 13 has its own parts and film format, and where it has no marker its frames number is at fault
-unmarked-off : (stated : Stated) (p q : FootageParts) (format : FilmFormat) → q ≡ p → formatFor stated (hasPerf (q .perf)) ≡ format → OffFilm format q
-    → hasPerf (p .perf) ≡ false → ¬ Occurs (formatFor stated false) (valueOf (p .feet)) (valueOf (p .frames))
-unmarked-off stated p q format same chosen off absent =
-    let is : formatFor stated false ≡ format =
-    ap (formatFor stated) (sym (ap (λ (x : FootageParts). hasPerf (x .perf)) same ∙ absent)) ∙ chosen in
-    ⊎-elim
-    (λ never. subst (λ (f : FilmFormat). ¬ Occurs f (valueOf (p .feet)) (valueOf (p .frames))) (sym is)
-    (subst (λ (x : FootageParts). ¬ Occurs format (valueOf (x .feet)) (valueOf (x .frames))) same never))
-    (λ other. absurd (false≢true (sym absent ∙ ap (λ (x : FootageParts). hasPerf (x .perf)) (sym same) ∙ other .0)))
-    off
+-- a number states its format
+stated-as : (n : ℕ) (format : FilmFormat) (perf : Bool) → formatAt n ≡ Format format → formatFor (stated.Format n) perf ≡ format
+stated-as n format perf e = ap formatFrom e
+
+pub format-chosen : FormatChosen
+format-chosen = (
+  λ perf. (
+    stated-as 1 FF35mm4perf perf (at-number FF35mm4perf),
+    stated-as 2 FF35mm3perf perf (at-number FF35mm3perf),
+    stated-as 3 FF35mm2perf perf (at-number FF35mm2perf),
+    stated-as 4 FF16mm perf (at-number FF16mm),
+  ),
+  refl,
+  refl,
+)
+
+-- a footage without a marker that cannot be on the film has a frames number that does not occur
+unmarked-off : (format : FilmFormat) (feet frames : ℕ) (marked : Bool) (marker : ℕ) → OffFilm format feet frames marked marker → marked ≡ false
+    → ¬ Occurs format feet frames
+unmarked-off format feet frames marked marker off absent = ⊎-elim (λ never. never) (λ other. absurd (false≢true (sym absent ∙ other .0))) off
 
 pub marker-absent : MarkerAbsent
-marker-absent l stated rate p a t absent = (
-  λ e. let x = refused-thirteen l stated rate a .0 e in
-      unmarked-off stated p (x .parts) (x .format) (one-footage-shape l (x .parts) p (x .text .shape) (t .shape)) (x .in-format .chosen) (x .off) absent,
-  λ never. refused-thirteen l stated rate a .1 (record {
-    parts = p;
-    text = t;
-    format = formatFor stated false;
-    in-format = record {
-      chosen = ap (formatFor stated) absent;
-      takes = ap (λ (b : Bool). takesPerf (formatFor stated false) b) absent;
-    };
-    off = inl never;
-  }),
-)
+unfolding isFormat
+marker-absent l rate p r t absent =
+    let a : RateAndFormat (stated.Format 2) rate = record { rated = r; filmed = refl } in
+    let three = format-chosen .0 false .1 in (
+      λ e. let x = refused-thirteen l (stated.Format 2) rate a .0 e in
+          let same = one-footage-shape l (x .parts) p (x .text .shape) (t .shape) in
+          let is : x .format ≡ FF35mm3perf = sym (x .in-format .chosen) ∙ three in
+          subst (λ (f : FilmFormat). ¬ Occurs f (valueOf (p .feet)) (valueOf (p .frames))) is
+          (subst (λ (q : FootageParts). ¬ Occurs (x .format) (valueOf (q .feet)) (valueOf (q .frames))) same
+          (unmarked-off (x .format) _ _ _ _ (x .off) (ap (λ (q : FootageParts). hasPerf (q .perf)) same ∙ absent))),
+      λ never. refused-thirteen l (stated.Format 2) rate a .1 (record {
+        parts = p;
+        text = t;
+        format = FF35mm3perf;
+        in-format = record { chosen = three; takes = ap (takesPerf FF35mm3perf) absent };
+        off = inl never;
+      }),
+    )
 
 pub refused-three : RefusedThree
 refused-three l stated rate a = (λ e. cause l stated rate 3 (omega arith) e .0, λ x. ap numberOf (gives-dropped l stated rate a (x .0) (x .1)))
@@ -188,5 +206,5 @@ read-valid l stated rate tc = (
   λ format e. valid l stated rate tc (ap numberOf e) (at-rate l stated rate tc .1 format e) (ap timecodeOf e),
 )
 
-pub number-most : NumberMost
-number-most l stated rate = number-by l stated rate (numberOf (readText l stated rate)) refl
+pub numbers-given : NumbersGiven
+numbers-given l stated rate = number-by l stated rate (numberOf (readText l stated rate)) refl

@@ -97,7 +97,7 @@ module _ (l : List ℕ) (stated : Stated) (rate : ℕ) where
         let on = on-film-exactly format (valueOf (p .feet)) (valueOf (p .frames)) perf (valueOf (p .perf)) .0 f in
         subst Told (sym (footage-on rate format (p .minus) (valueOf (p .feet)) (valueOf (p .frames)) perf (valueOf (p .perf)) e f))
         (footage-by-count format z
-        (record { parts = p; text = x; in-format = record { chosen = refl; takes = e }; occurs = on .0; marker = on .1; count = refl })
+        (record { parts = p; text = x; in-format = record { chosen = refl; takes = e }; on = on; count = refl })
         (isCount z) refl)
     film-told e false f =
         subst Told (sym (footage-off rate format (p .minus) (valueOf (p .feet)) (valueOf (p .frames)) perf (valueOf (p .perf)) e f)) (

@@ -42,8 +42,7 @@ formatFor Nothing false = FF35mm4perf
 formatFor (Format n) perf = formatFrom (formatAt n)
 
 -- ---- the shape
--- a label's sign and fields, a footage's sign, fields, whether it has a perf field and what that marks, or the refusal of a text that is
--- neither
+-- a label's sign and fields, a footage's sign, fields, whether it has a perf field and its marker, or the refusal of a text that is neither
 pub data Shaped : Type 0 where
   label : (minus : Bool) (fields : List ℕ) → Shaped
   footage : (minus : Bool) (feet frames : ℕ) (perf : Bool) (marker : ℕ) → Shaped

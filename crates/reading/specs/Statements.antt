@@ -1,6 +1,6 @@
 -- What a text reads as, by its shape (BEHAVIOUR: Text shapes): each refusal exactly, and the counts. Proofs: proofs/Statements.antt.
 -- Assumes nothing.
-use Prim.Native.Nat.{ℕ, _%_, _≤_}
+use Prim.Native.Nat.{ℕ, _≤_}
 use mathlib.Core.Path.{_≡_}
 use mathlib.Core.Logic.{_↔_, _⊎_}
 use mathlib.Core.List.{List, map}
@@ -14,8 +14,9 @@ use Rattle.timecodes.specs.declared.Timecode.{Timecode}
 use Rattle.timecodes.specs.Timecode.{timecode}
 use Rattle.timecodes.specs.Admitted.{Valid}
 use Rattle.film.specs.declared.FilmFormat.{FilmFormat}
+use Rattle.film.specs.declared.FilmFormat.the-variants.{FF35mm4perf, FF35mm3perf, FF35mm2perf, FF16mm}
 use Rattle.film.specs.Film.{allowsPerfField}
-use Rattle.film.specs.Statements.{Occurs}
+use Rattle.film.specs.Statements.{Occurs, OnFilm, OffFilm}
 use Rattle.labels.specs.Label.{droppedIn}
 use Rattle.labels.specs.AtRate.{labelFrames}
 use Rattle.scanner.specs.Long.{fieldsLong}
@@ -113,23 +114,27 @@ RefusedFour =
     → (numberOf (readText l stated rate) ≡ 4) ↔ PerfRefused l stated
 
 -- ---- 13
--- a footage of these parts is one of this film format: the stated one, or that which the perf field chooses, and it has that field
+-- a film format is stated by its number: 1 4-perf, 2 3-perf, 3 2-perf, 4 16 mm; with none stated, perf present means 3-perf, absent 4-perf
+abbrev pub FormatChosen : Type 0
+FormatChosen =
+    ((perf : Bool)
+    → (formatFor (Format 1) perf ≡ FF35mm4perf) × (formatFor (Format 2) perf ≡ FF35mm3perf)
+    × (formatFor (Format 3) perf ≡ FF35mm2perf) × (formatFor (Format 4) perf ≡ FF16mm))
+    × (formatFor Nothing true ≡ FF35mm3perf) × (formatFor Nothing false ≡ FF35mm4perf)
+
+-- a footage of these parts is one of this film format: the stated one, or that which the perf field chooses; and that has a perf field, if the
+-- text has one
 pub record InFormat (stated : Stated) (p : FootageParts) (format : FilmFormat) : Type 0 where
   pub chosen : formatFor stated (hasPerf (p .perf)) ≡ format
   pub takes : takesPerf format (hasPerf (p .perf)) ≡ true
 
--- its frames number does not occur in that foot, or its marker is present and is not feet modulo 3; by value, and whatever the sign
-abbrev pub OffFilm : FilmFormat → FootageParts → Type 0
-OffFilm format p =
-    (¬ Occurs format (valueOf (p .feet)) (valueOf (p .frames))) ⊎ ((hasPerf (p .perf) ≡ true) × ¬ (valueOf (p .perf) ≡ valueOf (p .feet) % 3))
-
--- a text is a footage that cannot be on the film
+-- a text is a footage that cannot be on the film: by its values, whatever its sign
 pub record FilmRefused (l : List ℕ) (stated : Stated) : Type 0 where
   pub parts : FootageParts
   pub text : FootageText l parts
   pub format : FilmFormat
   pub in-format : InFormat stated parts format
-  pub off : OffFilm format parts
+  pub off : OffFilm format (valueOf (parts .feet)) (valueOf (parts .frames)) (hasPerf (parts .perf)) (valueOf (parts .perf))
 
 -- refusal 13 exactly when the frames number does not occur in that foot, or the marker is present and is not feet modulo 3
 abbrev pub RefusedThirteen : Type 0
@@ -137,11 +142,11 @@ RefusedThirteen =
     (l : List ℕ) (stated : Stated) (rate : ℕ) → RateAndFormat stated rate
     → (numberOf (readText l stated rate) ≡ 13) ↔ FilmRefused l stated
 
--- an absent marker is allowed: without one, a footage is refused 13 exactly when its frames number does not occur in that foot
+-- an absent marker with stated 3-perf is allowed: 13 then exactly when the frames number does not occur in that foot
 abbrev pub MarkerAbsent : Type 0
 MarkerAbsent =
-    (l : List ℕ) (stated : Stated) (rate : ℕ) (p : FootageParts) → RateAndFormat stated rate → FootageText l p → hasPerf (p .perf) ≡ false
-    → (numberOf (readText l stated rate) ≡ 13) ↔ (¬ Occurs (formatFor stated false) (valueOf (p .feet)) (valueOf (p .frames)))
+    (l : List ℕ) (rate : ℕ) (p : FootageParts) → isRate rate ≡ true → FootageText l p → hasPerf (p .perf) ≡ false
+    → (numberOf (readText l (Format 2) rate) ≡ 13) ↔ (¬ Occurs FF35mm3perf (valueOf (p .feet)) (valueOf (p .frames)))
 
 -- ---- 3
 -- a text is a label with these four fields, none of over 9 digits
@@ -174,13 +179,12 @@ pub record LabelCount (l : List ℕ) (stated : Stated) (rate : ℕ) (z : ℤ) : 
   pub kept : droppedIn (dropFrames rate) fields ≡ false
   pub count : labelFrames rate minus fields ≡ z
 
--- a text is a footage that can be on the film, and this is its count
+-- a text is a footage in a film format that takes it, which can be on the film, and this is its count
 pub record FootageCount (l : List ℕ) (stated : Stated) (format : FilmFormat) (z : ℤ) : Type 0 where
   pub parts : FootageParts
   pub text : FootageText l parts
   pub in-format : InFormat stated parts format
-  pub occurs : Occurs format (valueOf (parts .feet)) (valueOf (parts .frames))
-  pub marker : hasPerf (parts .perf) ≡ true → valueOf (parts .perf) ≡ valueOf (parts .feet) % 3
+  pub on : OnFilm format (valueOf (parts .feet)) (valueOf (parts .frames)) (hasPerf (parts .perf)) (valueOf (parts .perf))
   pub count : footageFrames format (parts .minus) (valueOf (parts .feet)) (valueOf (parts .frames)) ≡ z
 
 -- a label is read as its count at the rate exactly when that is within its bounds
@@ -224,6 +228,6 @@ ReadValid =
     (l : List ℕ) (stated : Stated) (rate : ℕ) (tc : Timecode)
     → (readText l stated rate ≡ Label tc → Valid tc) × ((format : FilmFormat) → readText l stated rate ≡ Footage tc format → Valid tc)
 
--- and a refusal has one of the numbers 1 to 6, or 13
-abbrev pub NumberMost : Type 0
-NumberMost = (l : List ℕ) (stated : Stated) (rate : ℕ) → (numberOf (readText l stated rate) ≤ 6) ⊎ (numberOf (readText l stated rate) ≡ 13)
+-- and a refusal has one of the numbers 1 to 6, or 13 (0: it is read)
+abbrev pub NumbersGiven : Type 0
+NumbersGiven = (l : List ℕ) (stated : Stated) (rate : ℕ) → (numberOf (readText l stated rate) ≤ 6) ⊎ (numberOf (readText l stated rate) ≡ 13)

@@ -17,17 +17,17 @@ below c = omega (arith, c .before .frames-in-foot .ensures)
 returns : tie.Need-returns
 returns c =
     let a = c .before .before .args in
-    sym (onFilm-past (a .format) (a .feet) (a .frames) (a .perf) (a .marker) (omega (arith, c .before .frames-in-foot .ensures)))
+    sym (onFilm-past (a .format) (a .feet) (a .frames) (a .marked) (a .marker) (omega (arith, c .before .frames-in-foot .ensures)))
 
 returns-2 : tie.Need-returns-2
 returns-2 c =
     let a = c .before .before .before .args in
-    sym (onFilm-unmarked (a .format) (a .feet) (a .frames) (a .perf) (a .marker) (below (c .before)) (not-true (a .perf) (c .if2 .taken)))
+    sym (onFilm-unmarked (a .format) (a .feet) (a .frames) (a .marked) (a .marker) (below (c .before)) (not-true (a .marked) (c .if2 .taken)))
 
 returns-3 : tie.Need-returns-3
 returns-3 c =
     let a = c .before .before .before .args in
-    sym (onFilm-marked (a .format) (a .feet) (a .frames) (a .perf) (a .marker) (below (c .before)) (not-false (a .perf) (c .if2 .left)))
+    sym (onFilm-marked (a .format) (a .feet) (a .frames) (a .marked) (a .marker) (below (c .before)) (not-false (a .marked) (c .if2 .left)))
 
 pub on-film-spec : {M : Type 1} → statement M
 on-film-spec = tie.close (tie.spec (λ c κs. search needs) returns returns-2 returns-3)
