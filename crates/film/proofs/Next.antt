@@ -21,8 +21,8 @@ module _ (P foot : ℕ) (some : 0 < P) (few : P ≤ foot) where
   -- the first frame is frame 0 of foot 0
   pub first : (footageBy 0 P foot .feet ≡ 0) × (footageBy 0 P foot .frames ≡ 0)
   first =
-      let less : P - 1 < P = omega arith in
-      let there = at (lastPerf 0 P) 0 (P - 1) (omega arith) (omega arith) in
+      let less : lastPerf 0 P < P = omega arith in
+      let there = at (lastPerf 0 P) 0 (lastPerf 0 P) (omega arith) (omega arith) in
       (there .0, there .1 ∙ div-eq-of-lt less)
 
   -- the next frame, after this one
