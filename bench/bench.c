@@ -209,6 +209,7 @@ int main(void) {
     for (uint64_t i = 0; i < INPUTS; i++)
         numbers[i] = number_at(i);
     agree_on_texts();
+    agree_on_footages();
     agree_on_numbers();
     measure_labels(2);
     measure_labels(5);

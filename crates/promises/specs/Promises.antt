@@ -159,8 +159,8 @@ pub record Promises : Type 1 where
   pub place-one : reading.PlaceOne
   pub place-two : reading.PlaceTwo
   pub place-else : reading.PlaceElse
-  pub refused-four : reading.RefusedFour
   pub format-chosen : reading.FormatChosen
+  pub refused-four : reading.RefusedFour
   pub refused-thirteen : reading.RefusedThirteen
   pub marker-absent : reading.MarkerAbsent
   pub refused-three : reading.RefusedThree

@@ -1,7 +1,7 @@
 -- Every text is of one of four kinds, and its kind says what it is taken for: no shape, too long, a label, a footage.
 -- Assumes nothing.
 use Prim.Native.Nat.{ℕ, max}
-use mathlib.Core.Path.{_≡_, refl, sym, ap, _∙_, subst}
+use mathlib.Core.Path.{_≡_, refl, sym, subst}
 use mathlib.Core.Logic.{inl, inr, ⊎-elim}
 use mathlib.Core.List.{List, map}
 use mathlib.Core.Bool.{Bool, true, false}

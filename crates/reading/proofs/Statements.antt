@@ -32,7 +32,7 @@ use Rattle.reading.specs.Answer.{numberOf, placeOf, timecodeOf, asLabel,
 use Rattle.reading.specs.Shaped.{isStated, formatFrom, formatFor, Shaped, label, footage, refused}
 use Rattle.reading.specs.Reading.{takesPerf, readText}
 use Rattle.reading.specs.ReadingLaws.{no-rate, no-format}
-use Rattle.reading.specs.Statements.{RateAndFormat, ShapesApart, RefusedSix, RefusedOne, RefusedTwo, AllowedShape, PlaceOne, LongShape, PlaceTwo, PlaceElse, RefusedFour, FormatChosen, RefusedThirteen, MarkerAbsent, RefusedThree, LabelCounted, FootageCounted, CountOut, RefusedFive, CountBounded, AtRate, ReadValid, NumbersGiven}
+use Rattle.reading.specs.Statements.{RateAndFormat, ShapesApart, RefusedSix, RefusedOne, RefusedTwo, AllowedShape, PlaceOne, LongShape, PlaceTwo, PlaceElse, FormatChosen, RefusedFour, RefusedThirteen, MarkerAbsent, RefusedThree, LabelCounted, FootageCounted, CountOut, RefusedFive, CountBounded, AtRate, ReadValid, NumbersGiven}
 use Rattle.reading.proofs.Shapes as shapes
 use Rattle.reading.proofs.Told.{Behind, Told, told, cause}
 use Rattle.reading.proofs.Told as tells
@@ -85,12 +85,6 @@ place-two l stated rate place e =
 pub place-else : PlaceElse
 place-else = tells.place-else
 
-pub refused-four : RefusedFour
-refused-four l stated rate a = (λ e. cause l stated rate 4 (omega arith) e .0, λ x. ap numberOf (gives-no-perf l stated rate a x))
-
-pub refused-thirteen : RefusedThirteen
-refused-thirteen l stated rate a = (λ e. cause l stated rate 13 (omega arith) e .0, λ x. ap numberOf (gives-not-on-film l stated rate a x))
-
 -- a number states its format
 stated-as : (n : ℕ) (format : FilmFormat) (perf : Bool) → formatAt n ≡ Format format → formatFor (stated.Format n) perf ≡ format
 stated-as n format perf e = ap formatFrom e
@@ -106,6 +100,12 @@ format-chosen = (
   refl,
   refl,
 )
+
+pub refused-four : RefusedFour
+refused-four l stated rate a = (λ e. cause l stated rate 4 (omega arith) e .0, λ x. ap numberOf (gives-no-perf l stated rate a x))
+
+pub refused-thirteen : RefusedThirteen
+refused-thirteen l stated rate a = (λ e. cause l stated rate 13 (omega arith) e .0, λ x. ap numberOf (gives-not-on-film l stated rate a x))
 
 -- a footage without a marker that cannot be on the film has a frames number that does not occur
 unmarked-off : (format : FilmFormat) (feet frames : ℕ) (marked : Bool) (marker : ℕ) → OffFilm format feet frames marked marker → marked ≡ false

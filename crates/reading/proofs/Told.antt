@@ -13,8 +13,6 @@ use Rattle.digits.specs.Digits.{valueOf}
 use Rattle.answers.specs.Refusals.{isCount, held}
 use Rattle.answers.specs.Laws.{held-in, held-out}
 use Rattle.rates.specs.Rates.{isRate, dropFrames}
-use Rattle.timecodes.specs.declared.Timecode.{Timecode}
-use Rattle.timecodes.specs.Timecode.{timecode}
 use Rattle.film.specs.declared.FilmFormat.{FilmFormat}
 use Rattle.film.specs.Film.{allowsPerfField}
 use Rattle.film.specs.OnFilm.{onFilm}

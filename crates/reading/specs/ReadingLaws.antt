@@ -4,7 +4,6 @@ use Prim.Native.Nat.{ℕ}
 use mathlib.Core.Path.{_≡_, refl, sym, ap, _∙_}
 use mathlib.Core.Bool.{Bool, true, false}
 use mathlib.Core.List.{List, [], _∷_}
-use lib.IntN.{ℤ}
 use Rattle.answers.specs.declared.Counted.the-variants as counted
 use Rattle.answers.specs.OrderLaws.{unless-map}
 use Rattle.answers.specs.Refusals.{droppedLabel, noPerfField, noSuch, notOnFilm, isCount, badCount, held}
@@ -16,7 +15,7 @@ use Rattle.film.specs.OnFilm.{onFilm}
 use Rattle.labels.specs.Label.{droppedIn}
 use Rattle.labels.specs.AtRate.{labelFrames}
 use Rattle.reading.specs.declared.Stated.{Stated}
-use Rattle.reading.specs.declared.Read.the-variants.{Label, Footage, Refused}
+use Rattle.reading.specs.declared.Read.the-variants.{Label, Refused}
 use Rattle.reading.specs.Answer.{asLabel, asFootage}
 use Rattle.reading.specs.Shaped.{isStated, shapeOf}
 use Rattle.reading.specs.Reading.{labelRead, takesPerf, footageFrames, footageRead, readShaped, readText}

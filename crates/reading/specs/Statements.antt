@@ -94,6 +94,15 @@ PlaceElse =
     (l : List ℕ) (stated : Stated) (rate : ℕ) → ¬ (numberOf (readText l stated rate) ≡ 1) → ¬ (numberOf (readText l stated rate) ≡ 2)
     → placeOf (readText l stated rate) ≡ 0
 
+-- ---- the film format of a footage
+-- a film format is stated by its number: 1 4-perf, 2 3-perf, 3 2-perf, 4 16 mm; with none stated, perf present means 3-perf, absent 4-perf
+abbrev pub FormatChosen : Type 0
+FormatChosen =
+    ((perf : Bool)
+    → (formatFor (Format 1) perf ≡ FF35mm4perf) × (formatFor (Format 2) perf ≡ FF35mm3perf)
+    × (formatFor (Format 3) perf ≡ FF35mm2perf) × (formatFor (Format 4) perf ≡ FF16mm))
+    × (formatFor Nothing true ≡ FF35mm3perf) × (formatFor Nothing false ≡ FF35mm4perf)
+
 -- ---- 4
 -- a text is a footage of these parts, no field of over 9 digits
 pub record FootageText (l : List ℕ) (p : FootageParts) : Type 0 where
@@ -114,14 +123,6 @@ RefusedFour =
     → (numberOf (readText l stated rate) ≡ 4) ↔ PerfRefused l stated
 
 -- ---- 13
--- a film format is stated by its number: 1 4-perf, 2 3-perf, 3 2-perf, 4 16 mm; with none stated, perf present means 3-perf, absent 4-perf
-abbrev pub FormatChosen : Type 0
-FormatChosen =
-    ((perf : Bool)
-    → (formatFor (Format 1) perf ≡ FF35mm4perf) × (formatFor (Format 2) perf ≡ FF35mm3perf)
-    × (formatFor (Format 3) perf ≡ FF35mm2perf) × (formatFor (Format 4) perf ≡ FF16mm))
-    × (formatFor Nothing true ≡ FF35mm3perf) × (formatFor Nothing false ≡ FF35mm4perf)
-
 -- a footage of these parts is one of this film format: the stated one, or that which the perf field chooses; and that has a perf field, if the
 -- text has one
 pub record InFormat (stated : Stated) (p : FootageParts) (format : FilmFormat) : Type 0 where
