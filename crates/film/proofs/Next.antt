@@ -5,12 +5,12 @@ use native.Mathlib.Omega.{arith}
 use native.Mathlib.Nat.{div-add-mod', mod-lt, div-eq-of-lt, add-div-right}
 use mathlib.Core.Path.{_≡_, refl, ap, _∙_}
 use mathlib.Core.Bool.{Bool, true, false}
-use mathlib.Core.Logic.{_⊎_, inl, inr}
+use mathlib.Core.Logic.{inl, inr}
 use borrow.Author.Tests.{ltb-true, ltb-false}
 use lib.Arith.{digits-div, digits-mod}
 use lib.Dec.{ltb}
-use Rattle.film.specs.declared.Footage.{Footage}
 use Rattle.film.specs.Footage.{lastPerf, footageBy}
+use Rattle.film.specs.Statements.{Follows}
 
 -- P perfs a frame, at least one, and no more than a foot has
 module _ (P foot : ℕ) (some : 0 < P) (few : P ≤ foot) where
@@ -25,11 +25,7 @@ module _ (P foot : ℕ) (some : 0 < P) (few : P ≤ foot) where
       let there = at (lastPerf 0 P) 0 (lastPerf 0 P) (omega arith) (omega arith) in
       (there .0, there .1 ∙ div-eq-of-lt less)
 
-  -- the next frame, after this one
-  abbrev Next : (now next : Footage) → Type 0
-  Next now next =
-      ((next .feet ≡ now .feet) × (next .frames ≡ now .frames + 1)) ⊎ ((next .feet ≡ now .feet + 1) × (next .frames ≡ 0))
-
+  -- and each next frame follows this one
   module _ (f : ℕ) where
     abbrev rest : ℕ
     rest = lastPerf f P % foot
@@ -38,7 +34,7 @@ module _ (P foot : ℕ) (some : 0 < P) (few : P ≤ foot) where
     on : lastPerf (f + 1) P ≡ lastPerf f P / foot * foot + (rest + P)
     on = omega (arith, div-add-mod' (lastPerf f P) foot)
 
-    by : (t : Bool) → ltb (rest + P) foot ≡ t → Next (footageBy f P foot) (footageBy (f + 1) P foot)
+    by : (t : Bool) → ltb (rest + P) foot ≡ t → Follows (footageBy f P foot) (footageBy (f + 1) P foot)
     by true e =
         let there = at (lastPerf (f + 1) P) (lastPerf f P / foot) (rest + P) on (ltb-true (rest + P) foot e) in
         inl (there .0, there .1 ∙ add-div-right rest some)
@@ -49,5 +45,5 @@ module _ (P foot : ℕ) (some : 0 < P) (few : P ≤ foot) where
         let there = at (lastPerf (f + 1) P) (lastPerf f P / foot + 1) (rest + P - foot) (omega (arith, on)) (omega arith) in
         inr (there .0, there .1 ∙ div-eq-of-lt less)
 
-    pub next : Next (footageBy f P foot) (footageBy (f + 1) P foot)
+    pub next : Follows (footageBy f P foot) (footageBy (f + 1) P foot)
     next = by (ltb (rest + P) foot) refl

@@ -1,6 +1,6 @@
 -- The statements of specs/Statements.antt, proved: by the four formats, and by the tests of a footage.
 -- Assumes nothing.
-use Prim.Native.Nat.{ℕ, _%_}
+use Prim.Native.Nat.{ℕ, _%_, _≤_}
 use native.Mathlib.Omega.{arith}
 use mathlib.Core.Path.{_≡_, refl, sym, ap, ap₂, _∙_}
 use mathlib.Core.Bool.{Bool, true, false, not, _&&_, _||_, false≢true}
@@ -36,9 +36,11 @@ footage-back FF16mm f = omega arith
 pub footage-next : FootageNext
 unfolding footageOf
 footage-next format =
-    let P = frame-perfs format in
-    let foot = foot-perfs format in
-    (first (perfsPerFrame format) (perfsPerFoot format) (P .0) (omega arith), λ f. next (perfsPerFrame format) (perfsPerFoot format) (P .0) (omega arith) f)
+    let P = perfsPerFrame format in
+    let foot = perfsPerFoot format in
+    let some = frame-perfs format .0 in
+    let few : P ≤ foot = omega (arith, frame-perfs format .1, foot-perfs format .0) in
+    (first P foot some few, next P foot some few)
 
 -- ---- which footages can be on the film
 pub frames-in-foot : FramesInFoot

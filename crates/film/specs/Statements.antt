@@ -7,6 +7,7 @@ use mathlib.Core.Logic.{_↔_, _⊎_}
 use Rattle.film.specs.declared.FilmFormat.{FilmFormat}
 use Rattle.film.specs.declared.FilmFormat.the-variants.{FF35mm4perf, FF35mm3perf, FF35mm2perf, FF16mm}
 use Rattle.film.specs.declared.Filmed.the-variants.{Format}
+use Rattle.film.specs.declared.Footage.{Footage}
 use Rattle.film.specs.Film.{formatNumber, formatAt, allowsPerfField}
 use Rattle.film.specs.Footage.{footageCount, footageOf}
 use Rattle.film.specs.OnFilm.{onFilm}
@@ -24,14 +25,16 @@ abbrev pub FootageBack : Type 0
 FootageBack =
     (format : FilmFormat) (f : ℕ) → footageCount format (footageOf format f .feet) (footageOf format f .frames) ≡ f
 
--- writing goes along the film: count 0 is the first frame of foot 0, and each next count the next frame of its foot, or the first of the next foot
+-- a footage follows another: it is the next frame of the same foot, or the first of the next foot
+abbrev pub Follows : (this next : Footage) → Type 0
+Follows this next = ((next .feet ≡ this .feet) × (next .frames ≡ this .frames + 1)) ⊎ ((next .feet ≡ this .feet + 1) × (next .frames ≡ 0))
+
+-- writing goes along the film: count 0 is the first frame of foot 0, and each next count's footage follows that of the one before
 abbrev pub FootageNext : Type 0
 FootageNext =
     (format : FilmFormat)
     → ((footageOf format 0 .feet ≡ 0) × (footageOf format 0 .frames ≡ 0))
-    × ((f : ℕ)
-    → ((footageOf format (f + 1) .feet ≡ footageOf format f .feet) × (footageOf format (f + 1) .frames ≡ footageOf format f .frames + 1))
-    ⊎ ((footageOf format (f + 1) .feet ≡ footageOf format f .feet + 1) × (footageOf format (f + 1) .frames ≡ 0)))
+    × ((f : ℕ) → Follows (footageOf format f) (footageOf format (f + 1)))
 
 -- ---- which footages can be on the film
 -- a frames number occurs in a foot: some count, within its bounds or not, has by the writing formula that number in that foot

@@ -29,6 +29,54 @@ use Rattle.promises.specs.AsWritten.{ButForZeros, Alike, AsWritten, Read
 use Rattle.promises.proofs.WrittenFootage.{markerDigits, marker-digits, marker-some, marker-taken, written, partsOf, written-shape, written-text}
 
 module _ (l : List ℕ) (stated : Stated) (format : FilmFormat) (count : ℤ) where
+  -- ---- as written, then read
+  module _ (y : AsWritten l stated format count) where
+    abbrev q : FootageParts
+    q = y .parts
+
+    -- what is written has its parts in one way only
+    like : Alike count q (partsOf format count)
+    like =
+        subst (Alike count q)
+        (one-footage-shape (footageText format count) (y .written) (partsOf format count) (y .shape) (written-shape format count))
+        (y .alike)
+
+    feet-is : valueOf (q .feet) ≡ written format count .feet
+    feet-is = leading-decimal (q .feet) 1 (written format count .feet) (footage-fields l q (y .text .shape) .0 .digits) .1 (like .feet)
+
+    frames-is : valueOf (q .frames) ≡ written format count .frames
+    frames-is = leading-decimal (q .frames) 2 (written format count .frames) (footage-fields l q (y .text .shape) .1 .digits) .1 (like .frames)
+
+    takes : takesPerf format (hasPerf (q .perf)) ≡ true
+    takes = marker-taken (allowsPerfField format) (written format count .perf) (hasPerf (q .perf)) (λ h. like .marker h .0)
+
+    marker-is : hasPerf (q .perf) ≡ true → valueOf (q .perf) ≡ valueOf (q .feet) % 3
+    marker-is h =
+        let perf = written format count .perf in
+        let has = allowsPerfField format in
+        let some = marker-some has perf (ap (takesPerf format) (sym h) ∙ takes) in
+        leading-zeros (q .perf) (markerDigits has perf) (y .text .shape .shape .digits) (marker-digits has perf) .1 (like .marker h .1)
+        ∙ some .1
+        ∙ perf-modulo format (natAbs count)
+        ∙ ap (λ (f : ℕ). f % 3) (sym feet-is)
+
+    signed-is : signed (q .minus) (natAbs count) ≡ count
+    signed-is =
+        ⊎-elim
+        (λ e. ap (λ (b : Bool). signed b (natAbs count)) e ∙ signed-back count)
+        (λ z. ap (λ (c : ℤ). signed (q .minus) (natAbs c)) z ∙ signed-none (q .minus) ∙ sym z)
+        (like .sign)
+
+    footage-count : FootageCount l stated format count
+    footage-count =
+        record {
+          parts = q;
+          text = y .text;
+          in-format = record { chosen = y .chosen; takes = takes };
+          on = record { occurs = record { count = natAbs count; feet-of = sym feet-is; frames-of = sym frames-is }; modulo = marker-is };
+          count = ap (signed (q .minus)) (ap₂ (footageCount format) feet-is frames-is ∙ footage-back format (natAbs count)) ∙ signed-is;
+        }
+
   -- ---- read, then as written
   module _ (x : FootageCount l stated format count) where
     abbrev p : FootageParts
@@ -78,54 +126,6 @@ module _ (l : List ℕ) (stated : Stated) (format : FilmFormat) (count : ℤ) wh
             marker = marker-alike;
             sign = sign-alike;
           };
-        }
-
-  -- ---- as written, then read
-  module _ (y : AsWritten l stated format count) where
-    abbrev q : FootageParts
-    q = y .parts
-
-    -- what is written has its parts in one way only
-    like : Alike count q (partsOf format count)
-    like =
-        subst (Alike count q)
-        (one-footage-shape (footageText format count) (y .written) (partsOf format count) (y .shape) (written-shape format count))
-        (y .alike)
-
-    feet-is : valueOf (q .feet) ≡ written format count .feet
-    feet-is = leading-decimal (q .feet) 1 (written format count .feet) (footage-fields l q (y .text .shape) .0 .digits) .1 (like .feet)
-
-    frames-is : valueOf (q .frames) ≡ written format count .frames
-    frames-is = leading-decimal (q .frames) 2 (written format count .frames) (footage-fields l q (y .text .shape) .1 .digits) .1 (like .frames)
-
-    takes : takesPerf format (hasPerf (q .perf)) ≡ true
-    takes = marker-taken (allowsPerfField format) (written format count .perf) (hasPerf (q .perf)) (λ h. like .marker h .0)
-
-    marker-is : hasPerf (q .perf) ≡ true → valueOf (q .perf) ≡ valueOf (q .feet) % 3
-    marker-is h =
-        let perf = written format count .perf in
-        let has = allowsPerfField format in
-        let some = marker-some has perf (ap (takesPerf format) (sym h) ∙ takes) in
-        leading-zeros (q .perf) (markerDigits has perf) (y .text .shape .shape .digits) (marker-digits has perf) .1 (like .marker h .1)
-        ∙ some .1
-        ∙ perf-modulo format (natAbs count)
-        ∙ ap (λ (f : ℕ). f % 3) (sym feet-is)
-
-    signed-is : signed (q .minus) (natAbs count) ≡ count
-    signed-is =
-        ⊎-elim
-        (λ e. ap (λ (b : Bool). signed b (natAbs count)) e ∙ signed-back count)
-        (λ z. ap (λ (c : ℤ). signed (q .minus) (natAbs c)) z ∙ signed-none (q .minus) ∙ sym z)
-        (like .sign)
-
-    footage-count : FootageCount l stated format count
-    footage-count =
-        record {
-          parts = q;
-          text = y .text;
-          in-format = record { chosen = y .chosen; takes = takes };
-          on = record { occurs = record { count = natAbs count; feet-of = sym feet-is; frames-of = sym frames-is }; modulo = marker-is };
-          count = ap (signed (q .minus)) (ap₂ (footageCount format) feet-is frames-is ∙ footage-back format (natAbs count)) ∙ signed-is;
         }
 
 pub read-as-written : ReadAsWritten
