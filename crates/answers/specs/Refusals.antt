@@ -70,6 +70,14 @@ endBeforeFirst = refusal 12
 abbrev pub notOnFilm : Refusal
 notOnFilm = refusal 13
 
+-- 14: a label of a position that is not strict or has a sign
+abbrev pub notStrict : Refusal
+notStrict = refusal 14
+
+-- 15: a position where only a length may be, or a length where only a position may
+abbrev pub wrongKind : Refusal
+wrongKind = refusal 15
+
 -- counts from -400,000,000 to 400,000,000
 abbrev pub mostCount : ℕ
 mostCount = 400000000

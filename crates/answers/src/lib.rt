@@ -89,6 +89,18 @@ pub const NOT_ON_FILM: Refusal = Refusal {
     place: 0,
 };
 
+// A label of a position that is not strict or has a sign.
+pub const NOT_STRICT: Refusal = Refusal {
+    number: 14,
+    place: 0,
+};
+
+// A position where only a length may be, or a length where only a position may.
+pub const WRONG_KIND: Refusal = Refusal {
+    number: 15,
+    place: 0,
+};
+
 // The refusal with the place that a scanner says.
 pub fn at_place(e: Refusal, place: usize) -> Refusal
     ensures answer { λ r. ⌜ r ≡ atPlace e place ⌝ }

@@ -25,6 +25,8 @@ use Rattle.numbers.proofs.remainder as remainder
 use Rattle.numbers.proofs.remainder.Reads as remainder-reads
 use Rattle.numbers.proofs.floor as floor
 use Rattle.numbers.proofs.floor.Reads as floor-reads
+use Rattle.numbers.proofs.reduced as reduced
+use Rattle.numbers.proofs.reduced.Reads as reduced-reads
 use Rattle.numbers.proofs.lowest as lowest
 use Rattle.numbers.proofs.lowest.Reads as lowest-reads
 
@@ -60,6 +62,9 @@ remainder-determined κs a asked x y p q = ap (λ z. (z, x .1)) (p ∙ sym q)
 
 pub floor-determined : Determined floor.ended floor-reads.Asked floor-reads.Learnt
 floor-determined κs a asked x y p q = ap (λ z. (z, x .1)) (p ∙ sym q)
+
+pub reduced-determined : Determined reduced.ended reduced-reads.Asked reduced-reads.Learnt
+reduced-determined κs a asked x y p q = ap (λ z. (z, x .1)) (p ∙ sym q)
 
 -- of a fraction over 0 both are 0/1, of any other both are its lowest terms
 pub lowest-determined : Determined lowest.ended lowest-reads.Asked lowest-reads.Learnt

@@ -12,8 +12,9 @@ use Rattle.numbers.specs.NearestSignedLaws.{half-step, exact, monotone}
 use Rattle.numbers.specs.Floor.{over, floorZ}
 use Rattle.numbers.specs.FloorLaws.{down-under, down-largest}
 use Rattle.numbers.specs.TruncateLaws.{quot-rem, rem-small, rem-side, quot-one, rem-one}
+use Rattle.numbers.specs.ModuloLaws.{reduced-up, reduced-is-one}
 use Rattle.numbers.specs.LowestLaws.{num-one, den-one}
-use Rattle.numbers.specs.Statements.{NearestIs, NearestOne, WithinHalf, ExactOnMultiples, OrderKept, FloorIs, FloorOne, TruncateIs, TruncateOne, LowestOne}
+use Rattle.numbers.specs.Statements.{NearestIs, NearestOne, WithinHalf, ExactOnMultiples, OrderKept, FloorIs, FloorOne, TruncateIs, TruncateOne, ReducedIs, ReducedOne, LowestOne}
 use Rattle.numbers.proofs.Closest.{nearest-pos, mirrored}
 
 pub nearest-is : NearestIs
@@ -56,6 +57,12 @@ truncate-is x d h = record { whole = quot-rem x d; small = rem-small x d h; side
 
 pub truncate-one : TruncateOne
 truncate-one x d q r h u = (quot-one u (truncate-is x d h), rem-one u (truncate-is x d h))
+
+pub reduced-is : ReducedIs
+reduced-is = reduced-up
+
+pub reduced-one : ReducedOne
+reduced-one x n r h p = sym (reduced-is-one x n r h p)
 
 pub lowest-one : LowestOne
 lowest-one p q n d n′ d′ h u v = (num-one h u v, den-one h u v)

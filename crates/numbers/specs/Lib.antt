@@ -11,6 +11,8 @@ pub mod Truncate
 pub mod TruncateLaws
 pub mod Floor
 pub mod FloorLaws
+pub mod Modulo
+pub mod ModuloLaws
 pub mod Lowest
 pub mod Total
 pub mod LowestLaws

@@ -7,6 +7,7 @@ use lib.Signed.{_≤ℤ_, quotZ, remZ}
 use Rattle.numbers.specs.Nearest.{Nearest, nearestZ}
 use Rattle.numbers.specs.Floor.{Floor, floorZ}
 use Rattle.numbers.specs.Truncate.{Truncated}
+use Rattle.numbers.specs.Modulo.{Reduced, reducedZ}
 use Rattle.numbers.specs.Lowest.{Lowest}
 
 -- ---- nearest, over every step n above zero
@@ -48,6 +49,16 @@ TruncateIs = (x d : ℤ) → 0 < natAbs d → Truncated x d (quotZ x d) (remZ x 
 -- and nothing else are
 abbrev pub TruncateOne : Type 0
 TruncateOne = (x d q r : ℤ) → 0 < natAbs d → Truncated x d q r → (q ≡ quotZ x d) × (r ≡ remZ x d)
+
+-- ---- reduced by whole steps n, of either sign
+
+-- what is computed lies from 0 up to n, which is not included, and differs from x by a multiple of n
+abbrev pub ReducedIs : Type 0
+ReducedIs = (x : ℤ) (n : ℕ) → 0 < n → Reduced x n (reducedZ x n)
+
+-- and nothing else does
+abbrev pub ReducedOne : Type 0
+ReducedOne = (x : ℤ) (n r : ℕ) → 0 < n → Reduced x n r → r ≡ reducedZ x n
 
 -- ---- lowest terms
 

@@ -15,7 +15,7 @@ use Rattle.numbers.specs.ProductLaws.{neg-product, mul-sub}
 use Rattle.numbers.specs.Truncate.{Truncated}
 
 -- two negations, joined
-neg-sum : (u v n : ℕ) → u + v ≡ n → negℤ (pos u) +ℤ negℤ (pos v) ≡ negℤ (pos n)
+pub neg-sum : (u v n : ℕ) → u + v ≡ n → negℤ (pos u) +ℤ negℤ (pos v) ≡ negℤ (pos n)
 neg-sum u v n e = sym (negℤ-+ℤ (pos u) (pos v)) ∙ ap (λ (k : ℕ). negℤ (pos k)) e
 
 -- the quotient times the divisor, and the remainder, are the number
@@ -60,15 +60,15 @@ one-side (negsuc u) (pos (suc v)) t b p q h k = absurd (false-true (q (omega ari
 one-side (negsuc u) (negsuc v) t b p q h k = rw (far-neg (pos (suc u)) (pos (suc v)), far (suc u) (suc v)) (omega arith)
 
 -- less than one divisor is none
-none : (k b : ℕ) → k * b < b → k ≡ 0
+pub none : (k b : ℕ) → k * b < b → k ≡ 0
 none zero b h = refl
 none (suc k) b h = absurd (omega arith)
 
 -- the remainder from the quotient, and the other way
-left : (x d q r : ℤ) → (q *ℤ d) +ℤ r ≡ x → q *ℤ d ≡ x -ℤ r
+pub left : (x d q r : ℤ) → (q *ℤ d) +ℤ r ≡ x → q *ℤ d ≡ x -ℤ r
 left x d q r e = sym (+ℤ-negℤ-cancel (q *ℤ d) r) ∙ ap (λ (z : ℤ). z -ℤ r) e
 
-rest : (x d q r : ℤ) → (q *ℤ d) +ℤ r ≡ x → r ≡ x -ℤ q *ℤ d
+pub rest : (x d q r : ℤ) → (q *ℤ d) +ℤ r ≡ x → r ≡ x -ℤ q *ℤ d
 rest x d q r e = sym (+ℤ-negℤ-cancel r (q *ℤ d)) ∙ ap (λ (z : ℤ). z -ℤ q *ℤ d) (+ℤ-comm r (q *ℤ d) ∙ e)
 
 module _ {x d q r q′ r′ : ℤ} (t : Truncated x d q r) (t′ : Truncated x d q′ r′) where

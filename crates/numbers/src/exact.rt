@@ -6,6 +6,7 @@ ghost use lib.Signed.{quotZ, remZ};
 ghost use Rattle.numbers.specs.Sign.{signed};
 ghost use Rattle.numbers.specs.Nearest.{nearestN};
 ghost use Rattle.numbers.specs.Floor.{floorZ};
+ghost use Rattle.numbers.specs.Modulo.{reducedZ};
 ghost use Rattle.numbers.specs.Lowest.{Gcd, Lowest};
 use crate::Ratio;
 
@@ -84,6 +85,18 @@ pub(crate) fn floor(x: i64, d: i64) -> i64
     } else {
         with_sign(true, q + 1)
     }
+}
+
+// The number with this sign and magnitude, reduced by whole n's: below zero it is n less what is left.
+pub(crate) fn reduced(minus: bool, m: u64, n: u64) -> u64
+    requires nonzero { ⌜ 0 < n ⌝ }
+    ensures answer { λ r. ⌜ r ≡ reducedZ (signed minus m) n ⌝ }
+{
+    let r = m % n;
+    if r == 0 {
+        return 0;
+    }
+    if minus { n - r } else { r }
 }
 
 // The greatest common divisor, by Euclid's loop.

@@ -1,4 +1,4 @@
-// Signed numbers by sign and magnitude, exact sums and products, nearest, truncated and floored division, and lowest terms.
+// Signed numbers by sign and magnitude, exact sums and products, nearest, truncated and floored division, what is left by whole steps, and lowest terms.
 // Each function answers for every argument: 0 where the magnitudes do not fit, or the divisor is 0.
 ghost use mathlib.Core.Path.{_≡_};
 ghost use Prim.Native.Nat.{_+_, _*_};
@@ -7,6 +7,7 @@ ghost use lib.Signed.{quotZ, remZ};
 ghost use Rattle.numbers.specs.Sign.{isNeg, signed, upFrom};
 ghost use Rattle.numbers.specs.Nearest.{nearestN};
 ghost use Rattle.numbers.specs.Floor.{floorZ};
+ghost use Rattle.numbers.specs.Modulo.{reducedZ};
 ghost use Rattle.numbers.specs.Total.{fitted, divided, LowestOr};
 
 mod exact;
@@ -120,6 +121,16 @@ pub fn floor(x: i64, d: i64) -> i64
         return exact::floor(x, d);
     }
     0
+}
+
+// x reduced by whole n's, so that it lies from 0 up to n, which is not included; 0 where n is 0.
+pub fn reduced(x: i64, n: u64) -> u64
+    ensures answer { λ r. ⌜ r ≡ reducedZ x n ⌝ }
+{
+    if n == 0 {
+        return 0;
+    }
+    exact::reduced(below_zero(x), magnitude(x), n)
 }
 
 // A fraction, numerator over denominator.

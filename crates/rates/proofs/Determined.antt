@@ -10,6 +10,8 @@ use Rattle.rates.proofs.framerate_at as framerate-at
 use Rattle.rates.proofs.framerate_at.Reads as framerate-at-reads
 use Rattle.rates.proofs.drop_frames_per_minute as drop-frames-per-minute
 use Rattle.rates.proofs.drop_frames_per_minute.Reads as drop-frames-per-minute-reads
+use Rattle.rates.proofs.day as day
+use Rattle.rates.proofs.day.Reads as day-reads
 use Rattle.rates.proofs.is_drop as is-drop
 use Rattle.rates.proofs.is_drop.Reads as is-drop-reads
 
@@ -24,6 +26,9 @@ framerate-at-determined κs a asked x y p q = ap (λ z. (z, x .1)) (p ∙ sym q)
 
 pub drop-frames-per-minute-determined : Determined drop-frames-per-minute.ended drop-frames-per-minute-reads.Asked drop-frames-per-minute-reads.Learnt
 drop-frames-per-minute-determined κs a asked x y p q = ap (λ z. (z, x .1)) (p ∙ sym q)
+
+pub day-determined : Determined day.ended day-reads.Asked day-reads.Learnt
+day-determined κs a asked x y p q = ap (λ z. (z, x .1)) (p ∙ sym q)
 
 pub is-drop-determined : Determined is-drop.ended is-drop-reads.Asked is-drop-reads.Learnt
 is-drop-determined κs a asked x y p q = ap (λ z. (z, x .1)) (p ∙ sym q)

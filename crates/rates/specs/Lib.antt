@@ -1,4 +1,5 @@
 pub mod Rates
 pub mod Rule
 pub mod Laws
+pub mod Day
 pub mod Statements

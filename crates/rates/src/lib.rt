@@ -3,6 +3,7 @@ use answers::Refusal;
 ghost use mathlib.Core.Path.{_≡_};
 ghost use mathlib.Core.Bool.{true};
 ghost use Rattle.rates.specs.Rates.{isRate, rateRow, rateAt, dropFrames, isDrop};
+ghost use Rattle.rates.specs.Day.{dayFrames};
 
 // A row of the table: frames a second as a fraction in lowest terms, frames a second of the labels, ticks a frame.
 pub struct Framerate {
@@ -155,6 +156,24 @@ pub fn drop_frames_per_minute(no: u64) -> u64
         return 4;
     }
     0
+}
+
+// The frames of a rate's day: 24 hours of the timebase, less the dropped labels; of a number that is no rate, 0.
+pub fn day(no: u64) -> u64
+    ensures answer { λ r. ⌜ r ≡ dayFrames no ⌝ }
+{
+    if is_rate(no) {
+        return day_of(no);
+    }
+    0
+}
+
+// The frames of a day of 1,440 minutes, of which 1,296 drop labels. Asks a rate.
+fn day_of(no: u64) -> u64
+    requires rate { ⌜ isRate no ≡ true ⌝ }
+    ensures answer { λ r. ⌜ r ≡ dayFrames no ⌝ }
+{
+    86_400 * row(no).timebase - 1_296 * drop_frames_per_minute(no)
 }
 
 // Whether the rate drops labels: rates 5 and 11.
