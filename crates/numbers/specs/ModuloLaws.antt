@@ -66,6 +66,11 @@ reduced-up x n h = rw (reduced-in x n h) (left-up x n h)
 pub reduced-is-one : (x : ℤ) (n r : ℕ) → 0 < n → Reduced x n r → reducedZ x n ≡ r
 reduced-is-one x n r h p = reduced-same (reduced-up x n h) p
 
+-- it is never more than n
+pub reduced-le : (x : ℤ) (n : ℕ) → reducedZ x n ≤ n
+reduced-le x zero = omega (arith, reduced-none x zero refl)
+reduced-le x (suc n) = omega (arith, reduced-up x (suc n) (omega arith) .under)
+
 -- ---- by magnitudes
 -- of a number from 0 on it is the magnitude's rest
 pub reduced-plain : (m n : ℕ) → 0 < n → reducedZ (signed false m) n ≡ m % n

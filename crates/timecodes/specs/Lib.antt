@@ -1,5 +1,9 @@
+pub mod Kinds
 pub mod Timecode
+pub mod Made
 pub mod Admitted
 pub mod Instant
 pub mod AdmittedLaws
+pub mod MadeLaws
 pub mod InstantLaws
+pub mod Statements

@@ -1,13 +1,12 @@
 -- `timecodes::admit_both` meets its contract: each return is the definition, rewritten by the tests that led there.
 -- Assumes nothing.
-use mathlib.Core.Path.{_≡_, _∙_, ap}
+use mathlib.Core.Path.{_≡_, sym, _∙_}
 use mathlib.Core.Bool.{true}
 use borrow.Author.Needs.{needs}
-use mir.Syntax.{w64}
-use mir.Val.{toZ, ofZ}
 use Rattle.numbers.proofs.Tests.{fails, passes}
-use Rattle.answers.specs.Refusals.{isCount}
 use Rattle.rates.specs.Rates.{isRate}
+use Rattle.timecodes.specs.declared.kinds.Mixed.the-variants.{Of, Never}
+use Rattle.timecodes.specs.Kinds.{mixedKinds}
 use Rattle.timecodes.proofs.admit_both.Statement.{statement}
 use Rattle.timecodes.proofs.admit_both.Tie as tie
 
@@ -23,35 +22,52 @@ returns-2 c = simp (left-rated (c .before .before), fails (c .before .is-rate2 .
 right-rated : (c : tie.Else2) → isRate (c .before .before .before .before .args .b .rate) ≡ true
 right-rated c = passes (c .before .is-rate2 .ensures) (c .if2 .left)
 
--- what each test told is of the count itself
-left-told : (c : tie.After-is-count) → c .is-count .result ≡ isCount (c .before .before .before .before .before .before .args .a .count)
-left-told c =
-    let count = c .before .before .before .before .before .before .args .a .count in
-    let back : toZ w64 (ofZ w64 count) ≡ count = search needs in
-    c .is-count .ensures ∙ ap isCount back
-
+-- two that are never mixed
 returns-3 : tie.Need-returns-3
 returns-3 c =
-    let e = c .before .before .before in
-    simp (left-rated (e .before .before), right-rated e, fails (left-told (c .before)) (c .if3 .taken))
+    let m = c .before .before in
+    let e = m .before in
+    let a = e .before .before .before .before .args in
+    let never : mixedKinds (a .joining) (a .a .kind) (a .b .kind) ≡ Never = sym (m .mix .ensures) ∙ c .enum-told .given .1 in
+    simp (left-rated (e .before .before), right-rated e, never)
 
-right-told : (c : tie.After-is-count2) → c .is-count2 .result ≡ isCount (c .before .before .before .before .before .before .before .before .before .args .b .count)
-right-told c =
-    let count = c .before .before .before .before .before .before .before .before .before .args .b .count in
-    let back : toZ w64 (ofZ w64 count) ≡ count = search needs in
-    c .is-count2 .ensures ∙ ap isCount back
+-- two that are mixed
+mixed-is : (c : tie.After-mixed)
+    → (let a = c .before .before .before .before .before .before .before .args in
+    mixedKinds (a .joining) (a .a .kind) (a .b .kind) ≡ Of (c .mixed .given .0 .0))
+mixed-is c = sym (c .before .before .mix .ensures) ∙ c .mixed .given .1
 
 returns-4 : tie.Need-returns-4
 returns-4 c =
-    let f = c .before .before .before in
-    let e = f .before .before .before in
-    simp (left-rated (e .before .before), right-rated e, passes (left-told (f .before)) (f .if3 .left), fails (right-told (c .before)) (c .if4 .taken))
+    let k = c .before .before .before in
+    let e = k .before .before .before in
+    simp (left-rated (e .before .before), right-rated e, mixed-is k, fails (c .before .is-within .ensures) (c .if3 .taken))
 
 returns-5 : tie.Need-returns-5
 returns-5 c =
-    let f = c .before .before .before in
-    let e = f .before .before .before in
-    simp (left-rated (e .before .before), right-rated e, passes (left-told (f .before)) (f .if3 .left), passes (right-told (c .before)) (c .if4 .left))
+    let f = c .before .before in
+    let k = f .before .before .before in
+    let e = k .before .before .before in
+    simp (
+      left-rated (e .before .before),
+      right-rated e,
+      mixed-is k,
+      passes (f .before .is-within .ensures) (f .if3 .left),
+      fails (c .before .is-within2 .ensures) (c .if4 .taken),
+    )
+
+returns-6 : tie.Need-returns-6
+returns-6 c =
+    let f = c .before .before in
+    let k = f .before .before .before in
+    let e = k .before .before .before in
+    simp (
+      left-rated (e .before .before),
+      right-rated e,
+      mixed-is k,
+      passes (f .before .is-within .ensures) (f .if3 .left),
+      passes (c .before .is-within2 .ensures) (c .if4 .left),
+    )
 
 pub admit-both-spec : {M : Type 1} → statement M
 admit-both-spec =
@@ -62,7 +78,11 @@ admit-both-spec =
     (λ c κs. search needs)
     returns-2
     (λ c κs. search needs)
+    (λ c. search needs)
+    (λ c. search needs)
     returns-3
     (λ c κs. search needs)
     returns-4
-    returns-5)
+    (λ c κs. search needs)
+    returns-5
+    returns-6)

@@ -1,0 +1,35 @@
+-- What holds of timecodes beyond one call (BEHAVIOUR: Positions): the number of the day, and the bounds of each kind. Proofs: proofs/Statements.antt.
+-- Assumes nothing.
+use Prim.Native.Nat.{ℕ, _<_}
+use mathlib.Core.Path.{_≡_}
+use mathlib.Core.Logic.{_↔_}
+use mathlib.Core.Bool.{true}
+use lib.IntN.{ℤ, pos}
+use Rattle.answers.specs.Refusals.{isCount}
+use Rattle.rates.specs.Rates.{isRate}
+use Rattle.rates.specs.Day.{dayFrames}
+use Rattle.timecodes.specs.Timecode.{timecode, position}
+use Rattle.timecodes.specs.Made.{OfDay, inDay}
+use Rattle.timecodes.specs.Admitted.{Valid}
+
+-- what a count is reduced to is the number of the day that differs from it by whole days, negative counts too
+abbrev pub DayIs : Type 0
+DayIs = (rate : ℕ) (count : ℤ) → isRate rate ≡ true → OfDay rate count (inDay rate count)
+
+-- and there is one such number
+abbrev pub DayOne : Type 0
+DayOne = (rate : ℕ) (count z : ℤ) → isRate rate ≡ true → OfDay rate count z → z ≡ inDay rate count
+
+-- a number from 0 up to the rate's day, which is not included
+pub record UnderDay (rate : ℕ) (count : ℤ) : Type 0 where
+  pub number : ℕ
+  pub is : count ≡ pos number
+  pub under : number < dayFrames rate
+
+-- a position is within its bounds exactly when its count is such a number
+abbrev pub PositionWithin : Type 0
+PositionWithin = (rate : ℕ) (count : ℤ) → isRate rate ≡ true → Valid (position count rate) ↔ UnderDay rate count
+
+-- and a length exactly when its count is from -400,000,000 to 400,000,000
+abbrev pub LengthWithin : Type 0
+LengthWithin = (rate : ℕ) (count : ℤ) → isRate rate ≡ true → Valid (timecode count rate) ↔ (isCount count ≡ true)
