@@ -10,11 +10,15 @@ use native.Mathlib.Omega.{arith}
 use lib.Arith.{digits-lt}
 use Rattle.tally.specs.Before.{before}
 use Rattle.tally.specs.BeforeLaws.{which, never-fewer, fewer-before, one-each}
+use Rattle.rates.specs.Rates.{rateRow, dropFrames}
+use Rattle.rates.specs.Laws.{drop-small}
+use Rattle.rates.specs.Day.{dayCount, dayFrames}
 use Rattle.labels.specs.Label.{hoursIn, minutesIn, secondsIn, framesIn, LabelOf}
 use Rattle.labels.specs.LabelLaws.{kept-past, count-by-minutes}
 use Rattle.labels.specs.BoundLaws.{hours-le}
 use Rattle.labels.specs.Sections.{labelNumber, fieldsAt, isAllowed, sectionsOf}
-use Rattle.labels.specs.Statements.{HasFields, OneNumber, CountsEarlier, HasLabel, OneLabel, SmallFields, dayCount, FillDay, FillDay30, FillDay60}
+use Rattle.labels.specs.Statements.{HasFields, OneNumber, CountsEarlier, HasLabel, OneLabel, SmallFields, FillDay, FillRate, FillInOrder, StrictExactly, FillDay30, FillDay60}
+use Rattle.labels.specs.StrictLaws.{isStrict-told, isStrict-in}
 use Rattle.labels.proofs.Fields.{fields-back}
 use Rattle.labels.proofs.Earlier.{before-place, before-minute}
 use Rattle.labels.proofs.Found.{found}
@@ -117,6 +121,32 @@ fill-day timebase D d = record {
   once = λ n a b x y. one-label timebase D n a b d (x .label) (y .label);
   earlier = λ n fields x. counts-earlier timebase D n fields d (x .label);
 }
+
+pub fill-rate : FillRate
+unfolding dayFrames
+fill-rate rate h = fill-day (rateRow rate .timebase) (dropFrames rate) (drop-small rate h)
+
+-- a label that comes first has fewer before it
+earlier-less : (timebase D m n : ℕ) (a b : List ℕ) → D < timebase → LabelOf timebase D m a → LabelOf timebase D n b
+    → labelNumber timebase a < labelNumber timebase b → m < n
+earlier-less timebase D m n a b d x y l =
+    let fewer = fewer-before (isAllowed timebase D) (labelNumber timebase a) (labelNumber timebase b) (passes timebase D m a x) l in
+    omega (arith, counts-earlier timebase D m a d x, counts-earlier timebase D n b d y, fewer)
+
+pub fill-in-order : FillInOrder
+fill-in-order timebase D m n a b d x y = (
+  λ l.
+    ⊎-elim (λ h. h) (λ g. absurd (⊎-elim (same l) (λ h. omega (arith, l, earlier-less timebase D n m b a d y x h)) g))
+    (which (labelNumber timebase a) (labelNumber timebase b)),
+  earlier-less timebase D m n a b d x y,
+)
+  where
+    same : m < n → labelNumber timebase a ≡ labelNumber timebase b → ⊥
+    same l e =
+        omega (arith, l, counts-earlier timebase D m a d x, counts-earlier timebase D n b d y, ap (before (isAllowed timebase D)) e)
+
+pub strict-exactly : StrictExactly
+strict-exactly timebase fields four = (isStrict-told timebase fields four, λ h. isStrict-in timebase fields (h .0) (h .1))
 
 pub fill-day30 : FillDay30
 fill-day30 = fill-day 30 2 (omega arith)

@@ -57,6 +57,11 @@ pub record Strict (timebase : ℕ) (fields : List ℕ) : Type 0 where
   pub seconds : secondsIn fields < 60
   pub frames : framesIn fields < timebase
 
+-- the same as a test, with hours under 24: what the label of a position must be
+unfoldable pub isStrict : (timebase : ℕ) (fields : List ℕ) → Bool
+isStrict timebase fields =
+    ltb (hoursIn fields) 24 && (ltb (minutesIn fields) 60 && (ltb (secondsIn fields) 60 && ltb (framesIn fields) timebase))
+
 -- an allowed label, with minutes and seconds under 60 and frames under the timebase, whose count is n
 pub record LabelOf (timebase D n : ℕ) (fields : List ℕ) : Type 0 where
   pub strict : Strict timebase fields

@@ -1,10 +1,15 @@
 -- What holds of labels and counts beyond one call (BEHAVIOUR: Labels and counts): the statements, in order. Proofs: proofs/Statements.antt.
 -- Assumes nothing.
 use mathlib.Core.Path.{_≡_}
+use mathlib.Core.Logic.{_↔_}
+use mathlib.Core.Bool.{true}
 use mathlib.Core.List.{List}
-use Prim.Native.Nat.{ℕ, _*_, _-_, _≤_, _<_}
+use Prim.Native.Nat.{ℕ, _≤_, _<_}
+use lib.ListN.{length}
 use Rattle.tally.specs.Before.{before}
-use Rattle.labels.specs.Label.{hoursIn, minutesIn, secondsIn, framesIn, Strict, LabelOf}
+use Rattle.rates.specs.Rates.{isRate, rateRow, dropFrames}
+use Rattle.rates.specs.Day.{dayCount, dayFrames}
+use Rattle.labels.specs.Label.{hoursIn, minutesIn, secondsIn, framesIn, isStrict, Strict, LabelOf}
 use Rattle.labels.specs.Sections.{labelNumber, fieldsAt, isAllowed, sectionsOf}
 
 -- each number is that of a strict label
@@ -60,13 +65,25 @@ pub record Filled (timebase D whole : ℕ) : Type 0 where
       (n : ℕ) (fields : List ℕ) → DayLabel timebase D n fields
       → n ≡ before (isAllowed timebase D) (labelNumber timebase fields)
 
--- 24 hours of the timebase, less D for each of the 1,440 minutes but the 144 that are multiples of 10
-abbrev pub dayCount : (timebase D : ℕ) → ℕ
-dayCount timebase D = 86_400 * timebase - D * (1_440 - 144)
-
 -- the allowed labels of a day have the counts 0 to dayCount - 1, once each
 abbrev pub FillDay : Type 0
 FillDay = (timebase D : ℕ) → D < timebase → Filled timebase D (dayCount timebase D)
+
+-- so at each of the twelve rates they fill its day
+abbrev pub FillRate : Type 0
+FillRate = (rate : ℕ) → isRate rate ≡ true → Filled (rateRow rate .timebase) (dropFrames rate) (dayFrames rate)
+
+-- and in order: of two labels the one that comes first has the smaller count
+abbrev pub FillInOrder : Type 0
+FillInOrder =
+    (timebase D m n : ℕ) (a b : List ℕ) → D < timebase → LabelOf timebase D m a → LabelOf timebase D n b
+    → (m < n) ↔ (labelNumber timebase a < labelNumber timebase b)
+
+-- exactly the strict labels with hours under 24 pass the test of a position's label
+abbrev pub StrictExactly : Type 0
+StrictExactly =
+    (timebase : ℕ) (fields : List ℕ) → length fields ≡ 4
+    → (isStrict timebase fields ≡ true) ↔ ((hoursIn fields < 24) × Strict timebase fields)
 
 -- at 29.97 drop the allowed labels of a day have the counts 0 to 2,589,407, once each
 abbrev pub FillDay30 : Type 0

@@ -4,7 +4,7 @@
 ghost use mathlib.Core.Path.{_≡_};
 ghost use Prim.Native.Nat.{_≤_, _<_};
 ghost use Rattle.answers.specs.Refusals.{mostCount};
-ghost use Rattle.labels.specs.Label.{countIn, droppedIn, isBounded, Short};
+ghost use Rattle.labels.specs.Label.{countIn, droppedIn, isStrict, isBounded, Short};
 ghost use Rattle.labels.specs.Sections.{fieldsAt, droppedBefore, sectionsOf};
 ghost use Rattle.labels.specs.AtRate.{labelCounted, sectionsAt};
 use answers::Counted;
@@ -62,6 +62,22 @@ pub fn is_dropped(fields: [u64; 4], d: u64) -> bool
         return false;
     }
     fields[1] % 10 != 0
+}
+
+// Whether a label's fields are strict, and of the day: hours under 24, minutes and seconds under 60, frames under the timebase.
+pub fn is_strict(fields: [u64; 4], timebase: u64) -> bool
+    ensures answer { λ r. ⌜ r ≡ isStrict timebase fields ⌝ }
+{
+    if fields[0] >= 24 {
+        return false;
+    }
+    if fields[1] >= 60 {
+        return false;
+    }
+    if fields[2] >= 60 {
+        return false;
+    }
+    fields[3] < timebase
 }
 
 // The fields of the one allowed label whose count is n, at a rate (vtc's `sections`); zeros where there is no such rate or count.
