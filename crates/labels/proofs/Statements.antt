@@ -136,8 +136,8 @@ earlier-less timebase D m n a b d x y l =
 pub fill-in-order : FillInOrder
 fill-in-order timebase D m n a b d x y = (
   λ l.
-    ⊎-elim (λ h. h) (λ g. absurd (⊎-elim (same l) (λ h. omega (arith, l, earlier-less timebase D n m b a d y x h)) g))
-    (which (labelNumber timebase a) (labelNumber timebase b)),
+      ⊎-elim (λ h. h) (λ g. absurd (⊎-elim (same l) (λ h. omega (arith, l, earlier-less timebase D n m b a d y x h)) g))
+      (which (labelNumber timebase a) (labelNumber timebase b)),
   earlier-less timebase D m n a b d x y,
 )
   where

@@ -14,6 +14,7 @@ use Rattle.answers.specs.Refusals.{isCount}
 use Rattle.answers.specs.Laws.{held-in, held-out}
 use Rattle.rates.specs.Rates.{isRate}
 use Rattle.timecodes.specs.declared.Timecode.{Timecode}
+use Rattle.timecodes.specs.Timecode.{timecode}
 use Rattle.timecodes.specs.Admitted.{Valid}
 use Rattle.digits.specs.Digits.{valueOf}
 use Rattle.film.specs.declared.FilmFormat.{FilmFormat}
@@ -168,8 +169,8 @@ count-bounded l stated rate = bounded-by l stated rate (readText l stated rate) 
 
 pub at-rate : AtRate
 at-rate l stated rate tc = (
-  λ e. subst (Told l stated rate) e (told l stated rate) .0,
-  λ format e. subst (Told l stated rate) e (told l stated rate) .0,
+  λ e. ap (λ (x : Timecode). x .rate) (subst (Told l stated rate) e (told l stated rate) .0),
+  λ format e. ap (λ (x : Timecode). x .rate) (subst (Told l stated rate) e (told l stated rate) .0),
 )
 
 module _ (l : List ℕ) (stated : Stated) (rate : ℕ) where
@@ -177,11 +178,12 @@ module _ (l : List ℕ) (stated : Stated) (rate : ℕ) where
   rated-by true r e = r
   rated-by false r e = let f = ap numberOf (no-rate l stated rate r) in absurd (omega arith)
 
-  valid : (tc : Timecode) → numberOf (readText l stated rate) ≡ 0 → tc .rate ≡ rate → timecodeOf (readText l stated rate) ≡ tc → Valid tc
-  valid tc n r e = record {
-    rate = ap isRate r ∙ rated-by (isRate rate) refl n;
-    count = ap (λ (x : Timecode). isCount (x .count)) (sym e) ∙ count-bounded l stated rate;
-  }
+  valid : (tc : Timecode) → numberOf (readText l stated rate) ≡ 0 → tc ≡ timecode (tc .count) rate → timecodeOf (readText l stated rate) ≡ tc → Valid tc
+  valid tc n is e =
+      subst Valid (sym is) (record {
+        rate = rated-by (isRate rate) refl n;
+        within = ap (λ (x : Timecode). isCount (x .count)) (sym e) ∙ count-bounded l stated rate;
+      })
 
   behind-by : (past : ℕ) (six thirteen : Bool) → eqb past 0 ≡ six → eqb past 7 ≡ thirteen
       → Behind l stated rate six thirteen (placeOf (readText l stated rate))
@@ -202,8 +204,8 @@ module _ (l : List ℕ) (stated : Stated) (rate : ℕ) where
 
 pub read-valid : ReadValid
 read-valid l stated rate tc = (
-  λ e. valid l stated rate tc (ap numberOf e) (at-rate l stated rate tc .0 e) (ap timecodeOf e),
-  λ format e. valid l stated rate tc (ap numberOf e) (at-rate l stated rate tc .1 format e) (ap timecodeOf e),
+  λ e. valid l stated rate tc (ap numberOf e) (subst (Told l stated rate) e (told l stated rate) .0) (ap timecodeOf e),
+  λ format e. valid l stated rate tc (ap numberOf e) (subst (Told l stated rate) e (told l stated rate) .0) (ap timecodeOf e),
 )
 
 pub numbers-given : NumbersGiven

@@ -13,6 +13,7 @@ use Rattle.digits.specs.Digits.{valueOf}
 use Rattle.answers.specs.Refusals.{isCount, held}
 use Rattle.answers.specs.Laws.{held-in, held-out}
 use Rattle.rates.specs.Rates.{isRate, dropFrames}
+use Rattle.timecodes.specs.Timecode.{timecode}
 use Rattle.film.specs.declared.FilmFormat.{FilmFormat}
 use Rattle.film.specs.Film.{allowsPerfField}
 use Rattle.film.specs.OnFilm.{onFilm}
@@ -49,8 +50,8 @@ module _ (l : List ℕ) (stated : Stated) (rate : ℕ) where
   Cause (suc (suc (suc (suc (suc (suc past)))))) place = Behind (eqb past 0) (eqb past 7) place
 
   abbrev pub Told : Read → Type 0
-  Told (Label tc) = (tc .rate ≡ rate) × (LabelCount l stated rate (tc .count) × (isCount (tc .count) ≡ true))
-  Told (Footage tc format) = (tc .rate ≡ rate) × (FootageCount l stated format (tc .count) × (isCount (tc .count) ≡ true))
+  Told (Label tc) = (tc ≡ timecode (tc .count) rate) × (LabelCount l stated rate (tc .count) × (isCount (tc .count) ≡ true))
+  Told (Footage tc format) = (tc ≡ timecode (tc .count) rate) × (FootageCount l stated format (tc .count) × (isCount (tc .count) ≡ true))
   Told (Refused e) = Cause (e .number) (e .place)
 
   -- ---- a label

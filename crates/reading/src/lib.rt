@@ -1,20 +1,22 @@
-// A text read as a timecode at a rate: that of a label or of a footage, but with a stated film format only of a footage.
-// Refuses 6: no such rate or film format; 1: no shape; 2: a field of over 9 digits; 4: a perf field with a stated format that has
-// none; 13: a footage that cannot be on the film; 3: a dropped label; 5: the count is out of bounds; in this order. The place of 1 and 2
-// is the one that the scanners say.
+// A text read as a timecode at a rate, a length or a position: that of a label or of a footage, but with a stated film format only of a
+// footage. Refuses 6: no such rate or film format; 1: no shape; 2: a field of over 9 digits; 4: a perf field with a stated format that has
+// none; 13: a footage that cannot be on the film; 14: a label of a position that is not strict or has a sign; 3: a dropped label; 5: the
+// count is out of bounds; in this order. The place of 1 and 2 is the one that the scanners say.
 ghost use Prim.Native.Nat.{max};
 ghost use mathlib.Core.Path.{_≡_};
 ghost use mathlib.Core.Bool.{true};
 ghost use Rattle.rates.specs.Rates.{isRate};
 ghost use Rattle.footage_scan.specs.Footage.{footageScan};
 ghost use Rattle.reading.specs.Answer.{asLabel, asFootage};
-ghost use Rattle.reading.specs.Shaped.{isStated, formatFor, footageShaped, shapeOf};
-ghost use Rattle.reading.specs.Reading.{takesPerf, labelRead, footageRead, readShaped, readText};
+ghost use Rattle.reading.specs.Shaped.{isStated, formatFor, footageShaped, shapeOf, label};
+ghost use Rattle.reading.specs.Reading.{takesPerf, labelRead, footageRead, readShaped};
+ghost use Rattle.reading.specs.For.{settledRead, isLabelOf, shapedFor, readFor};
 use answers::Counted;
 use answers::Refusal;
 use film::FilmFormat;
 use film::Filmed;
 use scanner::Fit;
+use timecodes::Kind;
 use timecodes::Timecode;
 
 // The film format that is stated, by its number, or that none is.
@@ -30,12 +32,25 @@ pub enum Read {
     Refused(Refusal),
 }
 
+// What was read as a length, made a timecode of a kind: a position is reduced by whole days.
+fn settled(read: Read, kind: Kind) -> Read
+    ensures answer { λ r. ⌜ r ≡ settledRead kind read ⌝ }
+{
+    match read {
+        Read::Label(tc) => Read::Label(timecodes::made(tc.count, tc.rate, kind)),
+        Read::Footage(tc, format) => {
+            Read::Footage(timecodes::made(tc.count, tc.rate, kind), format)
+        }
+        Read::Refused(e) => Read::Refused(e),
+    }
+}
+
 // A count at a rate as the answer to a label.
 fn as_label(rate: u64, counted: Counted) -> Read
     ensures answer { λ r. ⌜ r ≡ asLabel rate counted ⌝ }
 {
     match counted {
-        Counted::Count(count) => Read::Label(timecodes::new(count, rate)),
+        Counted::Count(count) => Read::Label(timecodes::new(count, rate, Kind::Length)),
         Counted::Refused(e) => Read::Refused(e),
     }
 }
@@ -45,7 +60,9 @@ fn as_footage(rate: u64, format: FilmFormat, counted: Counted) -> Read
     ensures answer { λ r. ⌜ r ≡ asFootage rate format counted ⌝ }
 {
     match counted {
-        Counted::Count(count) => Read::Footage(timecodes::new(count, rate), format),
+        Counted::Count(count) => {
+            Read::Footage(timecodes::new(count, rate, Kind::Length), format)
+        }
         Counted::Refused(e) => Read::Refused(e),
     }
 }
@@ -101,6 +118,31 @@ fn read_label(rate: u64, minus: bool, fields: [u64; 4]) -> Read
         return Read::Refused(answers::DROPPED_LABEL);
     }
     as_label(rate, labels::label_count(fields, rate, minus))
+}
+
+// Whether a label's sign and fields may be those of this kind: the label of a position is unsigned and strict.
+fn is_label_of(kind: Kind, rate: u64, minus: bool, fields: [u64; 4]) -> bool
+    ensures answer { λ r. ⌜ r ≡ isLabelOf kind rate minus fields ⌝ }
+{
+    if !kind.is_position() {
+        return true;
+    }
+    if minus {
+        return false;
+    }
+    let timebase = rates::row(rate).timebase;
+    labels::is_strict(fields, timebase)
+}
+
+// The answer to a label's sign and fields, as a timecode of a kind. Asks a rate.
+fn label_for(rate: u64, minus: bool, fields: [u64; 4], kind: Kind) -> Read
+    requires rate { ⌜ isRate rate ≡ true ⌝ }
+    ensures answer { λ r. ⌜ r ≡ shapedFor kind rate Stated.Nothing (label minus fields) ⌝ }
+{
+    if !is_label_of(kind, rate, minus, fields) {
+        return Read::Refused(answers::NOT_STRICT);
+    }
+    settled(read_label(rate, minus, fields), kind)
 }
 
 // The answer to a footage's format, sign and fields.
@@ -165,26 +207,26 @@ fn only_footage(text: &[u8], stated: Stated, rate: u64, stopped: usize) -> Read
     }
 }
 
-// The answer to a text that is a label, or else can be a footage. Asks a rate.
-fn label_or_footage(text: &[u8], rate: u64) -> Read
+// The answer to a text that is a label, or else can be a footage, as a timecode of a kind. Asks a rate.
+fn label_or_footage(text: &[u8], rate: u64, kind: Kind) -> Read
     requires rate { ⌜ isRate rate ≡ true ⌝ }
-    ensures answer { λ r. ⌜ r ≡ readShaped rate Stated.Nothing (shapeOf Stated.Nothing (now (text .entry))) ⌝ }
+    ensures answer { λ r. ⌜ r ≡ shapedFor kind rate Stated.Nothing (shapeOf Stated.Nothing (now (text .entry))) ⌝ }
 {
     let scan = label_scan::scan_label(text);
     let fit = scan.fit;
     match fit {
         Fit::Fits => {
             let fields = scan.fields;
-            read_label(rate, scan.minus, fields)
+            label_for(rate, scan.minus, fields, kind)
         }
         Fit::TooLong(place) => Read::Refused(answers::at_place(answers::TOO_LONG, place)),
-        Fit::NoShape(stop) => only_footage(text, Stated::Nothing, rate, stop),
+        Fit::NoShape(stop) => settled(only_footage(text, Stated::Nothing, rate, stop), kind),
     }
 }
 
-// What a text reads as at a rate (vtc's `parse_timecode_string` and `parse_feet_and_frames_str`).
-pub fn read_text(text: &[u8], stated: Stated, rate: u64) -> Read
-    ensures answer { λ r. ⌜ r ≡ readText (now (text .entry)) stated rate ⌝ }
+// What a text reads as at a rate, a length or a position (vtc's `parse_timecode_string` and `parse_feet_and_frames_str`, which read lengths).
+pub fn read_text(text: &[u8], stated: Stated, rate: u64, kind: Kind) -> Read
+    ensures answer { λ r. ⌜ r ≡ readFor kind (now (text .entry)) stated rate ⌝ }
 {
     if !rates::is_rate(rate) {
         return Read::Refused(answers::NO_SUCH);
@@ -193,7 +235,7 @@ pub fn read_text(text: &[u8], stated: Stated, rate: u64) -> Read
         return Read::Refused(answers::NO_SUCH);
     }
     let Stated::Format(_) = stated else {
-        return label_or_footage(text, rate);
+        return label_or_footage(text, rate, kind);
     };
-    only_footage(text, stated, rate, 0)
+    settled(only_footage(text, stated, rate, 0), kind)
 }

@@ -1,0 +1,42 @@
+-- Reading a length or a position (BEHAVIOUR: Positions): 14 of a label, then what a length's reading gives, reduced by whole days for a position.
+-- Assumes nothing.
+use Prim.Native.Nat.{ℕ}
+use mathlib.Core.Bool.{Bool, true, not, _&&_}
+use mathlib.Core.List.{List, [], _∷_}
+use Rattle.answers.specs.Order.{Condition, when, unless}
+use Rattle.answers.specs.Refusals.{notStrict}
+use Rattle.rates.specs.Rates.{rateRow}
+use Rattle.timecodes.specs.declared.kinds.Kind.{Kind}
+use Rattle.timecodes.specs.declared.kinds.Kind.the-variants.{Length, Position}
+use Rattle.timecodes.specs.Made.{made}
+use Rattle.labels.specs.Label.{isStrict}
+use Rattle.reading.specs.declared.Stated.{Stated}
+use Rattle.reading.specs.declared.Read.{Read}
+use Rattle.reading.specs.declared.Read.the-variants.{Label, Footage, Refused}
+use Rattle.reading.specs.Shaped.{Shaped, label, footage, refused, shapeOf}
+use Rattle.reading.specs.Reading.{readShaped, readWhen}
+
+-- what was read as a length, made a timecode of a kind; what is refused stays so
+abbrev pub settledRead : Kind → Read → Read
+settledRead kind (Label tc) = Label (made kind (tc .count) (tc .rate))
+settledRead kind (Footage tc format) = Footage (made kind (tc .count) (tc .rate)) format
+settledRead kind (Refused e) = Refused e
+
+-- any label may be a length's; a position's is unsigned and strict: hours under 24, minutes and seconds under 60, frames under the timebase
+abbrev pub isLabelOf : Kind → (rate : ℕ) (minus : Bool) (fields : List ℕ) → Bool
+isLabelOf Length rate minus fields = true
+isLabelOf Position rate minus fields = not minus && isStrict (rateRow rate .timebase) fields
+
+-- 14: a label of a position that is not strict or has a sign; only labels get it
+abbrev pub strictWhen : Kind → (rate : ℕ) → Shaped → List Condition
+strictWhen kind rate (label minus fields) = when notStrict (not (isLabelOf kind rate minus fields)) ∷ []
+strictWhen kind rate (footage minus feet frames perf marker) = []
+strictWhen kind rate (refused e) = []
+
+-- what was taken by its shape: 14, then what a length's reading gives
+unfoldable pub shapedFor : Kind → (rate : ℕ) → Stated → Shaped → Read
+shapedFor kind rate stated shaped = unless Refused (strictWhen kind rate shaped) (settledRead kind (readShaped rate stated shaped))
+
+-- 6, then what the shape gives
+unfoldable pub readFor : Kind → (text : List ℕ) → Stated → (rate : ℕ) → Read
+readFor kind text stated rate = unless Refused (readWhen stated rate) (shapedFor kind rate stated (shapeOf stated text))

@@ -1,0 +1,93 @@
+-- Laws of reading a length or a position that callers cite (BEHAVIOUR: Positions): each test, and that a length's reading is as it was.
+-- Assumes nothing.
+use Prim.Native.Nat.{ℕ}
+use mathlib.Core.Path.{_≡_, refl, sym, ap, subst}
+use mathlib.Core.Bool.{Bool, true, false, not, _&&_}
+use mathlib.Core.List.{List}
+use lib.Dec.{T}
+use Rattle.answers.specs.Order.{unless}
+use Rattle.answers.specs.OrderLaws.{unless-map}
+use Rattle.answers.specs.Refusals.{notStrict, noSuch}
+use Rattle.rates.specs.Rates.{isRate, rateRow}
+use Rattle.timecodes.specs.declared.kinds.Kind.{Kind}
+use Rattle.timecodes.specs.declared.kinds.Kind.the-variants.{Length, Position}
+use Rattle.timecodes.specs.Kinds.{isPosition}
+use Rattle.timecodes.specs.Timecode.{timecode}
+use Rattle.film.specs.declared.FilmFormat.{FilmFormat}
+use Rattle.labels.specs.Label.{isStrict}
+use Rattle.labels.specs.AtRate.{labelFrames}
+use Rattle.footage_scan.specs.declared.FootageScan.{FootageScan}
+use Rattle.scanner.specs.declared.text.Fit.{Fit}
+use Rattle.scanner.specs.declared.text.Fit.the-variants.{Fits, TooLong, NoShape}
+use Rattle.reading.specs.declared.Stated.{Stated}
+use Rattle.reading.specs.declared.Read.{Read}
+use Rattle.reading.specs.declared.Read.the-variants.{Label, Footage, Refused}
+use Rattle.reading.specs.Shaped.{isStated, formatFor, Shaped, label, footage, refused, byFit, farthest, footageShaped, shapeOf}
+use Rattle.reading.specs.Reading.{labelReadWhen, labelRead, footageFrames, footageReadWhen, footageRead, readShaped, readWhen, readText}
+use Rattle.reading.specs.For.{settledRead, isLabelOf, strictWhen, shapedFor, readFor}
+
+-- ---- a label by kind: any may be a length's, a position's is strict and has no sign
+pub any-label : (kind : Kind) (rate : ℕ) (minus : Bool) (fields : List ℕ) → isPosition kind ≡ false → isLabelOf kind rate minus fields ≡ true
+any-label Length rate minus fields e = refl
+any-label Position rate minus fields e = absurd (subst T e tt)
+
+pub day-label : (kind : Kind) (rate : ℕ) (minus : Bool) (fields : List ℕ) → isPosition kind ≡ true
+    → isLabelOf kind rate minus fields ≡ (not minus && isStrict (rateRow rate .timebase) fields)
+day-label Length rate minus fields e = absurd (subst T (sym e) tt)
+day-label Position rate minus fields e = refl
+
+-- ---- by shape
+module _ (kind : Kind) (rate : ℕ) (stated : Stated) where
+  pub label-not-of : (minus : Bool) (fields : List ℕ) → isLabelOf kind rate minus fields ≡ false
+      → shapedFor kind rate stated (label minus fields) ≡ Refused notStrict
+  unfolding shapedFor
+  label-not-of minus fields e = rw e
+
+  pub label-of : (minus : Bool) (fields : List ℕ) → isLabelOf kind rate minus fields ≡ true
+      → shapedFor kind rate stated (label minus fields) ≡ settledRead kind (labelRead rate minus fields)
+  unfolding shapedFor
+  label-of minus fields e = rw e
+
+  -- a footage, and what is none, get no 14
+  pub footage-for : (stopped : ℕ) (scan : FootageScan)
+      → shapedFor kind rate stated (footageShaped stopped scan) ≡ settledRead kind (readShaped rate stated (footageShaped stopped scan))
+  unfolding shapedFor
+  footage-for stopped scan = by (scan .fit)
+    where
+      by : (fit : Fit)
+          → (let x = byFit (footage (scan .minus) (scan .feet) (scan .frames) (scan .perf) (scan .marker)) (farthest stopped) fit in
+          shapedFor kind rate stated x ≡ settledRead kind (readShaped rate stated x))
+      by Fits = refl
+      by (TooLong place) = refl
+      by (NoShape stop) = refl
+
+-- ---- a length's reading is as it was
+length-read : (rate : ℕ) (stated : Stated) (x : Shaped) → shapedFor Length rate stated x ≡ readShaped rate stated x
+unfolding shapedFor labelRead footageRead
+length-read rate stated (label minus fields) =
+    unless-map (settledRead Length) Refused Refused (λ e. refl) (labelReadWhen rate minus fields) (Label (timecode (labelFrames rate minus fields) rate))
+length-read rate stated (footage minus feet frames perf marker) = settled-footage (formatFor stated perf)
+  where
+    settled-footage : (format : FilmFormat) → settledRead Length (footageRead rate format minus feet frames perf marker) ≡ footageRead rate format minus feet frames perf marker
+    settled-footage format =
+        unless-map (settledRead Length) Refused Refused (λ e. refl) (footageReadWhen format minus feet frames perf marker)
+        (Footage (timecode (footageFrames format minus feet frames) rate) format)
+length-read rate stated (refused e) = refl
+
+pub read-length : (text : List ℕ) (stated : Stated) (rate : ℕ) → readFor Length text stated rate ≡ readText text stated rate
+unfolding readFor readText
+read-length text stated rate = ap (λ (r : Read). unless Refused (readWhen stated rate) r) (length-read rate stated (shapeOf stated text))
+
+-- ---- a text
+module _ (kind : Kind) (text : List ℕ) (stated : Stated) (rate : ℕ) where
+  pub for-no-rate : isRate rate ≡ false → readFor kind text stated rate ≡ Refused noSuch
+  unfolding readFor
+  for-no-rate e = simp e
+
+  pub for-no-format : isRate rate ≡ true → isStated stated ≡ false → readFor kind text stated rate ≡ Refused noSuch
+  unfolding readFor
+  for-no-format r s = simp (r, s)
+
+  pub for-shaped : isRate rate ≡ true → isStated stated ≡ true → readFor kind text stated rate ≡ shapedFor kind rate stated (shapeOf stated text)
+  unfolding readFor
+  for-shaped r s = simp (r, s)
