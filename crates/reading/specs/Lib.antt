@@ -5,3 +5,4 @@ pub mod ReadingLaws
 pub mod For
 pub mod ForLaws
 pub mod Statements
+pub mod Positions
