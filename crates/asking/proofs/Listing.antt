@@ -3,14 +3,17 @@
 use Prim.Native.Nat.{ℕ, zero, suc, _+_, _-_, _≤_, _<_}
 use mathlib.Core.Path.{_≡_, refl, sym, ap, _∙_}
 use mathlib.Core.List.{List}
+use mathlib.Core.Bool.{Bool}
 use native.Mathlib.Omega.{arith}
 use lib.Dec.{leb}
-use lib.IntN.{ℤ, pos}
+use lib.IntN.{ℤ}
 use lib.ListN.{length, drop, set, getD, length-set}
 use Rattle.numbers.specs.Sign.{upFrom}
 use Rattle.asking.specs.declared.values.Word.the-variants.{Number, Nothing}
+use Rattle.asking.specs.declared.words.Value.{Value}
 use Rattle.asking.specs.declared.numbered.Listed.{Listed}
 use Rattle.asking.specs.Numbers.{numberAt}
+use Rattle.asking.specs.Asked.{noValue}
 use Rattle.asking.specs.Numbered.{numbersOf, listing, listFrom}
 
 -- n numbers were put into the list
@@ -60,8 +63,9 @@ module _ (line : List ℕ) (from : ℕ) (list₀ list : List ℕ) (at n : ℕ) (
       on (suc k) h = let m : suc k - 1 ≡ k = omega arith in rw (e, f, m)
 
 -- ---- the five numbers, each as it was read
-pub numbers-are : (v : List ℤ) (up1 : ℕ) (n2 : ℤ) (up2 : ℕ) (n3 : ℤ) (up3 : ℕ) (n4 : ℤ) (up4 up5 : ℕ)
-    → up1 ≡ upFrom (getD v 0 (pos 0)) → n2 ≡ getD v 1 (pos 0) → up2 ≡ upFrom (getD v 1 (pos 0)) → n3 ≡ getD v 2 (pos 0)
-    → up3 ≡ upFrom (getD v 2 (pos 0)) → n4 ≡ getD v 3 (pos 0) → up4 ≡ upFrom (getD v 3 (pos 0)) → up5 ≡ upFrom (getD v 4 (pos 0))
-    → record { up1 = up1; n2 = n2; up2 = up2; n3 = n3; up3 = up3; n4 = n4; up4 = up4; up5 = up5 } ≡ numbersOf v
-numbers-are v up1 n2 up2 n3 up3 n4 up4 up5 a b c d e f g h = rw (a, b, c, d, e, f, g, h)
+pub numbers-are : (v : List Value) (up1 : ℕ) (n2 : ℤ) (up2 : ℕ) (n3 : ℤ) (up3 : ℕ) (n4 : ℤ) (up4 up5 : ℕ) (at1 at2 at3 : Bool)
+    → let n : ℕ → Value = λ k. getD v k noValue in
+    up1 ≡ upFrom (n 0 .number) → n2 ≡ n 1 .number → up2 ≡ upFrom (n 1 .number) → n3 ≡ n 2 .number → up3 ≡ upFrom (n 2 .number)
+    → n4 ≡ n 3 .number → up4 ≡ upFrom (n 3 .number) → up5 ≡ upFrom (n 4 .number) → at1 ≡ n 0 .marked → at2 ≡ n 1 .marked → at3 ≡ n 2 .marked
+    → record { up1 = up1; n2 = n2; up2 = up2; n3 = n3; up3 = up3; n4 = n4; up4 = up4; up5 = up5; at1 = at1; at2 = at2; at3 = at3 } ≡ numbersOf v
+numbers-are v up1 n2 up2 n3 up3 n4 up4 up5 at1 at2 at3 a b c d e f g h i j k = rw (a, b, c, d, e, f, g, h, i, j, k)

@@ -132,22 +132,21 @@ module _ (line : List ℕ) (at n : ℕ) (e : n ≡ span (drop at line)) where
       within-by minus _ m (at + n) h
       ∙ rw (digits-part, ne-eqb (span (drop at line)) 0 (λ y. z (e ∙ y)), e)
 
--- ---- a number behind a space
 module _ (line : List ℕ) (at : ℕ) where
+  -- ---- an optional `-`, and the digits behind it
+  pub signed-minus : firstIs (isByte 45) (drop at line) ≡ true → digitsAt true (at + 1) (drop (at + 1) line) ≡ signedAt at (drop at line)
+  unfolding signedAt
+  signed-minus e = rw (e, drop-drop 1 at line)
+
+  pub signed-plain : firstIs (isByte 45) (drop at line) ≡ false → digitsAt false at (drop at line) ≡ signedAt at (drop at line)
+  unfolding signedAt
+  signed-plain e = rw e
+
+  -- ---- a number behind a space
   pub number-none : firstIs (isByte 32) (drop at line) ≡ false → Nothing ≡ numberAt at (drop at line)
   unfolding numberAt
   number-none e = rw e
 
-  module _ (e : firstIs (isByte 32) (drop at line) ≡ true) where
-    next : drop 1 (drop at line) ≡ drop (at + 1) line
-    next = drop-drop 1 at line
-
-    pub number-minus : firstIs (isByte 45) (drop (at + 1) line) ≡ true
-        → digitsAt true (at + 1 + 1) (drop (at + 1 + 1) line) ≡ numberAt at (drop at line)
-    unfolding numberAt signedAt
-    number-minus f = rw (e, next, f, drop-drop 1 (at + 1) line)
-
-    pub number-plain : firstIs (isByte 45) (drop (at + 1) line) ≡ false
-        → digitsAt false (at + 1) (drop (at + 1) line) ≡ numberAt at (drop at line)
-    unfolding numberAt signedAt
-    number-plain f = rw (e, next, f)
+  pub number-some : firstIs (isByte 32) (drop at line) ≡ true → signedAt (at + 1) (drop (at + 1) line) ≡ numberAt at (drop at line)
+  unfolding numberAt
+  number-some e = rw (e, drop-drop 1 at line)

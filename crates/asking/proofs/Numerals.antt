@@ -11,12 +11,14 @@ use lib.ListN.{length, drop}
 use lib.Seq.{drop-drop, drop-append-seam}
 use borrow.Author.Tests.{eqb-true, eqb-false, ne-eqb}
 use Rattle.numbers.specs.Sign.{signed}
-use Rattle.digits.specs.Digits.{isByte, IsField, valueOf, firstIs, digitFirst, span, leading}
-use Rattle.digits.proofs.Values.{digit-bounds, all-head}
+use Rattle.digits.specs.Digits.{isByte, isDigit, IsField, valueOf, firstIs, digitFirst, span, leading}
+use Rattle.digits.proofs.Values.{all-head}
 use Rattle.digits.proofs.Runs.{span-run, leading-run, leading-field, leading-length, leading-rest, span-stops}
 use Rattle.asking.specs.declared.values.Word.the-variants.{Number, Nothing}
 use Rattle.asking.specs.Numbers.{isWithin, signedWord, digitsAt, signedAt, numberAt}
+use Rattle.asking.specs.Asked.{isMarked, valueAt}
 use Rattle.asking.specs.Grammar.{Numeral, plain, minus}
+use Rattle.asking.proofs.Taken.{and-false}
 
 -- ---- a number of the grammar is taken
 digits-taken : (sign : Bool) (at : ℕ) (d l : List ℕ) → IsField d → isWithin sign (valueOf d) ≡ true → digitFirst l ≡ false
@@ -25,25 +27,57 @@ unfolding digitsAt signedWord
 digits-taken sign at d l f w s =
     rw (leading-run d l (f .digits) s, span-run d l (f .digits) s, ne-eqb (length d) 0 (λ e. omega (arith, e, f .some)), w)
 
-no-minus : (d l : List ℕ) → IsField d → firstIs (isByte 45) (d ++ l) ≡ false
-no-minus [] l f = absurd (omega (arith, f .some))
-no-minus (b ∷ d) l f = ne-eqb b 45 (λ e. omega (arith, e, digit-bounds b (all-head b d (f .digits))))
+true-false : true ≡ false → ⊥
+true-false e = let z : _≡_ {A = ℕ} 0 1 = cc in omega arith
+
+-- a byte that is no digit is not the first of digits
+not-first : (c : ℕ) (d l : List ℕ) → IsField d → isDigit c ≡ false → firstIs (isByte c) (d ++ l) ≡ false
+not-first c [] l f h = absurd (omega (arith, f .some))
+not-first c (b ∷ d) l f h = ne-eqb b c (λ e. true-false (sym (all-head b d (f .digits)) ∙ ap isDigit e ∙ h))
+
+signed-taken : {d : List ℕ} {z : ℤ} → Numeral d z → (at : ℕ) (l : List ℕ) → digitFirst l ≡ false → signedAt at (d ++ l) ≡ Number z (at + length d)
+unfolding signedAt
+signed-taken (plain {d} f w) at l s = rw (not-first 45 d l f refl) (digits-taken false at d l f w s)
+signed-taken (minus {d} f w) at l s =
+    let e : at + 1 + length d ≡ at + suc (length d) = omega arith in
+    digits-taken true (at + 1) d l f w s ∙ rw e
 
 pub number-taken : {d : List ℕ} {z : ℤ} → Numeral d z → (at : ℕ) (l : List ℕ) → digitFirst l ≡ false
     → numberAt at (32 ∷ d ++ l) ≡ Number z (at + 1 + length d)
-unfolding numberAt signedAt
-number-taken (plain {d} f w) at l s = rw (no-minus d l f) (digits-taken false (at + 1) d l f w s)
-number-taken (minus {d} f w) at l s =
-    let e : at + 1 + 1 + length d ≡ at + 1 + suc (length d) = omega arith in
-    digits-taken true (at + 1 + 1) d l f w s ∙ rw e
+unfolding numberAt
+number-taken f at l s = signed-taken f (at + 1) l s
+
+-- behind its mark, and no mark is a number's first byte
+pub marked-taken : {d : List ℕ} {z : ℤ} → Numeral d z → (at : ℕ) (l : List ℕ) → digitFirst l ≡ false
+    → valueAt 64 at (32 ∷ 64 ∷ d ++ l) ≡ Number z (at + 2 + length d)
+unfolding valueAt isMarked
+marked-taken f at l s = signed-taken f (at + 2) l s
+
+no-mark : {d : List ℕ} {z : ℤ} → Numeral d z → (l : List ℕ) → firstIs (isByte 64) (d ++ l) ≡ false
+no-mark (plain {d} f w) l = not-first 64 d l f refl
+no-mark (minus f w) l = refl
+
+pub number-unmarked : {d : List ℕ} {z : ℤ} → Numeral d z → (kind : ℕ) (l : List ℕ) → isMarked kind (32 ∷ d ++ l) ≡ false
+unfolding isMarked
+number-unmarked f kind l = rw (no-mark f l) (and-false (eqb kind 64))
 
 -- ---- what is left behind it
+pub signed-left : (line : List ℕ) (at : ℕ) (d l : List ℕ) → drop at line ≡ d ++ l → drop (at + length d) line ≡ l
+signed-left line at d l q = sym (drop-drop (length d) at line) ∙ ap (drop (length d)) q ∙ drop-append-seam d l
+
 pub number-left : (line : List ℕ) (at : ℕ) (d l : List ℕ) → drop at line ≡ 32 ∷ d ++ l → drop (at + 1 + length d) line ≡ l
-number-left line at d l q =
-    let s : at + 1 + length d ≡ at + suc (length d) = omega arith in
-    rw s (sym (drop-drop (suc (length d)) at line) ∙ ap (drop (suc (length d))) q ∙ drop-append-seam d l)
+number-left line at d l q = signed-left line (at + 1) d l (sym (drop-drop 1 at line) ∙ ap (drop 1) q)
 
 -- ---- and what is taken is one
+pub record Signed (at : ℕ) (l : List ℕ) (z : ℤ) (next : ℕ) : Type 0 where
+  pub digits : List ℕ
+  pub rest : List ℕ
+  pub is : l ≡ digits ++ rest
+  pub numeral : Numeral digits z
+  pub stops : digitFirst rest ≡ false
+  pub past : next ≡ at + length digits
+
+-- behind a space
 pub record Taken (at : ℕ) (l : List ℕ) (z : ℤ) (next : ℕ) : Type 0 where
   pub digits : List ℕ
   pub rest : List ℕ
@@ -80,35 +114,34 @@ digits-told sign at l z next e = by (eqb (span l) 0) refl (isWithin sign (valueO
     by false p false q f = absurd (nothing f)
 
 module _ (at : ℕ) (t : List ℕ) (z : ℤ) (next : ℕ) where
-  plain-told : Digits false (at + 1) t z next → Taken at (32 ∷ t) z next
+  plain-told : Digits false at t z next → Signed at t z next
   plain-told d = record {
     digits = leading t;
     rest = drop (span t) t;
-    is = ap (λ u. 32 ∷ u) (sym (leading-rest t));
+    is = sym (leading-rest t);
     numeral = subst (Numeral (leading t)) (sym (d .value)) (plain (leading-field t (d .some)) (d .within));
     stops = span-stops t;
     past = omega (arith, d .past, leading-length t);
   }
 
-  minus-told : Digits true (at + 1 + 1) t z next → Taken at (32 ∷ 45 ∷ t) z next
+  minus-told : Digits true (at + 1) t z next → Signed at (45 ∷ t) z next
   minus-told d = record {
     digits = 45 ∷ leading t;
     rest = drop (span t) t;
-    is = ap (λ u. 32 ∷ 45 ∷ u) (sym (leading-rest t));
+    is = ap (λ u. 45 ∷ u) (sym (leading-rest t));
     numeral = subst (Numeral (45 ∷ leading t)) (sym (d .value)) (minus (leading-field t (d .some)) (d .within));
     stops = span-stops t;
     past = omega (arith, d .past, leading-length t);
   }
 
-signed-told : (at : ℕ) (t : List ℕ) (z : ℤ) (next : ℕ) → signedAt (at + 1) t ≡ Number z next → Taken at (32 ∷ t) z next
+pub signed-told : (at : ℕ) (t : List ℕ) (z : ℤ) (next : ℕ) → signedAt at t ≡ Number z next → Signed at t z next
 unfolding signedAt
-signed-told at [] z next e = plain-told at [] z next (digits-told false (at + 1) [] z next e)
+signed-told at [] z next e = plain-told at [] z next (digits-told false at [] z next e)
 signed-told at (c ∷ t) z next e = by (eqb c 45) refl e
   where
-    by : (x : Bool) → eqb c 45 ≡ x → cond x (digitsAt true (at + 1 + 1) t) (digitsAt false (at + 1) (c ∷ t)) ≡ Number z next
-        → Taken at (32 ∷ c ∷ t) z next
-    by true p f = rw (eqb-true c 45 p) (minus-told at t z next (digits-told true (at + 1 + 1) t z next f))
-    by false p f = plain-told at (c ∷ t) z next (digits-told false (at + 1) (c ∷ t) z next f)
+    by : (x : Bool) → eqb c 45 ≡ x → cond x (digitsAt true (at + 1) t) (digitsAt false at (c ∷ t)) ≡ Number z next → Signed at (c ∷ t) z next
+    by true p f = rw (eqb-true c 45 p) (minus-told at t z next (digits-told true (at + 1) t z next f))
+    by false p f = plain-told at (c ∷ t) z next (digits-told false at (c ∷ t) z next f)
 
 pub number-told : (at : ℕ) (l : List ℕ) (z : ℤ) (next : ℕ) → numberAt at l ≡ Number z next → Taken at l z next
 unfolding numberAt
@@ -116,5 +149,14 @@ number-told at [] z next e = absurd (nothing e)
 number-told at (b ∷ t) z next e = by (eqb b 32) refl e
   where
     by : (x : Bool) → eqb b 32 ≡ x → cond x (signedAt (at + 1) t) Nothing ≡ Number z next → Taken at (b ∷ t) z next
-    by true p f = rw (eqb-true b 32 p) (signed-told at t z next f)
+    by true p f =
+        let s = signed-told (at + 1) t z next f in
+        record {
+          digits = s .digits;
+          rest = s .rest;
+          is = rw (eqb-true b 32 p) (ap (λ u. 32 ∷ u) (s .is));
+          numeral = s .numeral;
+          stops = s .stops;
+          past = s .past;
+        }
     by false p f = absurd (nothing f)

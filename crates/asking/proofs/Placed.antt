@@ -5,12 +5,11 @@ use mathlib.Core.Path.{_≡_, sym, _∙_}
 use mathlib.Core.List.{List, [], _∷_, _++_, append-assoc}
 use native.Mathlib.Omega.{arith}
 use native.Mathlib.Numerals.{add-one}
-use lib.IntN.{ℤ}
 use lib.ListN.{length, take, drop, set, length-set, take-append-drop}
 use lib.Seq.{take-suc-set, drop-set-lt}
 use Rattle.asking.specs.Statements.{placedFrom}
 
-placed-is : (zs : List ℤ) (n : ℕ) (list : List ℤ) → n + length zs ≤ length list
+placed-is : {A : Type 0} → (zs : List A) (n : ℕ) (list : List A) → n + length zs ≤ length list
     → placedFrom n list zs ≡ take n list ++ (zs ++ drop (n + length zs) list)
 unfolding placedFrom
 placed-is [] n list h = let e : n + 0 ≡ n = omega arith in rw e (sym (take-append-drop n list))
@@ -19,5 +18,5 @@ placed-is (z ∷ zs) n list h =
     placed-is zs (n + 1) (set list n z) (omega (arith, length-set list n z))
     ∙ rw (add-one, take-suc-set list n z (omega arith), append-assoc, e, drop-set-lt (n + suc (length zs)) list n z (omega arith))
 
-pub placed-front : (zs list : List ℤ) → length zs ≤ length list → placedFrom 0 list zs ≡ zs ++ drop (length zs) list
+pub placed-front : {A : Type 0} → (zs list : List A) → length zs ≤ length list → placedFrom 0 list zs ≡ zs ++ drop (length zs) list
 placed-front zs list h = let e : 0 + length zs ≡ length zs = omega arith in placed-is zs 0 list (omega arith) ∙ rw e

@@ -6,17 +6,20 @@ use mathlib.Core.List.{List, [], _∷_}
 use mathlib.Core.Bool.{Bool, true, false, cond, not, _&&_}
 use native.Mathlib.Omega.{arith}
 use native.Mathlib.Numerals.{add-one}
-use lib.ListN.{length, take, drop, set, getD, drop-of-length-le}
-use lib.Seq.{drop-cons}
+use lib.ListN.{length, take, drop, set, getD, length-drop, drop-of-length-le}
+use lib.Seq.{drop-cons, drop-drop}
 use lib.Dec.{eqb, ltb, leb}
 use lib.IntN.{ℤ, natAbs}
-use borrow.Author.Tests.{lt-ltb, le-ltb, ltb-true, eq-eqb, ne-eqb, not-true}
+use borrow.Author.Tests.{lt-ltb, le-ltb, ltb-true, eq-eqb, ne-eqb, eqb-true, not-true}
 use Rattle.numbers.specs.Sign.{isNeg}
+use Rattle.digits.specs.Digits.{isByte, firstIs}
+use Rattle.asking.specs.declared.values.Word.{Word}
 use Rattle.asking.specs.declared.values.Word.the-variants.{Number, Nothing}
+use Rattle.asking.specs.declared.words.Value.{Value}
 use Rattle.asking.specs.declared.words.Rest.the-variants as rest
-use Rattle.asking.specs.Numbers.{numberAt}
+use Rattle.asking.specs.Numbers.{signedAt, numberAt}
 use Rattle.asking.specs.Table.{rowCount, wordOf, isPlain, rowNamed, kindOf}
-use Rattle.asking.specs.Asked.{isRoom, isInRange, allowed, isLast, restAt, unknown, noValues, endedAt, wordThen, wordsFrom, askedOf}
+use Rattle.asking.specs.Asked.{value, isMarked, valueAt, isRoom, isInRange, allowed, isLast, restAt, unknown, noValues, endedAt, wordThen, wordsFrom, askedOf}
 
 -- ---- the loop of `word_end`: no space stands before i
 pub record Ending (line : List ℕ) (i : ℕ) : Type 0 where
@@ -89,11 +92,58 @@ module _ (kind : ℕ) (z : ℤ) where
     unfolding isInRange
     allowed-any g = rw (ne-eqb kind 112 e, ne-eqb kind 109 f, ne-eqb kind 119 g)
 
--- ---- where the rest begins
-and-false : (t : Bool) → (t && false) ≡ false
+-- ---- two tests
+pub and-false : (t : Bool) → (t && false) ≡ false
 and-false true = refl
 and-false false = refl
 
+both-left : (x y : Bool) → (x && y) ≡ true → x ≡ true
+both-left true y e = refl
+both-left false y e = e
+
+both-right : (x y : Bool) → (x && y) ≡ true → y ≡ true
+both-right true y e = e
+both-right false y e = let z : _≡_ {A = ℕ} 0 1 = cc in absurd (omega arith)
+
+-- ---- the mark of a position
+module _ (kind : ℕ) (line : List ℕ) (at : ℕ) where
+  pub mark-none : (kind ≡ 64 → ⊥) → false ≡ isMarked kind (drop at line)
+  unfolding isMarked
+  mark-none e = rw (ne-eqb kind 64 e)
+
+  module _ (e : kind ≡ 64) where
+    pub mark-apart : firstIs (isByte 32) (drop at line) ≡ false → false ≡ isMarked kind (drop at line)
+    unfolding isMarked
+    mark-apart f = rw (eq-eqb kind 64 e, f)
+
+    pub mark-by : firstIs (isByte 32) (drop at line) ≡ true → firstIs (isByte 64) (drop (at + 1) line) ≡ isMarked kind (drop at line)
+    unfolding isMarked
+    mark-by f = rw (eq-eqb kind 64 e, f, drop-drop 1 at line)
+
+-- the number behind it
+pub value-marked : (kind at : ℕ) (l : List ℕ) → isMarked kind l ≡ true → valueAt kind at l ≡ signedAt (at + 2) (drop 2 l)
+unfolding valueAt
+value-marked kind at l e = rw e
+
+pub value-plain : (kind at : ℕ) (l : List ℕ) → isMarked kind l ≡ false → valueAt kind at l ≡ numberAt at l
+unfolding valueAt
+value-plain kind at l e = rw e
+
+-- what a mark tells: the letter, and the line's next two bytes
+pub mark-told : (kind : ℕ) (l : List ℕ) → isMarked kind l ≡ true → (kind ≡ 64) × (l ≡ 32 ∷ 64 ∷ drop 2 l)
+unfolding isMarked
+mark-told kind l e = (eqb-true kind 64 (both-left (eqb kind 64) _ e), bytes l (both-right (eqb kind 64) _ e))
+  where
+    bytes : (l : List ℕ) → (firstIs (isByte 32) l && firstIs (isByte 64) (drop 1 l)) ≡ true → l ≡ 32 ∷ 64 ∷ drop 2 l
+    bytes [] f = let z : _≡_ {A = ℕ} 0 1 = cc in absurd (omega arith)
+    bytes (b ∷ []) f = let g = both-right (eqb b 32) false f in let z : _≡_ {A = ℕ} 0 1 = cc in absurd (omega arith)
+    bytes (b ∷ c ∷ l) f =
+        ap (λ x. x ∷ c ∷ l) (eqb-true b 32 (both-left (eqb b 32) (eqb c 64) f)) ∙ ap (λ x. 32 ∷ x ∷ l) (eqb-true c 64 (both-right (eqb b 32) (eqb c 64) f))
+
+pub mark-within : (kind : ℕ) (line : List ℕ) (at : ℕ) → isMarked kind (drop at line) ≡ true → at + 1 < length line
+mark-within kind line at e = omega (arith, ap length (mark-told kind (drop at line) e .1), length-drop at line)
+
+-- ---- where the rest begins
 module _ (kind : ℕ) (line : List ℕ) (at : ℕ) where
   pub rest-ended : length line ≤ at → rest.At at ≡ restAt kind at (drop at line)
   unfolding restAt
@@ -133,7 +183,7 @@ module _ (k kind : ℕ) where
     number-other h f = rw (lt-ltb k 5 h, ne-eqb kind 32 e, ne-eqb kind 116 f)
 
 -- ---- the loop of `words`: what is wanted from here is what is wanted from the start
-pub record Going (row : ℕ) (line : List ℕ) (from : ℕ) (values : List ℤ) (at k : ℕ) : Type 0 where
+pub record Going (row : ℕ) (line : List ℕ) (from : ℕ) (values : List Value) (at k : ℕ) : Type 0 where
   pub n : ℕ
   pub left : k + n ≡ 5
   pub same : wordsFrom 5 row line from 0 noValues ≡ wordsFrom n row line at k values
@@ -141,38 +191,34 @@ pub record Going (row : ℕ) (line : List ℕ) (from : ℕ) (values : List ℤ) 
 pub going-start : (row : ℕ) (line : List ℕ) (from : ℕ) → Going row line from noValues from 0
 going-start row line from = record { n = 5; left = refl; same = refl }
 
-both-left : (x y : Bool) → (x && y) ≡ true → x ≡ true
-both-left true y e = refl
-both-left false y e = e
-
-both-right : (x y : Bool) → (x && y) ≡ true → y ≡ true
-both-right true y e = e
-both-right false y e = let z : _≡_ {A = ℕ} 0 1 = cc in absurd (omega arith)
-
-module _ (row : ℕ) (line : List ℕ) (from : ℕ) (values : List ℤ) (at k : ℕ) (s : Going row line from values at k) where
+module _ (row : ℕ) (line : List ℕ) (from : ℕ) (values : List Value) (at k : ℕ) (s : Going row line from values at k) where
   pub going-within : (t : Bool) → t ≡ (ltb k 5 && not (isLast (kindOf row k))) → t ≡ true → k < 5
   going-within t e f = ltb-true k 5 (both-left (ltb k 5) _ (sym e ∙ f))
 
   module _ (t : Bool) (e : t ≡ (ltb k 5 && not (isLast (kindOf row k)))) (f : t ≡ true) where
     more : (n : ℕ) → k + n ≡ 5
         → wordsFrom n row line at k values
-        ≡ wordThen (allowed (kindOf row k) (numberAt at (drop at line))) (λ z next. wordsFrom (n - 1) row line next (k + 1) (set values k z))
+        ≡ wordThen (allowed (kindOf row k) (valueAt (kindOf row k) at (drop at line)))
+        (λ z next. wordsFrom (n - 1) row line next (k + 1) (set values k (value z (isMarked (kindOf row k) (drop at line)))))
     unfolding wordsFrom
     more zero l = absurd (omega (arith, going-within t e f))
     more (suc n) l =
         let m : suc n - 1 ≡ n = omega arith in
         rw (not-true (isLast (kindOf row k)) (both-right (ltb k 5) _ (sym e ∙ f)), m)
 
-    pub going-none : allowed (kindOf row k) (numberAt at (drop at line)) ≡ Nothing → unknown ≡ wordsFrom 5 row line from 0 noValues
-    going-none g = sym (s .same ∙ more (s .n) (s .left) ∙ rw g)
+    -- by the word there
+    module _ (kind : ℕ) (i : kind ≡ kindOf row k) (w : Word) (j : w ≡ allowed kind (valueAt kind at (drop at line))) where
+      pub going-none : w ≡ Nothing → unknown ≡ wordsFrom 5 row line from 0 noValues
+      going-none g = sym (s .same ∙ more (s .n) (s .left) ∙ rw (← i, ← j, g))
 
-    pub going-turn : (z : ℤ) (next : ℕ) → allowed (kindOf row k) (numberAt at (drop at line)) ≡ Number z next
-        → Going row line from (set values k z) next (k + 1)
-    going-turn z next g = record {
-      n = s .n - 1;
-      left = omega (arith, going-within t e f, s .left);
-      same = s .same ∙ more (s .n) (s .left) ∙ rw g;
-    }
+      -- and by the letter that its mark was looked for with
+      pub going-turn : (z : ℤ) (next : ℕ) (b : Bool) (mark : ℕ) → w ≡ Number z next → b ≡ isMarked mark (drop at line) → mark ≡ kind
+          → Going row line from (set values k (value z b)) next (k + 1)
+      going-turn z next b mark g h m = record {
+        n = s .n - 1;
+        left = omega (arith, going-within t e f, s .left);
+        same = s .same ∙ more (s .n) (s .left) ∙ rw (← i, ← j, g, h, m);
+      }
 
   pub going-ended : (t : Bool) → t ≡ (ltb k 5 && not (isLast (kindOf row k))) → t ≡ false
       → endedAt row line at k values ≡ wordsFrom 5 row line from 0 noValues

@@ -8,27 +8,29 @@ use native.Mathlib.Omega.{arith}
 use lib.Dec.{eqb, ltb}
 use lib.IntN.{ℤ}
 use lib.ListN.{length, drop, set, getD, length-append, length-drop, take-append-drop}
+use lib.Seq.{drop-drop}
 use borrow.Author.Tests.{eqb-true, ltb-true, not-true}
 use Rattle.asking.specs.declared.values.Word.{Word}
 use Rattle.asking.specs.declared.values.Word.the-variants.{Number, Nothing}
+use Rattle.asking.specs.declared.words.Value.{Value}
 use Rattle.asking.specs.declared.words.Asked.{Asked}
 use Rattle.asking.specs.declared.words.Rest.the-variants as rest
-use Rattle.asking.specs.Numbers.{numberAt}
+use Rattle.asking.specs.Numbers.{signedAt, numberAt}
 use Rattle.asking.specs.Table.{Row, row, rows, rowCount, rowAt, wordOf, same, rowFrom, rowNamed, kindOf}
-use Rattle.asking.specs.Asked.{isInRange, allowed, isLast, restAt, noValues, unknown, askedRest, endedAt, wordThen, wordsFrom, askedOf}
-use Rattle.asking.specs.Grammar.{Behind, ended, noText, text, own, number, Asks, asks}
+use Rattle.asking.specs.Asked.{value, isMarked, valueAt, isInRange, allowed, isLast, restAt, noValues, unknown, askedRest, endedAt, wordThen, wordsFrom, askedOf}
+use Rattle.asking.specs.Grammar.{Behind, ended, noText, text, own, number, marked, Asks, asks}
 use Rattle.asking.specs.Statements.{placedFrom, IsAsked}
-use Rattle.asking.proofs.Numerals.{number-told, number-left}
+use Rattle.asking.proofs.Numerals.{number-told, number-left, signed-told, signed-left}
 use Rattle.asking.proofs.Understanding.{numbers, isFormed, letter-here, letter-none, letters-on, words-last, words-number, row-formed, row-five}
-use Rattle.asking.proofs.Taken.{word-within, word-first}
+use Rattle.asking.proofs.Taken.{word-within, word-first, value-plain, value-marked, mark-told}
 
 -- what is told of the words from the k-th on, which begin at a place of the line
-record Told (n : ℕ) (letters t line : List ℕ) (k : ℕ) (values : List ℤ) (a : Asked) : Type 0 where
-  zs : List ℤ
+record Told (n : ℕ) (letters t line : List ℕ) (k : ℕ) (values : List Value) (a : Asked) : Type 0 where
+  vs : List Value
   r : List ℕ
   row-is : a .row ≡ n
-  behind : Behind letters t zs r
-  values-are : a .values ≡ placedFrom k values zs
+  behind : Behind letters t vs r
+  values-are : a .values ≡ placedFrom k values vs
   begins : a .rest + length r ≡ length line
 
 -- no row is past the table
@@ -37,11 +39,11 @@ past a e h = omega (arith, h, ap (λ z. z .row) e)
 
 module _ (n : ℕ) (line : List ℕ) where
   -- the end of the words, by their last letter
-  none-told : (at k : ℕ) (values : List ℤ) (t : List ℕ) → drop at line ≡ t → at ≤ length line → askedRest n values (restAt 32 at t) .row < rowCount
+  none-told : (at k : ℕ) (values : List Value) (t : List ℕ) → drop at line ≡ t → at ≤ length line → askedRest n values (restAt 32 at t) .row < rowCount
       → Told n [] t line k values (askedRest n values (restAt 32 at t))
   unfolding restAt placedFrom
   none-told at k values [] q w h = record {
-    zs = [];
+    vs = [];
     r = [];
     row-is = refl;
     behind = ended;
@@ -50,11 +52,11 @@ module _ (n : ℕ) (line : List ℕ) where
   }
   none-told at k values (b ∷ u) q w h = absurd (past unknown refl h)
 
-  text-told : (at k : ℕ) (values : List ℤ) (t : List ℕ) → drop at line ≡ t → at ≤ length line → askedRest n values (restAt 116 at t) .row < rowCount
+  text-told : (at k : ℕ) (values : List Value) (t : List ℕ) → drop at line ≡ t → at ≤ length line → askedRest n values (restAt 116 at t) .row < rowCount
       → Told n (116 ∷ []) t line k values (askedRest n values (restAt 116 at t))
   unfolding restAt placedFrom
   text-told at k values [] q w h = record {
-    zs = [];
+    vs = [];
     r = [];
     row-is = refl;
     behind = noText;
@@ -66,7 +68,7 @@ module _ (n : ℕ) (line : List ℕ) where
       by : (x : Bool) → eqb b 32 ≡ x → askedRest n values (cond x (rest.At (at + 1)) rest.Other) .row < rowCount
           → Told n (116 ∷ []) (b ∷ u) line k values (askedRest n values (cond x (rest.At (at + 1)) rest.Other))
       by true e g = record {
-        zs = [];
+        vs = [];
         r = u;
         row-is = refl;
         behind = rw (eqb-true b 32 e) text;
@@ -75,11 +77,11 @@ module _ (n : ℕ) (line : List ℕ) where
       }
       by false e g = absurd (past unknown refl g)
 
-  own-told : (at k : ℕ) (values : List ℤ) (t : List ℕ) → drop at line ≡ t → at ≤ length line
+  own-told : (at k : ℕ) (values : List Value) (t : List ℕ) → drop at line ≡ t → at ≤ length line
       → Told n (42 ∷ []) t line k values (askedRest n values (restAt 42 at t))
   unfolding restAt placedFrom
   own-told at k values [] q w = record {
-    zs = [];
+    vs = [];
     r = [];
     row-is = refl;
     behind = own;
@@ -87,7 +89,7 @@ module _ (n : ℕ) (line : List ℕ) where
     begins = omega (arith, ap length q, length-drop at line);
   }
   own-told at k values (b ∷ u) q w = record {
-    zs = [];
+    vs = [];
     r = b ∷ u;
     row-is = refl;
     behind = own;
@@ -96,7 +98,7 @@ module _ (n : ℕ) (line : List ℕ) where
   }
 
   -- one of the two letters
-  last-told : (x at k : ℕ) (values : List ℤ) (t : List ℕ) → isLast x ≡ true → not (eqb x 32) ≡ true → drop at line ≡ t → at ≤ length line
+  last-told : (x at k : ℕ) (values : List Value) (t : List ℕ) → isLast x ≡ true → not (eqb x 32) ≡ true → drop at line ≡ t → at ≤ length line
       → askedRest n values (restAt x at t) .row < rowCount → Told n (x ∷ []) t line k values (askedRest n values (restAt x at t))
   last-told x at k values t i j q w h = by (eqb x 116) refl (eqb x 42) refl (rw (not-true (eqb x 32) j) at i)
     where
@@ -109,7 +111,7 @@ module _ (n : ℕ) (line : List ℕ) where
       by false e false f o = absurd (let y : _≡_ {A = Bool} false true = sym (rw (e, f)) ∙ o in let z : _≡_ {A = ℕ} 0 1 = cc in omega arith)
 
   -- no letter is left
-  none-words : (m at k : ℕ) (values : List ℤ) → drop k (rowAt n .letters) ≡ [] → at ≤ length line → wordsFrom m n line at k values .row < rowCount
+  none-words : (m at k : ℕ) (values : List Value) → drop k (rowAt n .letters) ≡ [] → at ≤ length line → wordsFrom m n line at k values .row < rowCount
       → Told n [] (drop at line) line k values (wordsFrom m n line at k values)
   unfolding endedAt
   none-words m at k values p w h =
@@ -118,7 +120,7 @@ module _ (n : ℕ) (line : List ℕ) where
       words-last n line at k values m (ap isLast kind) ∙ ap (λ x. askedRest n values (restAt x at (drop at line))) kind in
       rw e (none-told at k values (drop at line) refl w (rw e at h))
 
-  module _ (x : ℕ) (l : List ℕ) (at k : ℕ) (values : List ℤ) (p : drop k (rowAt n .letters) ≡ x ∷ l) (w : at ≤ length line) where
+  module _ (x : ℕ) (l : List ℕ) (at k : ℕ) (values : List Value) (p : drop k (rowAt n .letters) ≡ x ∷ l) (w : at ≤ length line) where
     kind : kindOf n k ≡ x
     kind = letter-here (rowAt n .letters) k x l p
 
@@ -133,48 +135,79 @@ module _ (n : ℕ) (line : List ℕ) where
 
     -- a number, and what is told of the words behind it
     number-words : (m : ℕ) → isLast x ≡ false
-        → ((next : ℕ) (v : List ℤ) → next ≤ length line → wordsFrom m n line next (k + 1) v .row < rowCount
+        → ((next : ℕ) (v : List Value) → next ≤ length line → wordsFrom m n line next (k + 1) v .row < rowCount
         → Told n l (drop next line) line (k + 1) v (wordsFrom m n line next (k + 1) v))
         → wordsFrom (suc m) n line at k values .row < rowCount
         → Told n (x ∷ l) (drop at line) line k values (wordsFrom (suc m) n line at k values)
     unfolding placedFrom
     number-words m i ih h =
-        rw e (by (numberAt at (drop at line)) refl (rw e at h))
+        rw e (by (valueAt x at (drop at line)) refl (rw e at h))
       where
-        then : ℤ → ℕ → Asked
-        then z next = wordsFrom m n line next (k + 1) (set values k z)
+        mark : Bool
+        mark = isMarked x (drop at line)
 
-        e : wordsFrom (suc m) n line at k values ≡ wordThen (allowed x (numberAt at (drop at line))) then
+        then : ℤ → ℕ → Asked
+        then z next = wordsFrom m n line next (k + 1) (set values k (value z mark))
+
+        e : wordsFrom (suc m) n line at k values ≡ wordThen (allowed x (valueAt x at (drop at line))) then
         e =
             words-number n line at k values m (ap isLast kind ∙ i)
-            ∙ ap (λ y. wordThen (allowed y (numberAt at (drop at line))) then) kind
+            ∙ rw kind
 
-        number : (z : ℤ) (next : ℕ) → numberAt at (drop at line) ≡ Number z next → isInRange x z ≡ true → then z next .row < rowCount
-            → Told n (x ∷ l) (drop at line) line k values (then z next)
-        number z next q g u =
-            let t = number-told at (drop at line) z next q in
-            let long : length (drop at line) ≡ suc (length (t .digits) + length (t .rest)) = ap length (t .is) ∙ ap suc (length-append (t .digits) (t .rest)) in
-            let left : drop next line ≡ t .rest = ap (λ y. drop y line) (t .past) ∙ number-left line at (t .digits) (t .rest) (t .is) in
-            let more = ih next (set values k z) (omega (arith, t .past, long, length-drop at line)) u in
+        -- a number of the grammar, and what is told of the words behind it
+        one : (z : ℤ) (next : ℕ) (b : Bool) (t : List ℕ) → mark ≡ b → drop next line ≡ t → next ≤ length line
+            → ((vs : List Value) (r : List ℕ) → Behind l t vs r → Behind (x ∷ l) (drop at line) (value z b ∷ vs) r)
+            → then z next .row < rowCount → Told n (x ∷ l) (drop at line) line k values (then z next)
+        one z next b t f left within behind u =
+            let more = ih next (set values k (value z mark)) within u in
             record {
-              zs = z ∷ more .zs;
+              vs = value z b ∷ more .vs;
               r = more .r;
               row-is = more .row-is;
-              behind =
-                  subst (λ y. Behind (x ∷ l) y (z ∷ more .zs) (more .r)) (sym (t .is))
-                  (Behind.number i (t .numeral) g (t .stops) (subst (λ y. Behind l y (more .zs) (more .r)) left (more .behind)));
-              values-are = more .values-are;
+              behind = behind (more .vs) (more .r) (subst (λ y. Behind l y (more .vs) (more .r)) left (more .behind));
+              values-are = more .values-are ∙ ap (λ y. placedFrom (k + 1) (set values k (value z y)) (more .vs)) f;
               begins = more .begins;
             }
 
-        by : (y : Word) → numberAt at (drop at line) ≡ y → wordThen (allowed x y) then .row < rowCount
+        plain : (z : ℤ) (next : ℕ) → mark ≡ false → numberAt at (drop at line) ≡ Number z next → isInRange x z ≡ true → then z next .row < rowCount
+            → Told n (x ∷ l) (drop at line) line k values (then z next)
+        plain z next f q g u =
+            let t = number-told at (drop at line) z next q in
+            let long : length (drop at line) ≡ suc (length (t .digits) + length (t .rest)) = ap length (t .is) ∙ ap suc (length-append (t .digits) (t .rest)) in
+            one z next false (t .rest) f
+            (ap (λ y. drop y line) (t .past) ∙ number-left line at (t .digits) (t .rest) (t .is))
+            (omega (arith, t .past, long, length-drop at line))
+            (λ vs r b. subst (λ y. Behind (x ∷ l) y (value z false ∷ vs) r) (sym (t .is)) (number i (t .numeral) g (t .stops) b))
+            u
+
+        marks : (z : ℤ) (next : ℕ) → mark ≡ true → signedAt (at + 2) (drop 2 (drop at line)) ≡ Number z next → then z next .row < rowCount
+            → Told n (x ∷ l) (drop at line) line k values (then z next)
+        marks z next f q u =
+            let m = mark-told x (drop at line) f in
+            let t = signed-told (at + 2) (drop 2 (drop at line)) z next q in
+            let is : drop at line ≡ 32 ∷ 64 ∷ t .digits ++ t .rest = m .1 ∙ ap (λ y. 32 ∷ 64 ∷ y) (t .is) in
+            let long : length (drop at line) ≡ suc (suc (length (t .digits) + length (t .rest))) =
+            ap length is ∙ ap (λ y. suc (suc y)) (length-append (t .digits) (t .rest)) in
+            one z next true (t .rest) f
+            (ap (λ y. drop y line) (t .past) ∙ signed-left line (at + 2) (t .digits) (t .rest) (sym (drop-drop 2 at line) ∙ t .is))
+            (omega (arith, t .past, long, length-drop at line))
+            (λ vs r b. subst (λ y. Behind (y ∷ l) (drop at line) (value z true ∷ vs) r) (sym (m .0))
+            (subst (λ y. Behind (64 ∷ l) y (value z true ∷ vs) r) (sym is) (marked (t .numeral) (t .stops) b)))
+            u
+
+        by : (y : Word) → valueAt x at (drop at line) ≡ y → wordThen (allowed x y) then .row < rowCount
             → Told n (x ∷ l) (drop at line) line k values (wordThen (allowed x y) then)
         by Nothing q u = absurd (past unknown refl u)
         by (Number z next) q u = ranged (isInRange x z) refl u
           where
+            number : (b : Bool) → mark ≡ b → isInRange x z ≡ true → then z next .row < rowCount
+                → Told n (x ∷ l) (drop at line) line k values (then z next)
+            number true f g u = marks z next f (sym (value-marked x at (drop at line) f) ∙ q) u
+            number false f g u = plain z next f (sym (value-plain x at (drop at line) f) ∙ q) g u
+
             ranged : (b : Bool) → isInRange x z ≡ b → wordThen (cond b (Number z next) Nothing) then .row < rowCount
                 → Told n (x ∷ l) (drop at line) line k values (wordThen (cond b (Number z next) Nothing) then)
-            ranged true g u = number z next q g u
+            ranged true g u = number mark refl g u
             ranged false g u = absurd (past unknown refl u)
 
   -- the last letter is the only one that is no number's
@@ -195,7 +228,7 @@ module _ (n : ℕ) (line : List ℕ) where
   numbers-on x l m i c = rw i at c
 
   -- the words from the k-th on
-  words-told : (m at k : ℕ) (values : List ℤ) (letters : List ℕ) → drop k (rowAt n .letters) ≡ letters → isFormed letters ≡ true
+  words-told : (m at k : ℕ) (values : List Value) (letters : List ℕ) → drop k (rowAt n .letters) ≡ letters → isFormed letters ≡ true
       → numbers letters ≤ m → at ≤ length line → wordsFrom m n line at k values .row < rowCount
       → Told n letters (drop at line) line k values (wordsFrom m n line at k values)
   words-told zero at k values [] p f c w h = none-words zero at k values p w h
@@ -210,7 +243,7 @@ module _ (n : ℕ) (line : List ℕ) where
       (λ i next v w u. words-told m next (k + 1) v l (letters-on (rowAt n .letters) k x l p) (formed-on x l f i) (omega (arith, numbers-on x l (suc m) i c)) w u)
     where
       by : (b : Bool) → isLast x ≡ b
-          → (isLast x ≡ false → (next : ℕ) (v : List ℤ) → next ≤ length line → wordsFrom m n line next (k + 1) v .row < rowCount
+          → (isLast x ≡ false → (next : ℕ) (v : List Value) → next ≤ length line → wordsFrom m n line next (k + 1) v .row < rowCount
           → Told n l (drop next line) line (k + 1) v (wordsFrom m n line next (k + 1) v))
           → Told n (x ∷ l) (drop at line) line k values (wordsFrom (suc m) n line at k values)
       by true i ih = let a = alone x l i f in last-words x l at k values p w (suc m) (a .0) (a .1) i h
@@ -268,9 +301,9 @@ only-understood line h = by (ltb (rowNamed (wordOf line)) rowCount) refl h
         let whole : rowAt n .name ++ drop (length (wordOf line)) line ≡ line =
         ap (λ z. z ++ drop (length (wordOf line)) line) (sym name ∙ sym (word-first line)) ∙ take-append-drop (length (wordOf line)) line in
         record {
-          numbers = t .zs;
+          numbers = t .vs;
           rest = t .r;
-          asks = subst (λ z. Asks line z (t .zs) (t .r)) (sym (t .row-is)) (subst (λ z. Asks z n (t .zs) (t .r)) whole (asks l (t .behind)));
+          asks = subst (λ z. Asks line z (t .vs) (t .r)) (sym (t .row-is)) (subst (λ z. Asks z n (t .vs) (t .r)) whole (asks l (t .behind)));
           values = t .values-are;
           begins = t .begins;
         }

@@ -12,15 +12,15 @@ use lib.Seq.{drop-drop, drop-append-seam}
 use borrow.Author.Tests.{eqb-true, eqb-false, lt-ltb, leb-true, not-true}
 use Rattle.laws.specs.Every.{at-every}
 use Rattle.asking.specs.declared.values.Word.the-variants.{Number}
+use Rattle.asking.specs.declared.words.Value.{Value}
 use Rattle.asking.specs.declared.words.Rest.the-variants as rest
-use Rattle.asking.specs.Numbers.{numberAt}
 use Rattle.asking.specs.Table.{Row, row, rows, rowCount, rowAt, wordOf, isPlain, same, rowFrom, rowNamed, kindOf}
-use Rattle.asking.specs.Asked.{allowed, isLast, restAt, asked, noValues, endedAt, wordThen, wordsFrom, askedOf}
-use Rattle.asking.specs.Grammar.{Behind, ended, noText, text, own, number, Asks, asks}
+use Rattle.asking.specs.Asked.{value, isMarked, valueAt, isInRange, allowed, isLast, restAt, asked, noValues, endedAt, wordThen, wordsFrom, askedOf}
+use Rattle.asking.specs.Grammar.{Behind, ended, noText, text, own, number, marked, Asks, asks}
 use Rattle.asking.specs.Statements.{placedFrom}
-use Rattle.asking.proofs.Numerals.{number-taken, number-left}
+use Rattle.asking.proofs.Numerals.{number-taken, number-unmarked, number-left, marked-taken, signed-left}
 use Rattle.asking.proofs.Named.{name-plain}
-use Rattle.asking.proofs.Taken.{allowed-yes}
+use Rattle.asking.proofs.Taken.{value-plain}
 
 -- ---- the letter at a place of a row's letters
 pub letter-here : (l : List ℕ) (k : ℕ) (x : ℕ) (r : List ℕ) → drop k l ≡ x ∷ r → getD l k 32 ≡ x
@@ -44,7 +44,7 @@ numbers [] = 0
 numbers (k ∷ l) = cond (isLast k) 0 (suc (numbers l))
 
 -- ---- the two ways on
-module _ (n : ℕ) (line : List ℕ) (at k : ℕ) (values : List ℤ) where
+module _ (n : ℕ) (line : List ℕ) (at k : ℕ) (values : List Value) where
   pub words-last : (m : ℕ) → isLast (kindOf n k) ≡ true → wordsFrom m n line at k values ≡ endedAt n line at k values
   unfolding wordsFrom
   words-last zero e = refl
@@ -52,7 +52,8 @@ module _ (n : ℕ) (line : List ℕ) (at k : ℕ) (values : List ℤ) where
 
   pub words-number : (m : ℕ) → isLast (kindOf n k) ≡ false
       → wordsFrom (suc m) n line at k values
-      ≡ wordThen (allowed (kindOf n k) (numberAt at (drop at line))) (λ z next. wordsFrom m n line next (k + 1) (set values k z))
+      ≡ wordThen (allowed (kindOf n k) (valueAt (kindOf n k) at (drop at line)))
+      (λ z next. wordsFrom m n line next (k + 1) (set values k (value z (isMarked (kindOf n k) (drop at line)))))
   unfolding wordsFrom
   words-number m e = rw e
 
@@ -63,7 +64,7 @@ module _ (n : ℕ) (line : List ℕ) (at k : ℕ) (values : List ℤ) where
 
 -- ---- what the grammar has behind a word is understood so
 module _ (n : ℕ) (line : List ℕ) where
-  last-is : (m at k begins kind : ℕ) (values : List ℤ) (t : List ℕ) → isLast kind ≡ true → kindOf n k ≡ kind → drop at line ≡ t
+  last-is : (m at k begins kind : ℕ) (values : List Value) (t : List ℕ) → isLast kind ≡ true → kindOf n k ≡ kind → drop at line ≡ t
       → restAt kind at t ≡ rest.At begins → wordsFrom m n line at k values ≡ asked n values begins
   last-is m at k begins kind values t i p q e =
       words-last n line at k values m (ap isLast p ∙ i) ∙ ended-is n line at k values kind t begins p q e
@@ -73,11 +74,17 @@ module _ (n : ℕ) (line : List ℕ) where
       → begins + length r ≡ at + length t
   place-is at begins t r q w b = omega (arith, b, ap length q, length-drop at line)
 
-  behind-is : {letters t : List ℕ} {zs : List ℤ} {r : List ℕ} → Behind letters t zs r
-      → (m at k begins : ℕ) (values : List ℤ) → drop k (rowAt n .letters) ≡ letters → drop at line ≡ t → at ≤ length line → numbers letters ≤ m
+  -- a number that stands there, with its mark, is put into its place
+  one-is : (m at k kind : ℕ) (values : List Value) (t : List ℕ) (b : Bool) (z : ℤ) (next : ℕ) → kindOf n k ≡ kind → isLast kind ≡ false
+      → isInRange kind z ≡ true → drop at line ≡ t → isMarked kind t ≡ b → valueAt kind at t ≡ Number z next
+      → wordsFrom (suc m) n line at k values ≡ wordsFrom m n line next (k + 1) (set values k (value z b))
+  one-is m at k kind values t b z next p e g q f h = words-number n line at k values m (ap isLast p ∙ e) ∙ rw (p, q, f, h, g)
+
+  behind-is : {letters t : List ℕ} {vs : List Value} {r : List ℕ} → Behind letters t vs r
+      → (m at k begins : ℕ) (values : List Value) → drop k (rowAt n .letters) ≡ letters → drop at line ≡ t → at ≤ length line → numbers letters ≤ m
       → begins + length r ≡ length line
-      → wordsFrom m n line at k values ≡ asked n (placedFrom k values zs) begins
-  unfolding restAt placedFrom numbers
+      → wordsFrom m n line at k values ≡ asked n (placedFrom k values vs) begins
+  unfolding restAt placedFrom numbers isMarked isInRange
   behind-is ended m at k begins values p q w c b =
       let e : at ≡ begins = omega (arith, place-is at begins [] [] q w b) in
       last-is m at k begins 32 values [] refl (letter-none (rowAt n .letters) k p) q (ap rest.At e)
@@ -94,18 +101,21 @@ module _ (n : ℕ) (line : List ℕ) where
       own-is : (at begins : ℕ) (t : List ℕ) → at ≡ begins → restAt 42 at t ≡ rest.At begins
       own-is at begins [] e = ap rest.At e
       own-is at begins (x ∷ t) e = ap rest.At e
-  behind-is (number {kind} {letters} {d} {l} {z} {zs} {r} e f g h i) zero at k begins values p q w c b = absurd (omega (arith, rw e at c))
-  behind-is (number {kind} {letters} {d} {l} {z} {zs} {r} e f g h i) (suc m) at k begins values p q w c b =
-      let kind-is : kindOf n k ≡ kind = letter-here (rowAt n .letters) k kind letters p in
-      let word : allowed (kindOf n k) (numberAt at (drop at line)) ≡ Number z (at + 1 + length d) =
-      ap (λ x. allowed x (numberAt at (drop at line))) kind-is
-      ∙ ap (allowed kind) (ap (numberAt at) q ∙ number-taken f at l h)
-      ∙ allowed-yes kind z (at + 1 + length d) g in
+  behind-is (number {kind} {letters} {d} {l} {z} {vs} {r} e f g h i) zero at k begins values p q w c b = absurd (omega (arith, rw e at c))
+  behind-is (number {kind} {letters} {d} {l} {z} {vs} {r} e f g h i) (suc m) at k begins values p q w c b =
       let long : length (drop at line) ≡ suc (length d + length l) = ap length q ∙ ap suc (length-append d l) in
-      words-number n line at k values m (ap isLast kind-is ∙ e)
-      ∙ ap (λ x. wordThen x (λ z next. wordsFrom m n line next (k + 1) (set values k z))) word
-      ∙ behind-is i m (at + 1 + length d) (k + 1) begins (set values k z) (letters-on (rowAt n .letters) k kind letters p) (number-left line at d l q)
-      (omega (arith, long, length-drop at line)) (omega (arith, rw e at c)) b
+      let plain = number-unmarked f kind l in
+      one-is m at k kind values (32 ∷ d ++ l) false z (at + 1 + length d) (letter-here (rowAt n .letters) k kind letters p) e g q plain
+      (value-plain kind at (32 ∷ d ++ l) plain ∙ number-taken f at l h)
+      ∙ behind-is i m (at + 1 + length d) (k + 1) begins (set values k (value z false)) (letters-on (rowAt n .letters) k kind letters p)
+      (number-left line at d l q) (omega (arith, long, length-drop at line)) (omega (arith, rw e at c)) b
+  behind-is (marked {letters} {d} {l} {z} {vs} {r} f h i) zero at k begins values p q w c b = absurd (omega (arith, c))
+  behind-is (marked {letters} {d} {l} {z} {vs} {r} f h i) (suc m) at k begins values p q w c b =
+      let long : length (drop at line) ≡ suc (suc (length d + length l)) = ap length q ∙ ap (λ x. suc (suc x)) (length-append d l) in
+      one-is m at k 64 values (32 ∷ 64 ∷ d ++ l) true z (at + 2 + length d) (letter-here (rowAt n .letters) k 64 letters p) refl refl q refl
+      (marked-taken f at l h)
+      ∙ behind-is i m (at + 2 + length d) (k + 1) begins (set values k (value z true)) (letters-on (rowAt n .letters) k 64 letters p)
+      (signed-left line (at + 2) d l (sym (drop-drop 2 at line) ∙ ap (drop 2) q)) (omega (arith, long, length-drop at line)) (omega (arith, c)) b
 
 -- ---- the rows: the first row with a row's word is that row; a word is followed by a space or the line's end; five numbers at most
 unfoldable pub isFormed : List ℕ → Bool
@@ -153,13 +163,14 @@ opens : List ℕ → Bool
 opens [] = true
 opens (b ∷ l) = eqb b 32
 
-behind-opens : {letters t : List ℕ} {zs : List ℤ} {r : List ℕ} → Behind letters t zs r → (getD letters 0 32 ≡ 42 → ⊥) → opens t ≡ true
+behind-opens : {letters t : List ℕ} {vs : List Value} {r : List ℕ} → Behind letters t vs r → (getD letters 0 32 ≡ 42 → ⊥) → opens t ≡ true
 unfolding opens
 behind-opens ended h = refl
 behind-opens noText h = refl
 behind-opens text h = refl
 behind-opens own h = absurd (h refl)
 behind-opens (number e f g i j) h = refl
+behind-opens (marked e f g) h = refl
 
 word-is : (name t : List ℕ) → isPlain name ≡ true → opens t ≡ true → wordOf (name ++ t) ≡ name
 unfolding wordOf isPlain opens
@@ -169,10 +180,10 @@ word-is (b ∷ name) t p o =
     let q = and-eq-true-iff (not (eqb b 32)) (isPlain name) .0 p in
     rw (not-true (eqb b 32) (q .0), word-is name t (q .1) o)
 
-pub understood : (line : List ℕ) (n : ℕ) (zs : List ℤ) (r : List ℕ) (begins : ℕ) → Asks line n zs r → begins + length r ≡ length line
-    → askedOf line ≡ asked n (placedFrom 0 noValues zs) begins
+pub understood : (line : List ℕ) (n : ℕ) (vs : List Value) (r : List ℕ) (begins : ℕ) → Asks line n vs r → begins + length r ≡ length line
+    → askedOf line ≡ asked n (placedFrom 0 noValues vs) begins
 unfolding askedOf
-understood _ _ _ _ begins (asks {n} {t} {r} {zs} h b) e =
+understood _ _ _ _ begins (asks {n} {t} {r} {vs} h b) e =
     let name = rowAt n .name in
     let word : wordOf (name ++ t) ≡ name = word-is name t (name-plain n h) (behind-opens b (row-opens n h)) in
     let found : rowNamed (wordOf (name ++ t)) ≡ n = ap rowNamed word ∙ row-own n h in

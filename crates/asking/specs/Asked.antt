@@ -1,19 +1,34 @@
--- What a line asks (docs/ASK.md): its command, the numbers behind the command's word, and where the rest of the line begins.
+-- What a line asks (docs/ASK.md): its command, the numbers behind the command's word and their marks, and where the rest begins.
 -- Assumes nothing.
 use Prim.Native.Nat.{ℕ, zero, suc, _+_}
 use mathlib.Core.List.{List, [], _∷_}
-use mathlib.Core.Bool.{Bool, true, cond, not, _&&_, _||_}
+use mathlib.Core.Bool.{Bool, true, false, cond, not, _&&_, _||_}
 use lib.Dec.{eqb, ltb, leb}
 use lib.IntN.{ℤ, pos, natAbs}
 use lib.ListN.{length, drop, set}
 use Rattle.numbers.specs.Sign.{isNeg}
+use Rattle.digits.specs.Digits.{isByte, firstIs}
 use Rattle.asking.specs.declared.values.Word.{Word}
 use Rattle.asking.specs.declared.values.Word.the-variants.{Number, Nothing}
+use Rattle.asking.specs.declared.words.Value.{Value}
 use Rattle.asking.specs.declared.words.Asked.{Asked}
 use Rattle.asking.specs.declared.words.Rest.{Rest}
 use Rattle.asking.specs.declared.words.Rest.the-variants as rest
-use Rattle.asking.specs.Numbers.{numberAt}
+use Rattle.asking.specs.Numbers.{signedAt, numberAt}
 use Rattle.asking.specs.Table.{rowCount, wordOf, rowNamed, kindOf}
+
+-- ---- a number and its mark, in a line: l is what is left of it
+-- a number, and whether it has the mark of a position
+abbrev pub value : ℤ → (marked : Bool) → Value
+value z marked = record { number = z; marked = marked }
+
+-- the letter is `@`, a rate's that may have the mark, and `@` stands in front, behind one space
+unfoldable pub isMarked : (kind : ℕ) → List ℕ → Bool
+isMarked kind l = eqb kind 64 && (firstIs (isByte 32) l && firstIs (isByte 64) (drop 1 l))
+
+-- the number in front, from the place `at` on: behind one space, and behind its mark where it has one
+unfoldable pub valueAt : (kind at : ℕ) → List ℕ → Word
+valueAt kind at l = cond (isMarked kind l) (signedAt (at + 2) (drop 2 l)) (numberAt at l)
 
 -- ---- a word by its letter
 -- a room is from 0 to the widest
@@ -42,21 +57,25 @@ restAt kind at [] = rest.At at
 restAt kind at (b ∷ l) = cond (eqb kind 42) (rest.At at) (cond (eqb kind 116 && eqb b 32) (rest.At (at + 1)) rest.Other)
 
 -- ---- what is asked
-abbrev pub asked : ℕ → List ℤ → ℕ → Asked
+abbrev pub asked : ℕ → List Value → ℕ → Asked
 asked n values begins = record { row = n; values = values; rest = begins }
 
-abbrev pub noValues : List ℤ
-noValues = pos 0 ∷ pos 0 ∷ pos 0 ∷ pos 0 ∷ pos 0 ∷ []
+-- zero, with no mark
+abbrev pub noValue : Value
+noValue = value (pos 0) false
+
+abbrev pub noValues : List Value
+noValues = noValue ∷ noValue ∷ noValue ∷ noValue ∷ noValue ∷ []
 
 -- no command: a row past the table
 abbrev pub unknown : Asked
 unknown = asked rowCount noValues 0
 
-abbrev pub askedRest : ℕ → List ℤ → Rest → Asked
+abbrev pub askedRest : ℕ → List Value → Rest → Asked
 askedRest n values (rest.At begins) = asked n values begins
 askedRest n values rest.Other = unknown
 
-unfoldable pub endedAt : (row : ℕ) (line : List ℕ) (at k : ℕ) → List ℤ → Asked
+unfoldable pub endedAt : (row : ℕ) (line : List ℕ) (at k : ℕ) → List Value → Asked
 endedAt n line at k values = askedRest n values (restAt (kindOf n k) at (drop at line))
 
 abbrev pub wordThen : Word → (ℤ → ℕ → Asked) → Asked
@@ -64,11 +83,13 @@ wordThen (Number z next) then = then z next
 wordThen Nothing then = unknown
 
 -- the words from the k-th on, which begin at a place of the line: m numbers at most, and the rest
-unfoldable pub wordsFrom : (m row : ℕ) (line : List ℕ) (at k : ℕ) → List ℤ → Asked
+unfoldable pub wordsFrom : (m row : ℕ) (line : List ℕ) (at k : ℕ) → List Value → Asked
 wordsFrom zero n line at k values = endedAt n line at k values
 wordsFrom (suc m) n line at k values =
-    cond (isLast (kindOf n k)) (endedAt n line at k values)
-    (wordThen (allowed (kindOf n k) (numberAt at (drop at line))) (λ z next. wordsFrom m n line next (k + 1) (set values k z)))
+    let kind = kindOf n k in
+    let l = drop at line in
+    cond (isLast kind) (endedAt n line at k values)
+    (wordThen (allowed kind (valueAt kind at l)) (λ z next. wordsFrom m n line next (k + 1) (set values k (value z (isMarked kind l)))))
 
 -- a command's word, and the words behind it as its row has them
 unfoldable pub askedOf : (line : List ℕ) → Asked

@@ -3,26 +3,31 @@
 use Prim.Native.Nat.{ℕ, zero, suc, _+_}
 use mathlib.Core.List.{List}
 use lib.Dec.{leb}
-use lib.IntN.{ℤ, pos}
+use lib.IntN.{ℤ}
 use lib.ListN.{length, drop, set, getD}
 use Rattle.numbers.specs.Sign.{upFrom}
 use Rattle.asking.specs.declared.values.Word.{Word}
 use Rattle.asking.specs.declared.values.Word.the-variants.{Number, Nothing}
+use Rattle.asking.specs.declared.words.Value.{Value}
 use Rattle.asking.specs.declared.numbered.Numbers.{Numbers}
 use Rattle.asking.specs.declared.numbered.Listed.{Listed}
 use Rattle.asking.specs.Numbers.{numberAt}
+use Rattle.asking.specs.Asked.{noValue}
 
--- each of the five as it is given, or so
-abbrev pub numbersOf : List ℤ → Numbers
+-- each of the five as it is given, or as one from 0 on; and whether each of the first three has the mark
+abbrev pub numbersOf : List Value → Numbers
 numbersOf v = record {
-  up1 = upFrom (getD v 0 (pos 0));
-  n2 = getD v 1 (pos 0);
-  up2 = upFrom (getD v 1 (pos 0));
-  n3 = getD v 2 (pos 0);
-  up3 = upFrom (getD v 2 (pos 0));
-  n4 = getD v 3 (pos 0);
-  up4 = upFrom (getD v 3 (pos 0));
-  up5 = upFrom (getD v 4 (pos 0));
+  up1 = upFrom (getD v 0 noValue .number);
+  n2 = getD v 1 noValue .number;
+  up2 = upFrom (getD v 1 noValue .number);
+  n3 = getD v 2 noValue .number;
+  up3 = upFrom (getD v 2 noValue .number);
+  n4 = getD v 3 noValue .number;
+  up4 = upFrom (getD v 3 noValue .number);
+  up5 = upFrom (getD v 4 noValue .number);
+  at1 = getD v 0 noValue .marked;
+  at2 = getD v 1 noValue .marked;
+  at3 = getD v 2 noValue .marked;
 }
 
 -- ---- a list of numbers

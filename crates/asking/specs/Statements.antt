@@ -3,27 +3,27 @@
 use Prim.Native.Nat.{ℕ, _+_, _<_}
 use mathlib.Core.Path.{_≡_}
 use mathlib.Core.List.{List, [], _∷_}
-use lib.IntN.{ℤ}
 use lib.ListN.{length, set}
+use Rattle.asking.specs.declared.words.Value.{Value}
 use Rattle.asking.specs.declared.words.Asked.{Asked}
 use Rattle.asking.specs.Table.{rowCount}
 use Rattle.asking.specs.Asked.{asked, noValues, askedOf}
 use Rattle.asking.specs.Grammar.{Asks}
 
--- the numbers in their places from the k-th on
-unfoldable pub placedFrom : (k : ℕ) (values zs : List ℤ) → List ℤ
+-- elements in their places of a list from the k-th on
+unfoldable pub placedFrom : {A : Type 0} → (k : ℕ) (values zs : List A) → List A
 placedFrom k values [] = values
 placedFrom k values (z ∷ zs) = placedFrom (k + 1) (set values k z) zs
 
--- a line that the grammar has is understood: as its row, its numbers with zeros behind them, and where its rest begins
+-- a line that the grammar has is understood: as its row, its numbers and their marks with zeros behind them, and where its rest begins
 abbrev pub Understood : Type 0
 Understood =
-    (line : List ℕ) (n : ℕ) (zs : List ℤ) (rest : List ℕ) (begins : ℕ) → Asks line n zs rest → begins + length rest ≡ length line
-    → askedOf line ≡ asked n (placedFrom 0 noValues zs) begins
+    (line : List ℕ) (n : ℕ) (vs : List Value) (rest : List ℕ) (begins : ℕ) → Asks line n vs rest → begins + length rest ≡ length line
+    → askedOf line ≡ asked n (placedFrom 0 noValues vs) begins
 
 -- a line of the grammar, with what is asked of it
 pub record IsAsked (line : List ℕ) (a : Asked) : Type 0 where
-  pub numbers : List ℤ
+  pub numbers : List Value
   pub rest : List ℕ
   pub asks : Asks line (a .row) numbers rest
   pub values : a .values ≡ placedFrom 0 noValues numbers

@@ -32,8 +32,9 @@ same (a ∷ l) [] = false
 same (a ∷ l) (b ∷ m) = eqb a b && same l m
 
 -- ---- the rows
--- a command's word, and the letters of the words behind it: `r` a rate, `n` any number, `p` a place (from 0 on), `m` a room (0 to 128),
--- `w` a wide room (0 to 1024); last `t` a text, the rest of the line, or `*` a rest that the command takes apart itself
+-- a command's word, and the letters of the words behind it: `@` the rate of a timecode, which may have the mark, `r` a rate that has no
+-- mark, `n` any number, `p` a place (from 0 on), `m` a room (0 to 128), `w` a wide room (0 to 1024); last `t` a text, the rest of the
+-- line, or `*` a rest that the command takes apart itself
 pub record Row : Type 0 where
   pub name : List ℕ
   pub letters : List ℕ
@@ -44,30 +45,30 @@ row name letters = record { name = spelt name; letters = spelt letters }
 unfoldable pub rows : List Row
 rows =
     row "help" ""
-    ∷ row "read" "rt"
-    ∷ row "read_as" "nrt"
-    ∷ row "read_runtime" "rt"
-    ∷ row "label" "rnpm"
-    ∷ row "footage" "nrnpm"
-    ∷ row "runtime" "rnnpm"
-    ∷ row "count" "rn"
-    ∷ row "from_ticks" "rn"
-    ∷ row "from_seconds" "rnn"
+    ∷ row "read" "@t"
+    ∷ row "read_as" "n@t"
+    ∷ row "read_runtime" "@t"
+    ∷ row "label" "@npm"
+    ∷ row "footage" "n@npm"
+    ∷ row "runtime" "@nnpm"
+    ∷ row "count" "@n"
+    ∷ row "from_ticks" "@n"
+    ∷ row "from_seconds" "@nn"
     ∷ row "minute" "n"
-    ∷ row "ticks" "rn"
-    ∷ row "seconds" "rn"
-    ∷ row "neg" "rn"
-    ∷ row "abs" "rn"
-    ∷ row "rebase" "rnr"
-    ∷ row "add" "rnrn"
-    ∷ row "sub" "rnrn"
-    ∷ row "cmp" "rnrn"
-    ∷ row "mul" "rnnn"
-    ∷ row "div" "rnn"
-    ∷ row "rem" "rnn"
-    ∷ row "divq" "rnnn"
-    ∷ row "remq" "rnnn"
-    ∷ row "convert" "rn*"
+    ∷ row "ticks" "@n"
+    ∷ row "seconds" "@n"
+    ∷ row "neg" "@n"
+    ∷ row "abs" "@n"
+    ∷ row "rebase" "@nr"
+    ∷ row "add" "@n@n"
+    ∷ row "sub" "@n@n"
+    ∷ row "cmp" "@n@n"
+    ∷ row "mul" "@nnn"
+    ∷ row "div" "@nn"
+    ∷ row "rem" "@nn"
+    ∷ row "divq" "@nnn"
+    ∷ row "remq" "@nnn"
+    ∷ row "convert" "@n*"
     ∷ row "read_list" "t"
     ∷ row "write_list" "pw*"
     ∷ []

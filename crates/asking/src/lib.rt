@@ -15,4 +15,5 @@ pub use recorded::records;
 pub use values::Word;
 pub use values::number;
 pub use words::Asked;
+pub use words::Value;
 pub use words::understand;

@@ -4,8 +4,9 @@ ghost use lib.ListN.{length};
 ghost use Rattle.asking.specs.Numbered.{numbersOf, listFrom};
 use crate::values;
 use crate::values::Word;
+use crate::words::Value;
 
-// The five numbers by place: `n` as it is given, where its sign counts, `up` as one from 0 on.
+// The five numbers by place: `n` as it is given, where its sign counts, `up` as one from 0 on; `at`, whether it has the mark.
 pub struct Numbers {
     pub up1: u64,
     pub n2: i64,
@@ -15,6 +16,9 @@ pub struct Numbers {
     pub n4: i64,
     pub up4: u64,
     pub up5: u64,
+    pub at1: bool,
+    pub at2: bool,
+    pub at3: bool,
 }
 
 // How many numbers are listed; or something else stands there, or more than the list has room for.
@@ -24,18 +28,26 @@ pub struct Listed {
 }
 
 // The five numbers of what is asked.
-pub fn numbers_of(v: [i64; 5]) -> Numbers
+pub fn numbers_of(v: [Value; 5]) -> Numbers
     ensures answer { λ r. ⌜ r ≡ numbersOf v ⌝ }
 {
+    let a = v[0];
+    let b = v[1];
+    let c = v[2];
+    let d = v[3];
+    let e = v[4];
     Numbers {
-        up1: numbers::up_from(v[0]),
-        n2: v[1],
-        up2: numbers::up_from(v[1]),
-        n3: v[2],
-        up3: numbers::up_from(v[2]),
-        n4: v[3],
-        up4: numbers::up_from(v[3]),
-        up5: numbers::up_from(v[4]),
+        up1: numbers::up_from(a.number),
+        n2: b.number,
+        up2: numbers::up_from(b.number),
+        n3: c.number,
+        up3: numbers::up_from(c.number),
+        n4: d.number,
+        up4: numbers::up_from(d.number),
+        up5: numbers::up_from(e.number),
+        at1: a.marked,
+        at2: b.marked,
+        at3: c.marked,
     }
 }
 

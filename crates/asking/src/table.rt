@@ -1,6 +1,7 @@
-// The table of commands: a word, filled up with spaces to 16 bytes, and a letter for each word behind it, filled up to 8: `r` a rate,
-// `n` any number, `p` a place (from 0 on), `m` a room (0 to 128), `w` a wide room (0 to 1024); last `t` for a text, the rest of the
-// line, or `*` for a rest that the command takes apart itself.
+// The table of commands: a word, filled up with spaces to 16 bytes, and a letter for each word behind it, filled up to 8: `@` the rate
+// of a timecode, which may have the mark `@`, `r` a rate that has no mark, `n` any number, `p` a place (from 0 on), `m` a room
+// (0 to 128), `w` a wide room (0 to 1024); last `t` for a text, the rest of the line, or `*` for a rest that the command takes apart
+// itself.
 ghost use mathlib.Core.Path.{_≡_};
 ghost use mathlib.Core.Bool.{true};
 ghost use Prim.Native.Nat.{_*_, _<_};
@@ -11,30 +12,30 @@ use crate::rows;
 // A row a command.
 const TABLE: [u8; 24 * rows::ROWS] = *b"\
     help                    \
-    read            rt      \
-    read_as         nrt     \
-    read_runtime    rt      \
-    label           rnpm    \
-    footage         nrnpm   \
-    runtime         rnnpm   \
-    count           rn      \
-    from_ticks      rn      \
-    from_seconds    rnn     \
+    read            @t      \
+    read_as         n@t     \
+    read_runtime    @t      \
+    label           @npm    \
+    footage         n@npm   \
+    runtime         @nnpm   \
+    count           @n      \
+    from_ticks      @n      \
+    from_seconds    @nn     \
     minute          n       \
-    ticks           rn      \
-    seconds         rn      \
-    neg             rn      \
-    abs             rn      \
-    rebase          rnr     \
-    add             rnrn    \
-    sub             rnrn    \
-    cmp             rnrn    \
-    mul             rnnn    \
-    div             rnn     \
-    rem             rnn     \
-    divq            rnnn    \
-    remq            rnnn    \
-    convert         rn*     \
+    ticks           @n      \
+    seconds         @n      \
+    neg             @n      \
+    abs             @n      \
+    rebase          @nr     \
+    add             @n@n    \
+    sub             @n@n    \
+    cmp             @n@n    \
+    mul             @nnn    \
+    div             @nn     \
+    rem             @nn     \
+    divq            @nnn    \
+    remq            @nnn    \
+    convert         @n*     \
     read_list       t       \
     write_list      pw*     ";
 

@@ -3,7 +3,7 @@ ghost use mathlib.Core.Path.{_≡_};
 ghost use mathlib.Core.Bool.{true};
 ghost use lib.ListN.{drop};
 ghost use Rattle.digits.specs.Digits.{isByte, allDigits, valueOf, isDigit, firstIs};
-ghost use Rattle.asking.specs.Numbers.{Held, pushed, signedWord, digitsAt, numberAt};
+ghost use Rattle.asking.specs.Numbers.{Held, pushed, signedWord, digitsAt, signedAt, numberAt};
 
 // A number and the place past it; or none stands there.
 pub enum Word {
@@ -75,6 +75,16 @@ pub(crate) fn stands(line: &[u8], at: usize, b: u8) -> bool
     false
 }
 
+// An optional `-` at a place, and the digits behind it.
+pub(crate) fn signed_at(line: &[u8], at: usize) -> Word
+    ensures answer { λ r. ⌜ r ≡ signedAt at (drop at (now (line .entry))) ⌝ }
+{
+    if stands(line, at, b'-') {
+        return digits_at(line, at + 1, true);
+    }
+    digits_at(line, at, false)
+}
+
 // A space at a place of the line, and the number behind it.
 pub fn number(line: &[u8], at: usize) -> Word
     ensures answer { λ r. ⌜ r ≡ numberAt at (drop at (now (line .entry))) ⌝ }
@@ -82,9 +92,5 @@ pub fn number(line: &[u8], at: usize) -> Word
     if !stands(line, at, b' ') {
         return Word::Nothing;
     }
-    let from = at + 1;
-    if stands(line, from, b'-') {
-        return digits_at(line, from + 1, true);
-    }
-    digits_at(line, from, false)
+    signed_at(line, at + 1)
 }

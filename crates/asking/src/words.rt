@@ -4,19 +4,25 @@ ghost use mathlib.Core.Bool.{not, _&&_};
 ghost use Prim.Native.Nat.{_<_, _≤_};
 ghost use lib.ListN.{length, drop};
 ghost use lib.Dec.{ltb};
-ghost use Rattle.asking.specs.Numbers.{numberAt};
 ghost use Rattle.asking.specs.Table.{rowCount, wordOf, kindOf};
-ghost use Rattle.asking.specs.Asked.{isRoom, isInRange, allowed, isLast, restAt, unknown, endedAt, wordsFrom, noValues, askedOf};
+ghost use Rattle.asking.specs.Asked.{isMarked, valueAt, isRoom, isInRange, allowed, isLast, restAt, unknown, endedAt, wordsFrom, noValues};
+ghost use Rattle.asking.specs.Asked.{askedOf};
 use crate::rows;
 use crate::table;
 use crate::values;
 use crate::values::Word;
 
-// What a line asks: the row of its command, past the table where it is not understood; the command's numbers, zeros behind them; and the
-// place where a text or a list begins, else the line's end.
+// A number of a command, and whether it has the mark of a position.
+pub struct Value {
+    pub number: i64,
+    pub marked: bool,
+}
+
+// What a line asks: the row of its command, past the table where it is not understood; the command's numbers and their marks, zeros
+// behind them; and the place where a text or a list begins, else the line's end.
 pub struct Asked {
     pub row: usize,
-    pub values: [i64; 5],
+    pub values: [Value; 5],
     pub rest: usize,
 }
 
@@ -26,13 +32,20 @@ enum Rest {
     Other,
 }
 
+// Zero, with no mark.
+const NO_VALUE: Value = Value {
+    number: 0,
+    marked: false,
+};
+
 // A line that is not understood.
 fn not_understood() -> Asked
     ensures answer { λ r. ⌜ r ≡ unknown ⌝ }
 {
+    let values = [NO_VALUE; 5];
     Asked {
         row: rows::ROWS,
-        values: [0i64; 5],
+        values,
         rest: 0,
     }
 }
@@ -77,11 +90,34 @@ fn is_allowed(kind: u8, z: i64) -> bool
     true
 }
 
-// The number at a place of the line, behind one space, that is allowed where a row has this letter.
-fn word_at(line: &[u8], at: usize, kind: u8) -> Word
-    ensures answer { λ r. ⌜ r ≡ allowed kind (numberAt at (drop at (now (line .entry)))) ⌝ }
+// Does the mark stand at a place of the line, behind one space, where a row has this letter? Only `@` may have it.
+fn is_marked(line: &[u8], at: usize, kind: u8) -> bool
+    ensures answer { λ r. ⌜ r ≡ isMarked kind (drop at (now (line .entry))) ⌝ }
 {
-    let w = values::number(line, at);
+    if kind != b'@' {
+        return false;
+    }
+    if !values::stands(line, at, b' ') {
+        return false;
+    }
+    values::stands(line, at + 1, b'@')
+}
+
+// The number at a place of the line, behind one space, and behind its mark where it has one.
+fn value_at(line: &[u8], at: usize, kind: u8) -> Word
+    ensures answer { λ r. ⌜ r ≡ valueAt kind at (drop at (now (line .entry))) ⌝ }
+{
+    if is_marked(line, at, kind) {
+        return values::signed_at(line, at + 2);
+    }
+    values::number(line, at)
+}
+
+// The number at a place of the line that is allowed where a row has this letter.
+fn word_at(line: &[u8], at: usize, kind: u8) -> Word
+    ensures answer { λ r. ⌜ r ≡ allowed kind (valueAt kind at (drop at (now (line .entry)))) ⌝ }
+{
+    let w = value_at(line, at, kind);
     let Word::Number(z, _) = w else {
         return Word::Nothing;
     };
@@ -111,7 +147,7 @@ fn rest_at(line: &[u8], at: usize, kind: u8) -> Rest
 }
 
 // What is asked once the numbers are taken. Asks a row, and one of its letters.
-fn ended(row: usize, line: &[u8], at: usize, k: usize, values: [i64; 5]) -> Asked
+fn ended(row: usize, line: &[u8], at: usize, k: usize, values: [Value; 5]) -> Asked
     requires row { ⌜ row < rowCount ⌝ }
     requires letter { ⌜ k ≤ 5 ⌝ }
     ensures answer { λ r. ⌜ r ≡ endedAt row (now (line .entry)) at k values ⌝ }
@@ -146,15 +182,19 @@ fn words(row: usize, line: &[u8], from: usize) -> Asked
     requires row { ⌜ row < rowCount ⌝ }
     ensures answer { λ r. ⌜ r ≡ wordsFrom 5 row (now (line .entry)) from 0 noValues ⌝ }
 {
-    let mut values = [0i64; 5];
+    let mut values = [NO_VALUE; 5];
     let mut at = from;
     let mut k = 0;
     while is_number(row, k) {
-        let w = word_at(line, at, table::kind_of(row, k));
+        let kind = table::kind_of(row, k);
+        let w = word_at(line, at, kind);
         let Word::Number(z, next) = w else {
             return not_understood();
         };
-        values[k] = z;
+        values[k] = Value {
+            number: z,
+            marked: is_marked(line, at, kind),
+        };
         at = next;
         k += 1;
     }

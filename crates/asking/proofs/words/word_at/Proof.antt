@@ -10,7 +10,7 @@ use Rattle.asking.proofs.words.word_at.Statement.{statement}
 use Rattle.asking.proofs.words.word_at.Tie as tie
 
 returns : tie.Need-returns
-returns c = sym (ap (allowed (c .before .before .before .before .args .kind)) (sym (c .before .before .number .ensures) ∙ c .enum-told .given .1))
+returns c = sym (ap (allowed (c .before .before .before .before .args .kind)) (sym (c .before .before .value-at .ensures) ∙ c .enum-told .given .1))
 
 -- the number, read back
 back : (c : tie.After-known-told) → toZ w64 (ofZ w64 (c .before .w .given .0 .0)) ≡ c .before .w .given .0 .0
@@ -22,7 +22,7 @@ returns-2 c =
     let read = found .before .before in
     let kind = read .before .before .args .kind in
     sym
-    (ap (allowed kind) (sym (read .number .ensures) ∙ found .w .given .1)
+    (ap (allowed kind) (sym (read .value-at .ensures) ∙ found .w .given .1)
     ∙ allowed-yes _ _ _ (sym (ap (isInRange kind) (back (c .before .before))) ∙ sym (c .before .is-allowed .ensures) ∙ c .if1 .taken))
 
 returns-3 : tie.Need-returns-3
@@ -31,7 +31,7 @@ returns-3 c =
     let read = found .before .before in
     let kind = read .before .before .args .kind in
     sym
-    (ap (allowed kind) (sym (read .number .ensures) ∙ found .w .given .1)
+    (ap (allowed kind) (sym (read .value-at .ensures) ∙ found .w .given .1)
     ∙ allowed-no _ _ _ (sym (ap (isInRange kind) (back (c .before .before))) ∙ sym (c .before .is-allowed .ensures) ∙ c .if1 .left))
 
 pub word-at-spec : {M : Type 1} → statement M

@@ -1,15 +1,11 @@
 -- `asking::words::words` meets its contract: what is wanted from here is what is wanted from the start.
 -- Assumes nothing.
 use Prim.Native.Nat.{_-_, _<_}
-use mathlib.Core.Path.{_≡_, sym, ap, _∙_}
+use mathlib.Core.Path.{_≡_, _∙_}
 use native.Mathlib.Omega.{arith}
-use lib.ListN.{drop}
 use borrow.Author.Needs.{needs}
 use mir.Syntax.{w64}
 use mir.Val.{toZ, ofZ}
-use Rattle.asking.specs.Asked.{allowed}
-use Rattle.asking.specs.Numbers.{numberAt}
-use Rattle.asking.specs.Table.{kindOf}
 use Rattle.asking.proofs.Taken.{Going, going-start, going-within, going-none, going-turn, going-ended}
 use Rattle.asking.proofs.words.words.Statement.{statement}
 use Rattle.asking.proofs.words.words.Tie as tie
@@ -30,47 +26,40 @@ within c = going-within _ _ _ _ _ _ (c .before .before .loop .inv) _ (c .before 
 kind-of-requires : tie.Need-kind-of-requires Inv-loop μ-loop
 kind-of-requires c κs = (c .before .before .before .before .pre, omega (arith, within c))
 
--- what `word_at` answered, and its number, read back
-there : (c : tie.After-word-at Inv-loop μ-loop)
-    → let a = c .before .before .before .before .before .before .args in
-    let k = c .before .before .before .before .loop .k in
-    let at = c .before .before .before .before .loop .at in
-    allowed (kindOf (a .row) k) (numberAt at (drop at (a .line .now))) ≡ c .word-at .result
-there c =
-    let s = c .before .before .before .before in
-    let at = s .loop .at in
-    sym (c .word-at .ensures ∙ ap (λ z. allowed z (numberAt at (drop at (s .before .before .args .line .now)))) (c .before .kind-of .ensures))
-
+-- the number, read back
 back : (c : tie.After-known-told Inv-loop μ-loop) → toZ w64 (ofZ w64 (c .before .w .given .0 .0)) ≡ c .before .w .given .0 .0
 back c = search needs
 
 returns : tie.Need-returns Inv-loop μ-loop
 returns c =
-    let tested = c .before .before .before .before .before in
+    let read = c .before .before .before in
+    let tested = read .before .before in
     let s = tested .before .before in
     c .not-understood .ensures
-    ∙ going-none _ _ _ _ _ _ (s .loop .inv) _ (tested .before .is-number .ensures) (tested .if1 .taken)
-    (there (c .before .before .before) ∙ c .before .enum-told .given .1)
+    ∙ going-none _ _ _ _ _ _ (s .loop .inv) _ (tested .before .is-number .ensures) (tested .if1 .taken) _ (read .before .kind-of .ensures)
+    _ (read .word-at .ensures) (c .before .enum-told .given .1)
 
 mul-values : tie.Need-mul-values Inv-loop μ-loop
-mul-values c = omega (arith, within (c .before .before .before .before .before))
+mul-values c = omega (arith, within (c .before .before .before .before .before .before))
 
 array-set-from-values : tie.Need-array-set-from-values Inv-loop μ-loop
-array-set-from-values c = within (c .before .before .before .before .before)
+array-set-from-values c = within (c .before .before .before .before .before .before)
 
 add-k : tie.Need-add-k Inv-loop μ-loop
-add-k c = omega (arith, within (c .before .before .before .before .before))
+add-k c = omega (arith, within (c .before .before .before .before .before .before))
 
 loop-less : tie.Need-loop-less Inv-loop μ-loop
-loop-less c = omega (arith, within (c .before .before .before .before .before))
+loop-less c = omega (arith, within (c .before .before .before .before .before .before))
 
 loop-again : tie.Need-loop-again Inv-loop μ-loop
 loop-again c =
-    let tested = c .before .before .before .before .before in
+    let found = c .before in
+    let read = found .before .before .before in
+    let tested = read .before .before in
     let s = tested .before .before in
-    rw (back c)
-    (going-turn _ _ _ _ _ _ (s .loop .inv) _ (tested .before .is-number .ensures) (tested .if1 .taken) _ _
-    (there (c .before .before .before) ∙ c .before .w .given .1))
+    rw (back found)
+    (going-turn _ _ _ _ _ _ (s .loop .inv) _ (tested .before .is-number .ensures) (tested .if1 .taken) _ (read .before .kind-of .ensures)
+    _ (read .word-at .ensures) _ _ _ _ (found .before .w .given .1) (c .is-marked .ensures) (omega arith))
 
 ended-requires : tie.Need-ended-requires Inv-loop μ-loop
 ended-requires c κs = (c .before .before .before .before .pre, omega (arith, c .before .before .loop .inv .left))
@@ -92,6 +81,7 @@ words-spec =
     (λ c. search needs)
     (λ c κs. search needs)
     returns
+    (λ c κs. search needs)
     mul-values
     array-set-from-values
     add-k
