@@ -5,4 +5,6 @@ pub mod FourKinds
 pub mod Told
 pub mod Gives
 pub mod Statements
+pub mod Positions
+pub mod PositionCounts
 pub mod Determined
