@@ -1,4 +1,4 @@
--- Time, in (BEHAVIOUR: Time): a count, ticks and seconds become a timecode. Each has its conditions in order, and its frame.
+-- Time, in (BEHAVIOUR: Time): a count, ticks and seconds become a length. Each has its conditions in order, and its frame. Positions: `settled`.
 -- Assumes nothing.
 use Prim.Native.Nat.{ℕ, _*_}
 use mathlib.Core.List.{List, [], _∷_}

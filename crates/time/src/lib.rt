@@ -1,11 +1,14 @@
-// Timecodes from counts, ticks and seconds, at the nearest frame; ticks and seconds of a timecode, exactly. Refuses 6, then 5.
+// Timecodes of either kind from counts, ticks and seconds, at the nearest frame; ticks and seconds of a timecode of either kind, exactly.
+// Refuses 6: no such rate; then 5: what is handed in, or then the resulting count, is out of bounds; a position is reduced after that.
 use answers::Refusal;
 use answers::Verdict;
 use timecodes::Answer;
+use timecodes::Kind;
 use timecodes::Timecode;
 ghost use mathlib.Core.Path.{_≡_};
 ghost use Prim.Native.Nat.{_^_, _<_};
 ghost use lib.IntN.{natAbs};
+ghost use Rattle.timecodes.specs.Made.{settled};
 ghost use Rattle.time.specs.Bounds.{isFraction};
 ghost use Rattle.time.specs.Frames.{framesAt, ticksAt, secondsAt};
 ghost use Rattle.time.specs.Ticks.{ticksOf};
@@ -45,32 +48,36 @@ pub fn is_fraction(most: u64, p: i64, q: u64) -> bool
     true
 }
 
-// A count at a rate (vtc's `with_frames`). Refuses 6: no such rate; 5: the count is out of bounds.
-pub fn with_frames(count: i64, rate: u64) -> Answer
-    ensures answer { λ r. ⌜ r ≡ framesAt count rate ⌝ }
+// A count at a rate, as a timecode of a kind (vtc's `with_frames`). Refuses 6: no such rate; 5: the count is out of a length's bounds, for
+// either kind.
+pub fn with_frames(count: i64, rate: u64, kind: Kind) -> Answer
+    ensures answer { λ r. ⌜ r ≡ settled kind (framesAt count rate) ⌝ }
 {
-    let tc = timecodes::new(count, rate);
-    match timecodes::admit(tc) {
-        Verdict::Passed => Answer::At(tc),
+    match timecodes::admit(timecodes::new(count, rate, Kind::Length)) {
+        Verdict::Passed => Answer::At(timecodes::made(count, rate, kind)),
         Verdict::Refused(e) => Answer::Refused(e),
     }
 }
 
-// The frame nearest to a number of ticks (vtc's `with_premiere_ticks`). Refuses 6: no such rate; 5: the resulting count is out of bounds.
-pub fn with_premiere_ticks(ticks: i64, rate: u64) -> Answer
-    ensures answer { λ r. ⌜ r ≡ ticksAt ticks rate ⌝ }
+// The frame nearest to a number of ticks, as a timecode of a kind (vtc's `with_premiere_ticks`). Refuses 6: no such rate; 5: the resulting
+// count is out of a length's bounds.
+pub fn with_premiere_ticks(ticks: i64, rate: u64, kind: Kind) -> Answer
+    ensures answer { λ r. ⌜ r ≡ settled kind (ticksAt ticks rate) ⌝ }
 {
     if !rates::is_rate(rate) {
         return Answer::Refused(answers::NO_SUCH);
     }
     let row = rates::row(rate);
-    timecodes::placed(answers::nearest_count(ticks, row.ticks), rate)
+    timecodes::settled(
+        timecodes::placed(answers::nearest_count(ticks, row.ticks), rate),
+        kind,
+    )
 }
 
-// The frame nearest to p/q seconds (vtc's `with_seconds`). Refuses 6: no such rate; 5: p or q, or then the resulting count, is out of
-// bounds.
-pub fn with_seconds(p: i64, q: u64, rate: u64) -> Answer
-    ensures answer { λ r. ⌜ r ≡ secondsAt p q rate ⌝ }
+// The frame nearest to p/q seconds, as a timecode of a kind (vtc's `with_seconds`). Refuses 6: no such rate; 5: p or q is out of bounds, or
+// then the resulting count out of a length's.
+pub fn with_seconds(p: i64, q: u64, rate: u64, kind: Kind) -> Answer
+    ensures answer { λ r. ⌜ r ≡ settled kind (secondsAt p q rate) ⌝ }
 {
     if !rates::is_rate(rate) {
         return Answer::Refused(answers::NO_SUCH);
@@ -80,7 +87,10 @@ pub fn with_seconds(p: i64, q: u64, rate: u64) -> Answer
     }
     let row = rates::row(rate);
     let frames = numbers::product(p, numbers::with_sign(false, row.numerator));
-    timecodes::placed(answers::nearest_count(frames, q * row.denominator), rate)
+    timecodes::settled(
+        timecodes::placed(answers::nearest_count(frames, q * row.denominator), rate),
+        kind,
+    )
 }
 
 // The ticks of a timecode, exactly (vtc's `premiere_ticks`). Refuses 6: no such rate; 5: the count is out of bounds.

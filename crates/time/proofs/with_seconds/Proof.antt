@@ -18,6 +18,7 @@ use Rattle.rates.specs.declared.Framerate.{Framerate}
 use Rattle.rates.specs.Rates.{isRate, rateRow}
 use Rattle.rates.specs.Rule.{sound}
 use Rattle.timecodes.specs.Timecode.{placed}
+use Rattle.timecodes.specs.Made.{settled}
 use Rattle.timecodes.specs.AdmittedLaws.{placed-held}
 use Rattle.time.specs.Bounds.{mostSeconds, mostDenominator, isFraction}
 use Rattle.time.specs.BoundsLaws.{InBounds, isFraction-told}
@@ -93,16 +94,19 @@ mul-nearest-count c = record { fits = omega (arith, bottom-le (c .before .before
 returns-3 : tie.Need-returns-3
 unfolding secondsAt
 returns-3 c =
-    let p = c .before .before .before in
+    let l = c .before in
+    let p = l .before .before .before in
     let r = p .before .before in
     let e = r .before in
     let a = start e .args in
     simp (rated (e .before .before), fraction e)
-    (c .placed .ensures
+    (c .settled .ensures
+    ∙ ap (settled (a .kind))
+    (l .placed .ensures
     ∙ ap (placed (a .rate))
-    (c .before .nearest-count .ensures
+    (l .before .nearest-count .ensures
     ∙ ap₂ (λ (z : ℤ) (d : ℕ). held (nearestZ z (a .q * d))) (frames-is p) (denominator-is r))
-    ∙ placed-held (a .rate) (secondsFrame (a .p) (a .q) (a .rate)))
+    ∙ placed-held (a .rate) (secondsFrame (a .p) (a .q) (a .rate))))
 
 pub with-seconds-spec : {M : Type 1} → statement M
 with-seconds-spec =
@@ -116,6 +120,7 @@ with-seconds-spec =
     (λ c κs. search needs)
     (λ c κs. search needs)
     mul-nearest-count
+    (λ c κs. search needs)
     (λ c κs. search needs)
     (λ c κs. search needs)
     returns-3)
