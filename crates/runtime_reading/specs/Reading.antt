@@ -1,4 +1,4 @@
--- Runtime in (BEHAVIOUR: Time): what a runtime's text reads as; the conditions in their order.
+-- Runtime in (BEHAVIOUR: Time): the length that a runtime's text reads as, of which `settled` makes a position; the conditions in their order.
 -- Assumes nothing.
 use Prim.Native.Nat.{ℕ, _+_, _*_}
 use mathlib.Core.Bool.{Bool}

@@ -1,4 +1,4 @@
--- What a runtime's text reads as, by its shape (BEHAVIOUR: Time): each refusal exactly, and the nearest frame. Proofs: proofs/Statements.antt.
+-- The length that a runtime's text reads as, by its shape (BEHAVIOUR: Time): each refusal exactly, the nearest frame. Proofs: proofs/Statements.antt.
 -- Assumes nothing.
 use Prim.Native.Nat.{ℕ, _*_}
 use mathlib.Core.Path.{_≡_}
