@@ -15,6 +15,7 @@ use Rattle.answers.specs.Refusals.{mostCount, isCount}
 use Rattle.rates.specs.Rates.{isRate, rateRow, isDrop, dropFrames}
 use Rattle.rates.specs.Rule.{sound}
 use Rattle.rates.specs.Laws.{drop-le}
+use Rattle.timecodes.specs.AdmittedLaws.{valid-count}
 use Rattle.labels.specs.Label.{hoursIn, minutesIn, secondsIn, framesIn}
 use Rattle.labels.specs.LabelLaws.{count-by-minutes}
 use Rattle.digits.specs.Digits.{allDigits, width, decimal}
@@ -133,6 +134,6 @@ label-bytes rate count =
 pub label-written : LabelWritten
 label-written tc line place v room =
     let text = labelText (tc .rate) (tc .count) in
-    let w = text-written line place text (omega (arith, label-bounds (tc .rate) (tc .count) (v .rate) (v .count))) in
+    let w = text-written line place text (omega (arith, label-bounds (tc .rate) (tc .count) (v .rate) (valid-count tc v))) in
     let d = draft-text tc v in
     (ap (answerTo line place) d ∙ w .0, ap (lineTo line place) d ∙ w .1)

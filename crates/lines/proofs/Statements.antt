@@ -14,7 +14,7 @@ use Rattle.timecodes.specs.declared.Timecode.{Timecode}
 use Rattle.timecodes.specs.declared.Answer.{Answer}
 use Rattle.timecodes.specs.declared.Answer.the-variants.{At, Refused}
 use Rattle.timecodes.specs.Admitted.{Valid}
-use Rattle.timecodes.specs.AdmittedLaws.{valid-count-le}
+use Rattle.timecodes.specs.AdmittedLaws.{valid-count-le, valid-count}
 use Rattle.timecodes.specs.Instant.{instant}
 use Rattle.timecodes.specs.InstantLaws.{instant-abs-le, instantIn-valid}
 use Rattle.written.specs.Parts.{signedText}
@@ -52,7 +52,7 @@ timecode-short tc v =
       columns-length (columnsOf tc s),
       signed-most (isNeg (tc .count)) (natAbs (tc .count)) 9 (omega arith) (omega (arith, valid-count-le tc v)),
       sections-same (framesMark (tc .rate)) s,
-      label-bounds (tc .rate) (tc .count) (v .rate) (v .count),
+      label-bounds (tc .rate) (tc .count) (v .rate) (valid-count tc v),
       ap (λ z. length (signedText (isNeg z) (natAbs z))) (instantIn-valid tc v),
       signed-most (isNeg (instant tc)) (natAbs (instant tc)) 19 (omega arith) (omega (arith, instant-abs-le tc v)),
     )

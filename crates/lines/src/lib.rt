@@ -16,6 +16,7 @@ use label_writer::TimecodeSections;
 use reading::Read;
 use reading::Stated;
 use timecodes::Answer;
+use timecodes::Kind;
 use timecodes::Timecode;
 use written::Written;
 
@@ -50,7 +51,7 @@ fn read_line(input: &[u8]) -> Answer
         return Answer::Refused(answers::NO_SHAPE);
     }
     let rate = rate_in(input);
-    let read = reading::read_text(&input[3..], Stated::Nothing, rate);
+    let read = reading::read_text(&input[3..], Stated::Nothing, rate, Kind::Length);
     line_holds(read)
 }
 

@@ -5,7 +5,7 @@ use mathlib.Core.Bool.{true, false, not, and-eq-true-iff}
 use mathlib.Core.List.{List, [], _∷_, _++_}
 use Prim.Native.Nat.{ℕ, _≤_, _<_}
 use native.Mathlib.Omega.{arith}
-use borrow.Author.Tests.{leb-true, ltb-true}
+use borrow.Author.Tests.{leb-true, le-leb, ltb-true}
 use lib.Dec.{T, ltb}
 use lib.IntN.{ℤ, natAbs}
 use Rattle.numbers.specs.Sign.{isNeg}
@@ -84,6 +84,10 @@ within-count-le Position rate count h = omega (arith, ofDay-told rate count h .1
 
 pub valid-count-le : (tc : Timecode) → Valid tc → natAbs (tc .count) ≤ mostCount
 valid-count-le tc v = within-count-le (tc .kind) (tc .rate) (tc .count) (v .within)
+
+-- so of either kind it is within a count's bounds
+pub valid-count : (tc : Timecode) → Valid tc → isCount (tc .count) ≡ true
+valid-count tc v = le-leb (natAbs (tc .count)) mostCount (valid-count-le tc v)
 
 -- ---- a count's conditions are the timecode's
 

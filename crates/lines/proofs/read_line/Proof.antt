@@ -11,6 +11,7 @@ use borrow.Author.Needs.{needs}
 use Rattle.numbers.proofs.Tests.{fails, passes}
 use Rattle.reading.specs.declared.Stated.the-variants.{Nothing}
 use Rattle.reading.specs.Reading.{readText}
+use Rattle.reading.specs.ForLaws.{read-length}
 use Rattle.lines.specs.Input.{isLine, textIn, lineHolds}
 use Rattle.lines.proofs.Begun.{line-least, not-line, line-held}
 use Rattle.lines.proofs.read_line.Statement.{statement}
@@ -40,7 +41,10 @@ returns-2 c =
     let l = there .before .before .before .args .input .now in
     let rest : take (length l - 3) (drop 3 l) ≡ textIn l = take-all (length l - 3) (drop 3 l) (omega (arith, length-drop 3 l)) in
     c .line-holds .ensures
-    ∙ ap lineHolds (c .before .read-text .ensures ∙ ap₂ (λ (t : List ℕ) (r : ℕ). readText t Nothing r) rest (c .before .before .before .rate-in .ensures))
+    ∙ ap lineHolds
+    (c .before .read-text .ensures
+    ∙ read-length _ Nothing _
+    ∙ ap₂ (λ (t : List ℕ) (r : ℕ). readText t Nothing r) rest (c .before .before .before .rate-in .ensures))
     ∙ sym (line-held l (line there))
 
 pub read-line-spec : {M : Type 1} → statement M
