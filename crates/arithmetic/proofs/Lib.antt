@@ -3,3 +3,4 @@ pub mod Dividing
 pub mod Orders
 pub mod Joining
 pub mod Statements
+pub mod Positions

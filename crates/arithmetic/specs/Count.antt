@@ -9,19 +9,19 @@ use Rattle.timecodes.specs.declared.Answer.{Answer}
 use Rattle.timecodes.specs.declared.Answer.the-variants.{At, Refused}
 use Rattle.rates.specs.Rates.{badRate}
 use Rattle.timecodes.specs.Timecode.{moved, recounted}
-use Rattle.timecodes.specs.Admitted.{admits}
+use Rattle.timecodes.specs.Admitted.{admitsLength}
 
--- negation acts on the count: 6, 5, else it negated
+-- negation acts on the count: 6, 15, 5, else it negated
 unfoldable pub negOf : Timecode → Answer
-negOf tc = unless Refused (admits tc) (At (recounted tc (negℤ (tc .count))))
+negOf tc = unless Refused (admitsLength tc) (At (recounted tc (negℤ (tc .count))))
 
--- absolute value acts on the count: 6, 5, else its magnitude
+-- absolute value acts on the count: 6, 15, 5, else its magnitude
 unfoldable pub absOf : Timecode → Answer
-absOf tc = unless Refused (admits tc) (At (recounted tc (pos (natAbs (tc .count)))))
+absOf tc = unless Refused (admitsLength tc) (At (recounted tc (pos (natAbs (tc .count)))))
 
--- `rebase` keeps the count: 6 for either rate, 5, else it
+-- `rebase` keeps the count: 6 for either rate, 15, 5, else it
 abbrev pub rebaseWhen : Timecode → (rate : ℕ) → List Condition
-rebaseWhen tc rate = badRate rate ∷ admits tc
+rebaseWhen tc rate = badRate rate ∷ admitsLength tc
 
 unfoldable pub rebaseOf : Timecode → (rate : ℕ) → Answer
 rebaseOf tc rate = unless Refused (rebaseWhen tc rate) (At (moved tc (tc .count) rate))

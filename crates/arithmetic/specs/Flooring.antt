@@ -12,7 +12,7 @@ use Rattle.answers.specs.declared.Counted.{Counted}
 use Rattle.answers.specs.declared.Counted.the-variants as counted
 use Rattle.answers.specs.Refusals.{badCount}
 use Rattle.timecodes.specs.Timecode.{recounted}
-use Rattle.timecodes.specs.Admitted.{admits}
+use Rattle.timecodes.specs.Admitted.{admitsLength}
 use Rattle.arithmetic.specs.Divisor.{divisorWhen}
 
 -- count x q over p, rounded down
@@ -26,9 +26,9 @@ flooredWhen count p q = divisorWhen p q ++ (badCount (flooredOf count p q) ∷ [
 unfoldable pub flooredCounted : (count p : ℤ) (q : ℕ) → Counted
 flooredCounted count p q = unless counted.Refused (flooredWhen count p q) (counted.Count (flooredOf count p q))
 
--- before them 6 and 5 of the timecode
+-- before them 6, 15 and 5 of the timecode
 abbrev pub divqWhen : Timecode → (p : ℤ) (q : ℕ) → List Condition
-divqWhen tc p q = admits tc ++ flooredWhen (tc .count) p q
+divqWhen tc p q = admitsLength tc ++ flooredWhen (tc .count) p q
 
 unfoldable pub divqOf : Timecode → (p : ℤ) (q : ℕ) → Answer
 divqOf tc p q = unless Refused (divqWhen tc p q) (At (recounted tc (flooredOf (tc .count) p q)))

@@ -7,3 +7,4 @@ pub mod Remainder
 pub mod Compare
 pub mod Count
 pub mod Statements
+pub mod PositionStatements

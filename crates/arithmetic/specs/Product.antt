@@ -12,7 +12,7 @@ use Rattle.answers.specs.declared.Counted.{Counted}
 use Rattle.answers.specs.declared.Counted.the-variants as counted
 use Rattle.answers.specs.Refusals.{badCount}
 use Rattle.timecodes.specs.Timecode.{recounted}
-use Rattle.timecodes.specs.Admitted.{admits}
+use Rattle.timecodes.specs.Admitted.{admitsLength}
 use Rattle.time.specs.Bounds.{badFactor}
 
 -- count x p over q at the nearest, halves away from zero
@@ -26,9 +26,9 @@ productWhen count p q = badFactor p q ∷ badCount (productOf count p q) ∷ []
 unfoldable pub productCounted : (count p : ℤ) (q : ℕ) → Counted
 productCounted count p q = unless counted.Refused (productWhen count p q) (counted.Count (productOf count p q))
 
--- before them 6 and 5 of the timecode
+-- before them 6, 15 and 5 of the timecode
 abbrev pub mulWhen : Timecode → (p : ℤ) (q : ℕ) → List Condition
-mulWhen tc p q = admits tc ++ productWhen (tc .count) p q
+mulWhen tc p q = admitsLength tc ++ productWhen (tc .count) p q
 
 unfoldable pub mulOf : Timecode → (p : ℤ) (q : ℕ) → Answer
 mulOf tc p q = unless Refused (mulWhen tc p q) (At (recounted tc (productOf (tc .count) p q)))

@@ -13,7 +13,7 @@ use Rattle.answers.specs.declared.Counted.{Counted}
 use Rattle.answers.specs.declared.Counted.the-variants as counted
 use Rattle.answers.specs.Refusals.{badCount}
 use Rattle.timecodes.specs.Timecode.{recounted}
-use Rattle.timecodes.specs.Admitted.{admits}
+use Rattle.timecodes.specs.Admitted.{admitsLength}
 use Rattle.arithmetic.specs.Divisor.{divisorWhen}
 
 -- (count x q rem p)/q at the nearest, halves away from zero
@@ -27,9 +27,9 @@ leftWhen count p q = divisorWhen p q ++ (badCount (leftOf count p q) ∷ [])
 unfoldable pub leftCounted : (count p : ℤ) (q : ℕ) → Counted
 leftCounted count p q = unless counted.Refused (leftWhen count p q) (counted.Count (leftOf count p q))
 
--- before them 6 and 5 of the timecode
+-- before them 6, 15 and 5 of the timecode
 abbrev pub remqWhen : Timecode → (p : ℤ) (q : ℕ) → List Condition
-remqWhen tc p q = admits tc ++ leftWhen (tc .count) p q
+remqWhen tc p q = admitsLength tc ++ leftWhen (tc .count) p q
 
 unfoldable pub remqOf : Timecode → (p : ℤ) (q : ℕ) → Answer
 remqOf tc p q = unless Refused (remqWhen tc p q) (At (recounted tc (leftOf (tc .count) p q)))

@@ -1,4 +1,4 @@
--- What holds of arithmetic beyond one call (BEHAVIOUR: Arithmetic): each answer is what it is meant to be. Proofs: proofs/Statements.antt.
+-- What holds of arithmetic beyond one call (BEHAVIOUR: Arithmetic): each answer is what it is meant to be. With positions: PositionStatements.antt.
 -- Assumes nothing.
 use Prim.Native.Nat.{ℕ}
 use mathlib.Core.Path.{_≡_}
@@ -12,6 +12,7 @@ use Rattle.answers.specs.Refusals.{held}
 use Rattle.rates.specs.Rates.{frameTicks}
 use Rattle.timecodes.specs.declared.Timecode.{Timecode}
 use Rattle.timecodes.specs.declared.Answer.the-variants.{At}
+use Rattle.timecodes.specs.declared.kinds.Kind.the-variants.{Length}
 use Rattle.timecodes.specs.Timecode.{movedTo}
 use Rattle.timecodes.specs.Admitted.{Valid}
 use Rattle.timecodes.specs.Instant.{instant}
@@ -25,27 +26,29 @@ use Rattle.arithmetic.specs.Compare.{compareOf}
 
 -- ---- sums and products
 
--- a sum of two timecodes is the frame of the left one's rate that is nearest to the exact instant
+-- a sum of two timecodes that is a length is the frame of the left one's rate that is nearest to the exact instant
 abbrev pub SumNearest : Type 0
 SumNearest =
-    (a b end : Timecode) → addOf a b ≡ At end
+    (a b end : Timecode) → addOf a b ≡ At end → end .kind ≡ Length
     → (end .rate ≡ a .rate) × Nearest (instant a +ℤ instant b) (frameTicks (a .rate)) (end .count)
 
--- and a difference likewise
+-- and a difference that is a length likewise, that of two positions too: it is not reduced
 abbrev pub DifferenceNearest : Type 0
 DifferenceNearest =
-    (a b end : Timecode) → subOf a b ≡ At end
+    (a b end : Timecode) → subOf a b ≡ At end → end .kind ≡ Length
     → (end .rate ≡ a .rate) × Nearest (instant a -ℤ instant b) (frameTicks (a .rate)) (end .count)
 
--- at one rate a sum is that of the counts
+-- at one rate a sum of two lengths is that of the counts
 abbrev pub SumExact : Type 0
 SumExact =
-    (a b : Timecode) → Valid a → Valid b → a .rate ≡ b .rate → addOf a b ≡ movedTo a (a .rate) (held (a .count +ℤ b .count))
+    (a b : Timecode) → Valid a → Valid b → a .rate ≡ b .rate → a .kind ≡ Length → b .kind ≡ Length
+    → addOf a b ≡ movedTo a (a .rate) (held (a .count +ℤ b .count))
 
--- and a difference that of the counts
+-- and a difference of two lengths that of the counts
 abbrev pub DifferenceExact : Type 0
 DifferenceExact =
-    (a b : Timecode) → Valid a → Valid b → a .rate ≡ b .rate → subOf a b ≡ movedTo a (a .rate) (held (a .count -ℤ b .count))
+    (a b : Timecode) → Valid a → Valid b → a .rate ≡ b .rate → a .kind ≡ Length → b .kind ≡ Length
+    → subOf a b ≡ movedTo a (a .rate) (held (a .count -ℤ b .count))
 
 -- a product with p/q is the count nearest to the exact one
 abbrev pub ProductNearest : Type 0

@@ -10,7 +10,7 @@ use Rattle.timecodes.specs.declared.Answer.the-variants.{At, Refused}
 use Rattle.answers.specs.declared.Counted.{Counted}
 use Rattle.answers.specs.declared.Counted.the-variants as counted
 use Rattle.timecodes.specs.Timecode.{recounted}
-use Rattle.timecodes.specs.Admitted.{admits}
+use Rattle.timecodes.specs.Admitted.{admitsLength}
 use Rattle.arithmetic.specs.Divisor.{badDivisor}
 
 -- 7, else count over n, cut off toward zero; and what that leaves of the count, with its sign
@@ -20,9 +20,9 @@ quotientCounted count n = unless counted.Refused (badDivisor n ∷ []) (counted.
 unfoldable pub remainderCounted : (count n : ℤ) → Counted
 remainderCounted count n = unless counted.Refused (badDivisor n ∷ []) (counted.Count (remZ count n))
 
--- 6, 5, 7
+-- 6, 15, 5, 7
 abbrev pub divWhen : Timecode → (n : ℤ) → List Condition
-divWhen tc n = admits tc ++ (badDivisor n ∷ [])
+divWhen tc n = admitsLength tc ++ (badDivisor n ∷ [])
 
 unfoldable pub divOf : Timecode → (n : ℤ) → Answer
 divOf tc n = unless Refused (divWhen tc n) (At (recounted tc (quotZ (tc .count) n)))

@@ -10,14 +10,14 @@ use Rattle.answers.specs.declared.Verdict.the-variants as verdict
 use Rattle.answers.specs.Order.{judged}
 use Rattle.answers.specs.OrderLaws.{judged-clear}
 use Rattle.timecodes.specs.Timecode.{movedTo}
-use Rattle.timecodes.specs.Admitted.{admits}
-use Rattle.timecodes.specs.AdmittedLaws.{admits-valid, valid-count-le, operated, not-operated}
+use Rattle.timecodes.specs.Admitted.{admitsLength}
+use Rattle.timecodes.specs.AdmittedLaws.{admitsLength-valid, valid-count-le, operated, not-operated}
 use Rattle.arithmetic.specs.Product.{productOf, productWhen, productCounted, mulOf}
 use Rattle.arithmetic.proofs.mul.Statement.{statement}
 use Rattle.arithmetic.proofs.mul.Tie as tie
 
-passed : (c : tie.After-enum-told) → judged (admits (c .before .before .before .args .tc)) ≡ verdict.Passed
-passed c = sym (c .before .before .admit .ensures) ∙ c .enum-told .given .1
+passed : (c : tie.After-enum-told) → judged (admitsLength (c .before .before .before .args .tc)) ≡ verdict.Passed
+passed c = sym (c .before .before .admit-length .ensures) ∙ c .enum-told .given .1
 
 -- the count, as the machine reads it
 count-is : (c : tie.After-struct-told)
@@ -27,7 +27,7 @@ count-is c = search needs
 product-requires : tie.Need-product-requires
 product-requires c κs =
     let tc = c .before .before .before .before .args .tc in
-    rw (count-is c) (valid-count-le tc (admits-valid tc (judged-clear (admits tc) (passed (c .before)))))
+    rw (count-is c) (valid-count-le tc (admitsLength-valid tc (judged-clear (admitsLength tc) (passed (c .before)))))
 
 returns : tie.Need-returns
 unfolding mulOf productCounted
@@ -37,7 +37,7 @@ returns c =
     let tc = s .args .tc in
     c .moved .ensures
     ∙ ap (movedTo tc (tc .rate)) (p .product .ensures ∙ ap₂ (λ (x y : ℤ). productCounted x y (s .args .q)) (count-is (p .before)) (toZ-ofZ (s .fits .p)))
-    ∙ operated (admits tc) (productWhen (tc .count) (s .args .p) (s .args .q)) tc (tc .rate) (productOf (tc .count) (s .args .p) (s .args .q))
+    ∙ operated (admitsLength tc) (productWhen (tc .count) (s .args .p) (s .args .q)) tc (tc .rate) (productOf (tc .count) (s .args .p) (s .args .q))
     (passed (p .before .before))
 
 returns-2 : tie.Need-returns-2
@@ -45,7 +45,7 @@ unfolding mulOf
 returns-2 c =
     let a = c .before .before .before .before .args in
     let tc = a .tc in
-    sym (not-operated (admits tc) (productWhen (tc .count) (a .p) (a .q)) _ _ (sym (c .before .before .before .admit .ensures) ∙ c .before .e .given .1))
+    sym (not-operated (admitsLength tc) (productWhen (tc .count) (a .p) (a .q)) _ _ (sym (c .before .before .before .admit-length .ensures) ∙ c .before .e .given .1))
 
 pub mul-spec : {M : Type 1} → statement M
 mul-spec =

@@ -11,7 +11,7 @@ use Rattle.numbers.proofs.Tests.{fails, passes}
 use Rattle.answers.specs.declared.Counted.the-variants.{Count}
 use Rattle.rates.specs.Rates.{isRate}
 use Rattle.timecodes.specs.Timecode.{movedTo}
-use Rattle.timecodes.specs.Admitted.{admits}
+use Rattle.timecodes.specs.Admitted.{admitsLength}
 use Rattle.timecodes.specs.AdmittedLaws.{operated, not-operated}
 use Rattle.arithmetic.specs.Count.{rebaseOf}
 use Rattle.arithmetic.proofs.rebase.Statement.{statement}
@@ -39,7 +39,7 @@ returns-2 c =
     simp (rated e)
     (c .moved .ensures
     ∙ ap (λ (z : ℤ). movedTo tc rate (Count z)) (count-is (c .before))
-    ∙ operated (admits tc) [] tc rate (tc .count) (sym (t .before .before .admit .ensures) ∙ t .enum-told .given .1))
+    ∙ operated (admitsLength tc) [] tc rate (tc .count) (sym (t .before .before .admit-length .ensures) ∙ t .enum-told .given .1))
 
 returns-3 : tie.Need-returns-3
 unfolding rebaseOf
@@ -47,7 +47,7 @@ returns-3 c =
     let m = c .before .before .before in
     let e = m .before in
     let tc = e .before .before .args .tc in
-    simp (rated e) (sym (not-operated (admits tc) [] _ _ (sym (m .admit .ensures) ∙ c .before .e .given .1)))
+    simp (rated e) (sym (not-operated (admitsLength tc) [] _ _ (sym (m .admit-length .ensures) ∙ c .before .e .given .1)))
 
 pub rebase-spec : {M : Type 1} → statement M
 rebase-spec =

@@ -11,15 +11,15 @@ use Rattle.answers.specs.declared.Verdict.the-variants as verdict
 use Rattle.answers.specs.Order.{judged}
 use Rattle.answers.specs.OrderLaws.{judged-clear}
 use Rattle.timecodes.specs.Timecode.{movedTo}
-use Rattle.timecodes.specs.Admitted.{admits}
-use Rattle.timecodes.specs.AdmittedLaws.{admits-valid, valid-count-le, operated, not-operated}
+use Rattle.timecodes.specs.Admitted.{admitsLength}
+use Rattle.timecodes.specs.AdmittedLaws.{admitsLength-valid, valid-count-le, operated, not-operated}
 use Rattle.arithmetic.specs.Truncating.{remainderCounted, remOf}
 use Rattle.arithmetic.specs.Divisor.{badDivisor}
 use Rattle.arithmetic.proofs.rem.Statement.{statement}
 use Rattle.arithmetic.proofs.rem.Tie as tie
 
-passed : (c : tie.After-enum-told) → judged (admits (c .before .before .before .args .tc)) ≡ verdict.Passed
-passed c = sym (c .before .before .admit .ensures) ∙ c .enum-told .given .1
+passed : (c : tie.After-enum-told) → judged (admitsLength (c .before .before .before .args .tc)) ≡ verdict.Passed
+passed c = sym (c .before .before .admit-length .ensures) ∙ c .enum-told .given .1
 
 -- the count, as the machine reads it
 count-is : (c : tie.After-struct-told)
@@ -29,7 +29,7 @@ count-is c = search needs
 remainder-requires : tie.Need-remainder-requires
 remainder-requires c κs =
     let tc = c .before .before .before .before .args .tc in
-    rw (count-is c) (valid-count-le tc (admits-valid tc (judged-clear (admits tc) (passed (c .before)))))
+    rw (count-is c) (valid-count-le tc (admitsLength-valid tc (judged-clear (admitsLength tc) (passed (c .before)))))
 
 returns : tie.Need-returns
 unfolding remOf remainderCounted
@@ -39,14 +39,14 @@ returns c =
     let tc = s .args .tc in
     c .moved .ensures
     ∙ ap (movedTo tc (tc .rate)) (p .remainder .ensures ∙ ap₂ remainderCounted (count-is (p .before)) (toZ-ofZ (s .fits .n)))
-    ∙ operated (admits tc) (badDivisor (s .args .n) ∷ []) tc (tc .rate) (remZ (tc .count) (s .args .n)) (passed (p .before .before))
+    ∙ operated (admitsLength tc) (badDivisor (s .args .n) ∷ []) tc (tc .rate) (remZ (tc .count) (s .args .n)) (passed (p .before .before))
 
 returns-2 : tie.Need-returns-2
 unfolding remOf
 returns-2 c =
     let a = c .before .before .before .before .args in
     let tc = a .tc in
-    sym (not-operated (admits tc) (badDivisor (a .n) ∷ []) _ _ (sym (c .before .before .before .admit .ensures) ∙ c .before .e .given .1))
+    sym (not-operated (admitsLength tc) (badDivisor (a .n) ∷ []) _ _ (sym (c .before .before .before .admit-length .ensures) ∙ c .before .e .given .1))
 
 pub rem-spec : {M : Type 1} → statement M
 rem-spec =

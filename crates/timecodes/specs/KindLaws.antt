@@ -1,0 +1,105 @@
+-- Laws of the two kinds (BEHAVIOUR: Positions, Refusals): what admitting two timecodes tells, and when exactly 15 is given.
+-- Assumes nothing.
+use Prim.Native.Nat.{ℕ, _<_}
+use native.Mathlib.Omega.{arith}
+use mathlib.Core.Path.{_≡_, refl, sym, _∙_, ap, subst}
+use mathlib.Core.Logic.{_↔_}
+use mathlib.Core.Bool.{Bool, true, false, cond, _&&_, and-eq-true-iff}
+use mathlib.Core.List.{List, [], _∷_, _++_}
+use borrow.Author.Tests.{ltb-true}
+use lib.Dec.{T, ltb}
+use Rattle.answers.specs.declared.Refusal.{Refusal}
+use Rattle.answers.specs.declared.Verdict.{Verdict}
+use Rattle.answers.specs.declared.Verdict.the-variants as verdict
+use Rattle.answers.specs.Order.{Condition, when, unless, first, judged, Clear}
+use Rattle.answers.specs.OrderLaws.{unless-map, unless-told, unless-number}
+use Rattle.answers.specs.Refusals.{wrongKind}
+use Rattle.timecodes.specs.declared.Timecode.{Timecode}
+use Rattle.timecodes.specs.declared.Admitted.{Admitted}
+use Rattle.timecodes.specs.declared.Admitted.the-variants.{As, Refused}
+use Rattle.timecodes.specs.declared.kinds.Kind.{Kind}
+use Rattle.timecodes.specs.declared.kinds.Kind.the-variants.{Length, Position}
+use Rattle.timecodes.specs.declared.kinds.Joining.{Joining}
+use Rattle.timecodes.specs.declared.kinds.Mixed.{Mixed}
+use Rattle.timecodes.specs.declared.kinds.Mixed.the-variants.{Of, Never}
+use Rattle.timecodes.specs.Kinds.{isPosition, isNever, kindIn}
+use Rattle.timecodes.specs.Admitted.{admitsBoth, joinedKind}
+
+-- ---- the kinds
+
+pub position-told : (kind : Kind) → isPosition kind ≡ true → kind ≡ Position
+position-told Length e = absurd (subst T (sym e) tt)
+position-told Position e = refl
+
+-- what is mixed is of some kind
+pub mixed-told : (m : Mixed) → isNever m ≡ false → m ≡ Of (kindIn m)
+mixed-told (Of kind) e = refl
+mixed-told Never e = absurd (subst T e tt)
+
+-- ---- what admitting two tells
+
+abbrev verdictOf : Admitted → Verdict
+verdictOf (As kind) = verdict.Passed
+verdictOf (Refused e) = verdict.Refused e
+
+module _ (joining : Joining) (a b : Timecode) where
+  -- two that are taken are clear of every condition, and the kind is theirs
+  pub admitted-told : (kind : Kind) → unless Refused (admitsBoth joining a b) (As (joinedKind joining a b)) ≡ As kind
+      → Clear (admitsBoth joining a b) × (joinedKind joining a b ≡ kind)
+  admitted-told kind h =
+      let told = unless-told Refused (admitsBoth joining a b) (As (joinedKind joining a b)) (As kind) apart h in
+      let same = told .1 in
+      (told .0, cc)
+    where
+      apart : (e : Refusal) → Refused e ≡ As kind → ⊥
+      apart e k = let clash : _≡_ {A = ℕ} 0 1 = cc in omega arith
+
+  -- and two that are not are refused by their conditions
+  pub admitted-refused : (e : Refusal) → unless Refused (admitsBoth joining a b) (As (joinedKind joining a b)) ≡ Refused e
+      → judged (admitsBoth joining a b) ≡ verdict.Refused e
+  admitted-refused e h =
+      sym (unless-map verdictOf Refused verdict.Refused (λ r. refl) (admitsBoth joining a b) (As (joinedKind joining a b))) ∙ ap verdictOf h
+
+-- ---- when 15 is given
+
+-- every number of a list is below 15
+abbrev pub below15 : List Condition → Bool
+below15 [] = true
+below15 (c ∷ rest) = ltb (c .refusal .number) 15 && below15 rest
+
+first-below : (conditions : List Condition) → below15 conditions ≡ true → first conditions < 15
+first-below [] h = omega arith
+first-below (c ∷ rest) h =
+    let both = and-eq-true-iff (ltb (c .refusal .number) 15) (below15 rest) .0 h in
+    by (c .holds) (ltb-true (c .refusal .number) 15 (both .0)) (first-below rest (both .1))
+  where
+    by : (t : Bool) → c .refusal .number < 15 → first rest < 15 → cond t (c .refusal .number) (first rest) < 15
+    by true l later = l
+    by false l later = later
+
+first-clear : (front back : List Condition) → Clear front → first (front ++ back) ≡ first back
+first-clear [] back h = refl
+first-clear (c ∷ rest) back h =
+    ap (λ (t : Bool). cond t (c .refusal .number) (first (rest ++ back))) (h .0) ∙ first-clear rest back (h .1)
+
+fifteen : (barred : Bool) (back : List Condition) → below15 back ≡ true → (first (when wrongKind barred ∷ back) ≡ 15) ↔ (barred ≡ true)
+fifteen true back h = (λ e. refl, λ e. refl)
+fifteen false back h = (λ e. absurd (omega (arith, first-below back h)), λ e. absurd (subst T (sym e) tt))
+
+-- behind conditions that are clear 15 is given exactly when the kinds are barred, for every type of answers
+module _ {A : Type 0} (numberOf : A → ℕ) (refused : Refusal → A) (told : (e : Refusal) → numberOf (refused e) ≡ e .number)
+    (front back : List Condition) (clear : Clear front) (below : below15 back ≡ true) (answer : A) (none : numberOf answer ≡ 0) where
+  pub barred-exactly : (barred : Bool)
+      → (numberOf (unless refused (front ++ (when wrongKind barred ∷ back)) answer) ≡ 15) ↔ (barred ≡ true)
+  barred-exactly barred =
+      let conditions = front ++ (when wrongKind barred ∷ back) in
+      let given : numberOf (unless refused conditions answer) ≡ first (when wrongKind barred ∷ back) =
+      unless-number numberOf refused told conditions answer none ∙ first-clear front (when wrongKind barred ∷ back) clear in
+      (λ e. fifteen barred back below .0 (sym given ∙ e), λ h. given ∙ fifteen barred back below .1 h)
+
+  -- where only lengths are taken, exactly when it is a position
+  pub position-exactly : (kind : Kind)
+      → (numberOf (unless refused (front ++ (when wrongKind (isPosition kind) ∷ back)) answer) ≡ 15) ↔ (kind ≡ Position)
+  position-exactly kind =
+      let exactly = barred-exactly (isPosition kind) in
+      (λ e. position-told kind (exactly .0 e), λ h. exactly .1 (ap isPosition h))
