@@ -10,26 +10,28 @@ use asking::Numbers;
 use asking::rows;
 use showing::Shown;
 use streams::Gathered;
+use timecodes::Kind;
 use timecodes::Timecode;
 
 // What is shown of a command that writes no line of its own; the rest of the line begins at a place.
 fn shown(row: usize, tc: Timecode, n: Numbers, line: &[u8], rest: usize) -> Shown {
     match row {
         rows::HELP => showing::only_word(b'h'),
-        rows::READ..=rows::READ_RUNTIME => read::read(row, n.up1, n.up2, line, rest),
+        rows::READ..=rows::READ_RUNTIME => read::read(row, n, line, rest),
         rows::COUNT..=rows::REMQ => work::shown(row, tc, n),
         rows::CONVERT => convert::convert(tc, line, rest),
         _ => showing::only_word(b'?'),
     }
 }
 
-// The answer to a line that was kept whole; in most commands the first two numbers are RATE COUNT.
+// The answer to a line that was kept whole; in most commands the first two numbers are RATE COUNT, a position where
+// the rate has its mark.
 fn to_line(line: &[u8], out: &mut [u8], used: usize) -> usize {
     let a = asking::understand(line);
     let row = a.row;
     let v = a.values;
     let n = asking::numbers_of(v);
-    let tc = timecodes::new(n.n2, n.up1);
+    let tc = timecodes::new(n.n2, n.up1, Kind::from(n.at1));
     match row {
         rows::LABEL..=rows::RUNTIME => write::written(row, tc, n, out, used),
         rows::READ_LIST => lists::read_list(line, a.rest, out, used),

@@ -3,14 +3,16 @@ use asking::Numbers;
 use asking::rows;
 use showing::Shown;
 use timecodes::Answer;
+use timecodes::Kind;
 use timecodes::Timecode;
 
 // A timecode made of other numbers: RATE COUNT, RATE TICKS or RATE P Q.
-fn made(row: usize, rate: u64, p: i64, q: u64) -> Answer {
+fn made(row: usize, n: Numbers) -> Answer {
+    let kind = Kind::from(n.at1);
     match row {
-        rows::COUNT => time::with_frames(p, rate),
-        rows::FROM_TICKS => time::with_premiere_ticks(p, rate),
-        _ => time::with_seconds(p, q, rate),
+        rows::COUNT => time::with_frames(n.n2, n.up1, kind),
+        rows::FROM_TICKS => time::with_premiere_ticks(n.n2, n.up1, kind),
+        _ => time::with_seconds(n.n2, n.up3, n.up1, kind),
     }
 }
 
@@ -44,13 +46,13 @@ fn scaled(row: usize, tc: Timecode, p: i64, q: u64) -> Answer {
 
 // RATE COUNT, the third and the fourth number.
 fn other(n: Numbers) -> Timecode {
-    timecodes::new(n.n4, n.up3)
+    timecodes::new(n.n4, n.up3, Kind::from(n.at3))
 }
 
 // A command whose answer is a timecode.
 fn timecode_of(row: usize, tc: Timecode, n: Numbers) -> Answer {
     match row {
-        rows::COUNT..=rows::FROM_SECONDS => made(row, n.up1, n.n2, n.up3),
+        rows::COUNT..=rows::FROM_SECONDS => made(row, n),
         rows::NEG..=rows::REBASE => changed(row, tc, n.up3),
         rows::ADD..=rows::SUB => joined(row, tc, other(n)),
         _ => scaled(row, tc, n.n3, n.up4),

@@ -2,6 +2,7 @@
 ghost use Prim.Native.Nat.{_≤_};
 use asking::Numbers;
 use asking::rows;
+use timecodes::Kind;
 use timecodes::Timecode;
 use written::Written;
 
@@ -10,7 +11,7 @@ fn laid(row: usize, tc: Timecode, n: Numbers, line: &mut [u8]) -> Written {
     match row {
         rows::LABEL => label_writer::write_label(tc, line, n.up3 as usize),
         rows::FOOTAGE => footage_writer::write_footage(
-            timecodes::new(n.n3, n.up2),
+            timecodes::new(n.n3, n.up2, Kind::from(n.at2)),
             n.up1,
             line,
             n.up4 as usize,

@@ -8,7 +8,8 @@ use Rattle.rates.specs.declared.Rated.{Rated}
 use Rattle.rates.specs.Rates as rates
 use Rattle.timecodes.specs.declared.Timecode.{Timecode}
 use Rattle.timecodes.specs.declared.Answer.{Answer}
-use Rattle.timecodes.specs.Timecode.{timecode}
+use Rattle.timecodes.specs.Kinds.{kindFrom, isPosition}
+use Rattle.timecodes.specs.Timecode.{timecodeAs}
 use Rattle.timecodes.specs.Timecode as timecodes
 use Rattle.film.specs.declared.Filmed.{Filmed}
 use Rattle.film.specs.declared.Filmed.the-variants as filmed
@@ -37,22 +38,31 @@ use Rattle.exports.specs.declared.handed.TzqLength.{TzqLength}
 use Rattle.exports.specs.declared.handed.TzqRate.{TzqRate}
 use Rattle.exports.specs.declared.handed.TzqFormat.{TzqFormat}
 
--- the timecode that C handed over: a count and a rate
+-- the timecode that C handed over: a count and a rate, a position or else a length
 abbrev pub timecodeFrom : TzqTimecode → Timecode
-timecodeFrom t = timecode (t .count) (t .rate)
+timecodeFrom t = timecodeAs (kindFrom (t .position)) (t .count) (t .rate)
 
 -- a refusal returns its number with count 0
 unfoldable pub handedCount : Counted → TzqCount
-handedCount a = record { refused = answers.numberOf a; count = answers.countOf a }
+handedCount a = record { refused = answers.numberOf a; count = answers.countOf a; position = false }
 
--- of a timecode its count
+-- of a timecode its count, and whether it is a position
 unfoldable pub handedAnswer : Answer → TzqCount
-handedAnswer a = record { refused = timecodes.numberOf a; count = timecodes.timecodeOf a .count }
+handedAnswer a =
+    let tc = timecodes.timecodeOf a in
+    record { refused = timecodes.numberOf a; count = tc .count; position = isPosition (tc .kind) }
 
 -- a footage answer carries the count together with the film format chosen; a refusal of the text carries its place
 unfoldable pub handedRead : Read → TzqRead
 handedRead a =
-    record { refused = reading.numberOf a; count = reading.timecodeOf a .count; format = reading.formatOf a; place = reading.placeOf a }
+    let tc = reading.timecodeOf a in
+    record {
+      refused = reading.numberOf a;
+      count = tc .count;
+      format = reading.formatOf a;
+      place = reading.placeOf a;
+      position = isPosition (tc .kind);
+    }
 
 -- a refused comparison has order 0
 unfoldable pub handedOrder : Compared → TzqOrder

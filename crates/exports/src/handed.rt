@@ -1,5 +1,6 @@
 // What is handed to C: a struct of numbers for each kind of answer, the refusal's number first.
 ghost use mathlib.Core.Path.{_≡_};
+ghost use Rattle.timecodes.specs.Kinds.{isPosition};
 ghost use Rattle.exports.specs.Handed.{timecodeFrom, handedCount, handedAnswer, handedRead, handedOrder, handedTicks, handedSeconds, handedTimecode, handedSections, handedLength, handedRate, handedFormat};
 use answers::Counted;
 use arithmetic::Compared;
@@ -10,31 +11,35 @@ use reading::Read;
 use time::Ticked;
 use time::Timed;
 use timecodes::Answer;
+use timecodes::Kind;
 use timecodes::Timecode;
 use written::Written;
 
-// A count and a rate.
+// A count and a rate; a position, or else a length.
 #[repr(C)]
 pub struct TzqTimecode {
     pub count: i64,
     pub rate: u64,
+    pub position: bool,
 }
 
-// A count. Refused: count 0.
+// A count, and whether it is that of a position. Refused: count 0, no position.
 #[repr(C)]
 pub struct TzqCount {
     pub refused: u64,
     pub count: i64,
+    pub position: bool,
 }
 
-// What a text reads as: its count, and a footage's film format (a label's is 0). Refused: count 0, format 0, and the place in the text
-// (0 for any other number than 1 and 2).
+// What a text reads as: its count, a footage's film format (a label's is 0), and whether it is a position. Refused: count 0, format 0, no
+// position, and the place in the text (0 for any other number than 1 and 2).
 #[repr(C)]
 pub struct TzqRead {
     pub refused: u64,
     pub count: i64,
     pub format: u64,
     pub place: usize,
+    pub position: bool,
 }
 
 // How two timecodes compare: -1, 0 or 1. Refused: order 0.
@@ -115,10 +120,15 @@ pub(crate) fn wide(n: u8) -> u64
 pub(crate) fn timecode_from(t: TzqTimecode) -> Timecode
     ensures answer { λ r. ⌜ r ≡ timecodeFrom t ⌝ }
 {
-    Timecode {
-        count: t.count,
-        rate: t.rate,
-    }
+    timecodes::new(t.count, t.rate, Kind::from(t.position))
+}
+
+// Whether a timecode is a position.
+fn is_position(tc: Timecode) -> bool
+    ensures answer { λ r. ⌜ r ≡ isPosition (tc .kind) ⌝ }
+{
+    let kind = tc.kind;
+    kind.is_position()
 }
 
 // A count or its refusal.
@@ -126,15 +136,20 @@ pub(crate) fn handed_count(a: Counted) -> TzqCount
     ensures answer { λ r. ⌜ r ≡ handedCount a ⌝ }
 {
     match a {
-        Counted::Count(count) => TzqCount { refused: 0, count },
+        Counted::Count(count) => TzqCount {
+            refused: 0,
+            count,
+            position: false,
+        },
         Counted::Refused(e) => TzqCount {
             refused: wide(e.number),
             count: 0,
+            position: false,
         },
     }
 }
 
-// A timecode's count or its refusal: the rate is the caller's own.
+// A timecode's count and kind, or its refusal: the rate is the caller's own.
 pub(crate) fn handed_answer(a: Answer) -> TzqCount
     ensures answer { λ r. ⌜ r ≡ handedAnswer a ⌝ }
 {
@@ -142,10 +157,12 @@ pub(crate) fn handed_answer(a: Answer) -> TzqCount
         Answer::At(tc) => TzqCount {
             refused: 0,
             count: tc.count,
+            position: is_position(tc),
         },
         Answer::Refused(e) => TzqCount {
             refused: wide(e.number),
             count: 0,
+            position: false,
         },
     }
 }
@@ -160,18 +177,21 @@ pub(crate) fn handed_read(a: Read) -> TzqRead
             count: tc.count,
             format: 0,
             place: 0,
+            position: is_position(tc),
         },
         Read::Footage(tc, format) => TzqRead {
             refused: 0,
             count: tc.count,
             format: format.number(),
             place: 0,
+            position: is_position(tc),
         },
         Read::Refused(e) => TzqRead {
             refused: wide(e.number),
             count: 0,
             format: 0,
             place: e.place,
+            position: false,
         },
     }
 }

@@ -13,7 +13,8 @@ use crate::handed::TzqCount;
 use crate::handed::TzqOrder;
 use crate::handed::TzqTimecode;
 
-// The sum at the left one's rate. Refuses 6: no such rate; 5: a count, or the resulting count, is out of bounds.
+// The sum at the left one's rate; a position with a length is a position, reduced by whole days. Refuses 6: no such rate; 15: two positions;
+// 5: a count, or the resulting count, is out of bounds.
 #[no_mangle]
 pub extern "C" fn tzq_add(a: TzqTimecode, b: TzqTimecode) -> TzqCount
     ensures answer { λ r. ⌜ r ≡ handedAnswer (addOf (timecodeFrom a) (timecodeFrom b)) ⌝ }
@@ -21,7 +22,8 @@ pub extern "C" fn tzq_add(a: TzqTimecode, b: TzqTimecode) -> TzqCount
     handed::handed_answer(arithmetic::add(handed::timecode_from(a), handed::timecode_from(b)))
 }
 
-// The difference at the left one's rate. Refuses as `tzq_add` does.
+// The difference at the left one's rate; a position less a length is a position, reduced by whole days, and less a position a length. Refuses
+// 6: no such rate; 15: a position taken from a length; 5: a count, or the resulting count, is out of bounds.
 #[no_mangle]
 pub extern "C" fn tzq_sub(a: TzqTimecode, b: TzqTimecode) -> TzqCount
     ensures answer { λ r. ⌜ r ≡ handedAnswer (subOf (timecodeFrom a) (timecodeFrom b)) ⌝ }
@@ -29,7 +31,7 @@ pub extern "C" fn tzq_sub(a: TzqTimecode, b: TzqTimecode) -> TzqCount
     handed::handed_answer(arithmetic::sub(handed::timecode_from(a), handed::timecode_from(b)))
 }
 
-// How two timecodes compare, by instant. Refuses 6: no such rate; 5: a count is out of bounds.
+// How two timecodes compare, by instant. Refuses 6: no such rate; 15: a position and a length; 5: a count is out of bounds.
 #[no_mangle]
 pub extern "C" fn tzq_cmp(a: TzqTimecode, b: TzqTimecode) -> TzqOrder
     ensures answer { λ r. ⌜ r ≡ handedOrder (compareOf (timecodeFrom a) (timecodeFrom b)) ⌝ }
@@ -37,7 +39,8 @@ pub extern "C" fn tzq_cmp(a: TzqTimecode, b: TzqTimecode) -> TzqOrder
     handed::handed_order(arithmetic::cmp(handed::timecode_from(a), handed::timecode_from(b)))
 }
 
-// The product with p/q, rounded. Refuses 6: no such rate; 5: the count or the factor, or then the resulting count, is out of bounds.
+// The product of a length with p/q, rounded. Refuses 6: no such rate; 15: a position; 5: the count or the factor, or then the resulting count,
+// is out of bounds.
 #[no_mangle]
 pub extern "C" fn tzq_mul(tc: TzqTimecode, p: i64, q: u64) -> TzqCount
     ensures answer { λ r. ⌜ r ≡ handedAnswer (mulOf (timecodeFrom tc) p q) ⌝ }
@@ -45,7 +48,8 @@ pub extern "C" fn tzq_mul(tc: TzqTimecode, p: i64, q: u64) -> TzqCount
     handed::handed_answer(arithmetic::mul(handed::timecode_from(tc), p, q))
 }
 
-// The quotient by a whole number, cut off toward zero. Refuses 6: no such rate; 5: the count is out of bounds; 7: the divisor is zero.
+// The quotient of a length by a whole number, cut off toward zero. Refuses 6: no such rate; 15: a position; 5: the count is out of bounds;
+// 7: the divisor is zero.
 #[no_mangle]
 pub extern "C" fn tzq_div(tc: TzqTimecode, n: i64) -> TzqCount
     ensures answer { λ r. ⌜ r ≡ handedAnswer (divOf (timecodeFrom tc) n) ⌝ }
@@ -61,8 +65,8 @@ pub extern "C" fn tzq_rem(tc: TzqTimecode, n: i64) -> TzqCount
     handed::handed_answer(arithmetic::rem(handed::timecode_from(tc), n))
 }
 
-// The quotient by p/q, rounded down. Refuses 6: no such rate; 5: the count or the divisor is out of bounds; 7: the divisor is zero;
-// 5: the resulting count is out of bounds.
+// The quotient of a length by p/q, rounded down. Refuses 6: no such rate; 15: a position; 5: the count or the divisor is out of bounds;
+// 7: the divisor is zero; 5: the resulting count is out of bounds.
 #[no_mangle]
 pub extern "C" fn tzq_divq(tc: TzqTimecode, p: i64, q: u64) -> TzqCount
     ensures answer { λ r. ⌜ r ≡ handedAnswer (divqOf (timecodeFrom tc) p q) ⌝ }
@@ -78,7 +82,7 @@ pub extern "C" fn tzq_remq(tc: TzqTimecode, p: i64, q: u64) -> TzqCount
     handed::handed_answer(arithmetic::remq(handed::timecode_from(tc), p, q))
 }
 
-// The negated count. Refuses 6: no such rate; 5: the count is out of bounds.
+// The negated count of a length. Refuses 6: no such rate; 15: a position; 5: the count is out of bounds.
 #[no_mangle]
 pub extern "C" fn tzq_neg(tc: TzqTimecode) -> TzqCount
     ensures answer { λ r. ⌜ r ≡ handedAnswer (negOf (timecodeFrom tc)) ⌝ }
@@ -86,7 +90,7 @@ pub extern "C" fn tzq_neg(tc: TzqTimecode) -> TzqCount
     handed::handed_answer(arithmetic::neg(handed::timecode_from(tc)))
 }
 
-// The absolute count. Refuses 6: no such rate; 5: the count is out of bounds.
+// The absolute count of a length. Refuses 6: no such rate; 15: a position; 5: the count is out of bounds.
 #[no_mangle]
 pub extern "C" fn tzq_abs(tc: TzqTimecode) -> TzqCount
     ensures answer { λ r. ⌜ r ≡ handedAnswer (absOf (timecodeFrom tc)) ⌝ }
@@ -94,7 +98,7 @@ pub extern "C" fn tzq_abs(tc: TzqTimecode) -> TzqCount
     handed::handed_answer(arithmetic::abs(handed::timecode_from(tc)))
 }
 
-// The same count at another rate. Refuses 6: either rate is none; 5: the count is out of bounds.
+// A length's count at another rate. Refuses 6: either rate is none; 15: a position; 5: the count is out of bounds.
 #[no_mangle]
 pub extern "C" fn tzq_rebase(tc: TzqTimecode, rate: u64) -> TzqCount
     ensures answer { λ r. ⌜ r ≡ handedAnswer (rebaseOf (timecodeFrom tc) rate) ⌝ }

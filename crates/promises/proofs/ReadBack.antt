@@ -2,7 +2,7 @@
 -- Assumes nothing.
 use Prim.Native.Nat.{ℕ, _≤_}
 use mathlib.Core.Path.{_≡_, refl, sym, ap, _∙_}
-use mathlib.Core.Bool.{Bool, true, false, cond}
+use mathlib.Core.Bool.{Bool, true, false}
 use native.Mathlib.Omega.{arith}
 use borrow.Author.Tests.{leb-true}
 use lib.IntN.{ℤ, natAbs}
@@ -19,7 +19,6 @@ use Rattle.film.specs.Footage.{footageOf}
 use Rattle.film.specs.FormatLaws.{at-number}
 use Rattle.labels.specs.Label.{hoursIn, minutesIn, secondsIn, framesIn}
 use Rattle.labels.specs.AtRate.{labelFrames}
-use Rattle.scanner.specs.Scan.{isDivider}
 use Rattle.label_scan.specs.Label.{fittingLabel, labelScan}
 use Rattle.label_scan.proofs.Statements.{label-back}
 use Rattle.footage_scan.specs.Shape.{hasPerf}
@@ -35,15 +34,11 @@ use Rattle.label_writer.specs.LabelText.{framesMark, labelText}
 use Rattle.label_writer.proofs.Answers.{label-of, label-small, label-parts}
 use Rattle.footage_writer.specs.FootageText.{footageText}
 use Rattle.promises.specs.ReadBack.{LabelsReadBack, FootageReadBack, UnstatedReadBack}
-use Rattle.promises.proofs.Read.{sign-is, four-fields, read-label}
+use Rattle.promises.proofs.Read.{sign-is, four-fields, read-label, mark-divides}
 use Rattle.promises.proofs.WrittenFootage.{marker-there, partsOf}
 use Rattle.promises.proofs.AsWritten.{read-as-written, itself}
 
 -- ---- labels
-mark-divides : (drop : Bool) → isDivider (cond drop 59 58) ≡ true
-mark-divides true = refl
-mark-divides false = refl
-
 -- the label of a count scans as its sign and fields
 label-scan : (rate : ℕ) (count : ℤ) → isRate rate ≡ true → isCount count ≡ true
     → labelScan (labelText rate count) ≡ fittingLabel (isNeg count) (labelFields rate count)

@@ -18,10 +18,10 @@ use Rattle.streams.proofs.Putting.{Laid, put-is}
 use Rattle.hex.specs.Hex.{hexText}
 use Rattle.asking.specs.Table.{spelt}
 use Rattle.showing.specs.declared.Shown.{Shown}
-use Rattle.showing.specs.Shown.{countText, wordText, helpText, saidText, secondText, partsText, shownText, lengthText, writtenText, wordOn, saidOn, secondOn, firstOn, partsOn, shownOn, lengthOn, writtenOn}
+use Rattle.showing.specs.Shown.{countText, wordText, frontText, helpText, saidText, secondText, partsText, shownText, lengthText, writtenText, wordOn, frontOn, saidOn, secondOn, firstOn, partsOn, shownOn, lengthOn, writtenOn}
 use Rattle.showing.specs.Each.{ofRefusal}
 use Rattle.showing.specs.Lists.{recordText, recordsText, listText, numberedOn, framesOn, recordOn, recordsOn, listOn}
-use Rattle.showing.specs.Statements.{ShownLine, WrittenLine, HexWrittenLine, TextRefusedShown, ListLine, ListRefusedLine, ListWords}
+use Rattle.showing.specs.Statements.{ShownLine, WrittenLine, HexWrittenLine, TextRefusedShown, PositionShown, ListLine, ListRefusedLine, ListWords}
 
 -- ---- texts one behind the other
 laid-none : (s : Sheet) → Laid s s []
@@ -76,25 +76,31 @@ module _ (s : Sheet) where
       by true h = put-is s helpText h
       by false h = put-is s (spelt "not understood") h
 
-  module _ (a : Shown) where
-    first-laid : s .used + length (wordText (a .word) ++ countText (a .x)) ≤ length (s .bytes)
-        → Laid s (firstOn s a) (wordText (a .word) ++ countText (a .x))
-    first-laid h =
-        laid-put s (wordOn s (a .word)) (wordText (a .word)) (countText (a .x))
-        (word-laid (a .word) (omega (arith, h, length-append (wordText (a .word)) (countText (a .x))))) h
+  front-laid : (word : ℕ) (position : Bool) → s .used + length (frontText word position) ≤ length (s .bytes)
+      → Laid s (frontOn s word position) (frontText word position)
+  front-laid word false h = word-laid word h
+  front-laid word true h =
+      laid-put s (wordOn s word) (wordText word) (64 ∷ []) (word-laid word (omega (arith, h, length-append (wordText word) (64 ∷ [])))) h
 
-    second-laid : (let t = wordText (a .word) ++ (countText (a .x) ++ secondText (a .mark) (a .y)) in
+  module _ (a : Shown) where
+    first-laid : s .used + length (frontText (a .word) (a .position) ++ countText (a .x)) ≤ length (s .bytes)
+        → Laid s (firstOn s a) (frontText (a .word) (a .position) ++ countText (a .x))
+    first-laid h =
+        laid-put s (frontOn s (a .word) (a .position)) (frontText (a .word) (a .position)) (countText (a .x))
+        (front-laid (a .word) (a .position) (omega (arith, h, length-append (frontText (a .word) (a .position)) (countText (a .x))))) h
+
+    second-laid : (let t = frontText (a .word) (a .position) ++ (countText (a .x) ++ secondText (a .mark) (a .y)) in
         s .used + length t ≤ length (s .bytes) → Laid s (secondOn (firstOn s a) (a .mark) (a .y)) t)
     unfolding secondOn
-    second-laid h = marked-laid s (firstOn s a) (wordText (a .word)) (countText (a .x)) (signedText false (a .y)) (a .mark) first-laid h
+    second-laid h = marked-laid s (firstOn s a) (frontText (a .word) (a .position)) (countText (a .x)) (signedText false (a .y)) (a .mark) first-laid h
 
     parts-laid : s .used + length (partsText a) ≤ length (s .bytes) → Laid s (partsOn s a) (partsText a)
     unfolding partsOn partsText
     parts-laid = by (eqb (a .count) 0) (eqb (a .count) 1)
       where
         by : (x y : Bool)
-            → (let second = wordText (a .word) ++ (countText (a .x) ++ secondText (a .mark) (a .y)) in
-            let t = cond x (saidText (a .word)) (cond y (wordText (a .word) ++ countText (a .x)) second) in
+            → (let second = frontText (a .word) (a .position) ++ (countText (a .x) ++ secondText (a .mark) (a .y)) in
+            let t = cond x (saidText (a .word)) (cond y (frontText (a .word) (a .position) ++ countText (a .x)) second) in
             s .used + length t ≤ length (s .bytes)
             → Laid s (cond x (saidOn s (a .word)) (cond y (firstOn s a) (secondOn (firstOn s a) (a .mark) (a .y)))) t)
         by true y h = said-laid (a .word) h
@@ -127,6 +133,10 @@ pub hex-written-line : HexWrittenLine
 hex-written-line s w line h = written-line s w (hexText line) h
 
 -- ---- a text that is refused
+pub position-shown : PositionShown
+unfolding shownText partsText wordText
+position-shown z rate = (refl, refl, refl, λ format. refl)
+
 pub text-refused-shown : TextRefusedShown
 unfolding wordText partsText shownText
 text-refused-shown e = refl

@@ -2,7 +2,7 @@
 -- Assumes nothing.
 use Prim.Native.Nat.{ℕ}
 use mathlib.Core.List.{List, [], _∷_, _++_}
-use mathlib.Core.Bool.{false, cond}
+use mathlib.Core.Bool.{Bool, true, false, cond}
 use lib.Dec.{eqb}
 use lib.IntN.{ℤ, pos, natAbs}
 use Rattle.numbers.specs.Sign.{isNeg}
@@ -26,6 +26,11 @@ wordText word =
     (cond (eqb word 102) (spelt "footage ")
     (cond (eqb word 114) (spelt "refused ")
     []))
+
+-- and behind it the mark of a position, `@`
+abbrev pub frontText : (word : ℕ) (position : Bool) → List ℕ
+frontText word false = wordText word
+frontText word true = wordText word ++ (64 ∷ [])
 
 -- the commands in short, each line but the last with its end
 unfoldable pub helpText : List ℕ
@@ -51,7 +56,8 @@ helpText =
     ∷ spelt "convert RATE COUNT RATE ..: COUNT RATE" ++ (10
     ∷ spelt "read_list HEX: N RECORDS" ++ (10
     ∷ spelt "write_list PLACE ROOM RECORDS: LENGTH HEX" ++ (10
-    ∷ spelt "A refusal is: refused N; of read and read_as: refused N PLACE")))))))))))))))))))))
+    ∷ spelt "A refusal is: refused N; of read and read_as: refused N PLACE" ++ (10
+    ∷ spelt "The first RATE of a command, and the second of add, sub and cmp, may have @ before it: a position; a COUNT that is one has it too"))))))))))))))))))))))
 
 -- a word alone
 unfoldable pub saidText : (word : ℕ) → List ℕ
@@ -64,8 +70,8 @@ secondText mark y = mark ∷ signedText false y
 unfoldable pub partsText : Shown → List ℕ
 partsText s =
     cond (eqb (s .count) 0) (saidText (s .word))
-    (cond (eqb (s .count) 1) (wordText (s .word) ++ countText (s .x))
-    (wordText (s .word) ++ (countText (s .x) ++ secondText (s .mark) (s .y))))
+    (cond (eqb (s .count) 1) (frontText (s .word) (s .position) ++ countText (s .x))
+    (frontText (s .word) (s .position) ++ (countText (s .x) ++ secondText (s .mark) (s .y))))
 
 -- and the line's end
 unfoldable pub shownText : Shown → List ℕ
@@ -87,6 +93,10 @@ wordOn s word =
     (cond (eqb word 114) (putOn s (spelt "refused "))
     s))
 
+abbrev pub frontOn : Sheet → (word : ℕ) (position : Bool) → Sheet
+frontOn s word false = wordOn s word
+frontOn s word true = putOn (wordOn s word) (64 ∷ [])
+
 unfoldable pub saidOn : Sheet → (word : ℕ) → Sheet
 saidOn s word = cond (eqb word 104) (putOn s helpText) (putOn s (spelt "not understood"))
 
@@ -94,7 +104,7 @@ unfoldable pub secondOn : Sheet → (mark y : ℕ) → Sheet
 secondOn s mark y = putOn (putOn s (mark ∷ [])) (signedText false y)
 
 abbrev pub firstOn : Sheet → Shown → Sheet
-firstOn s a = putOn (wordOn s (a .word)) (countText (a .x))
+firstOn s a = putOn (frontOn s (a .word) (a .position)) (countText (a .x))
 
 unfoldable pub partsOn : Sheet → Shown → Sheet
 partsOn s a =

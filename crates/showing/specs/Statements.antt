@@ -4,10 +4,14 @@ use Prim.Native.Nat.{ℕ, _+_, _≤_}
 use mathlib.Core.Path.{_≡_}
 use mathlib.Core.List.{List, [], _∷_, _++_}
 use mathlib.Core.Bool.{false}
-use lib.IntN.{pos, negsuc}
+use lib.IntN.{ℤ, pos, negsuc}
 use lib.ListN.{length}
 use Rattle.answers.specs.declared.Refusal.{Refusal}
-use Rattle.reading.specs.declared.Read.the-variants.{Refused}
+use Rattle.timecodes.specs.declared.Answer.the-variants.{At}
+use Rattle.timecodes.specs.Timecode.{timecode, position}
+use Rattle.film.specs.declared.FilmFormat.{FilmFormat}
+use Rattle.film.specs.Film.{formatNumber}
+use Rattle.reading.specs.declared.Read.the-variants.{Label, Footage, Refused}
 use Rattle.shot_lists.specs.declared.records.Record.{Record}
 use Rattle.shot_lists.specs.declared.records.Record.the-variants.{Rate, Shot, Reel}
 use Rattle.shot_lists.specs.Reading.{AllOf, FaultOf}
@@ -17,8 +21,8 @@ use Rattle.streams.specs.Sheet.{Sheet, textOn}
 use Rattle.hex.specs.Hex.{hexText}
 use Rattle.asking.specs.Table.{spelt}
 use Rattle.showing.specs.declared.Shown.{Shown}
-use Rattle.showing.specs.Each.{ofRead}
-use Rattle.showing.specs.Shown.{shownText, writtenText, shownOn, writtenOn, hexWrittenOn}
+use Rattle.showing.specs.Each.{ofAnswer, ofRead}
+use Rattle.showing.specs.Shown.{countText, shownText, writtenText, shownOn, writtenOn, hexWrittenOn}
 use Rattle.showing.specs.Lists.{listText, listOn}
 
 -- behind the text that the sheet has stands the answer's, where it has room
@@ -44,6 +48,17 @@ abbrev pub TextRefusedShown : Type 0
 TextRefusedShown =
     (e : Refusal)
     → shownText (ofRead (Refused e)) ≡ (spelt "refused " ++ (signedText false (e .number) ++ (32 ∷ signedText false (e .place)))) ++ (10 ∷ [])
+
+-- a count that is a position has `@` before it: `@13`, `label @1800`, `footage @16 1`; a length's has none
+abbrev pub PositionShown : Type 0
+PositionShown =
+    (z : ℤ) (rate : ℕ)
+    → (shownText (ofAnswer (At (position z rate))) ≡ (64 ∷ countText z) ++ (10 ∷ []))
+    × (shownText (ofAnswer (At (timecode z rate))) ≡ countText z ++ (10 ∷ []))
+    × (shownText (ofRead (Label (position z rate))) ≡ (spelt "label @" ++ countText z) ++ (10 ∷ []))
+    × ((format : FilmFormat)
+    → shownText (ofRead (Footage (position z rate) format))
+    ≡ (spelt "footage @" ++ (countText z ++ (32 ∷ signedText false (formatNumber format)))) ++ (10 ∷ []))
 
 -- behind the text that the sheet has stands a shot list's, where it has room: how many records it has, and each as words
 abbrev pub ListLine : Type 0

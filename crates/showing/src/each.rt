@@ -2,6 +2,8 @@
 ghost use mathlib.Core.Path.{_≡_};
 ghost use Rattle.showing.specs.Each.{ofRefusal, ofTextRefusal, ofAnswer, ofConverted, ofCounted, ofTicked, ofTimed, ofCompared, ofRead};
 use crate::Shown;
+use crate::count_and;
+use crate::one_count;
 use crate::one_number;
 use crate::two_numbers;
 use answers::Counted;
@@ -31,7 +33,7 @@ pub fn of_answer(a: Answer) -> Shown
     ensures answer { λ r. ⌜ r ≡ ofAnswer a ⌝ }
 {
     match a {
-        Answer::At(tc) => one_number(0, tc.count),
+        Answer::At(tc) => one_count(0, tc),
         Answer::Refused(e) => of_refusal(e),
     }
 }
@@ -41,7 +43,7 @@ pub fn of_converted(a: Answer) -> Shown
     ensures answer { λ r. ⌜ r ≡ ofConverted a ⌝ }
 {
     match a {
-        Answer::At(tc) => two_numbers(0, tc.count, b' ', tc.rate),
+        Answer::At(tc) => count_and(0, tc, tc.rate),
         Answer::Refused(e) => of_refusal(e),
     }
 }
@@ -91,8 +93,8 @@ pub fn of_read(a: Read) -> Shown
     ensures answer { λ r. ⌜ r ≡ ofRead a ⌝ }
 {
     match a {
-        Read::Label(tc) => one_number(b'l', tc.count),
-        Read::Footage(tc, format) => two_numbers(b'f', tc.count, b' ', format.number()),
+        Read::Label(tc) => one_count(b'l', tc),
+        Read::Footage(tc, format) => count_and(b'f', tc, format.number()),
         Read::Refused(e) => of_text_refusal(e),
     }
 }

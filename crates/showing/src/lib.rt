@@ -1,8 +1,9 @@
 // How the calculator shows an answer (docs/ASK.md): one line, put on a sheet. Refuses nothing itself: what has no room changes nothing.
 ghost use mathlib.Core.Path.{_≡_};
 ghost use Rattle.streams.specs.Sheet.{sheet, putOn};
-ghost use Rattle.showing.specs.Each.{onlyWord, oneNumber, twoNumbers};
-ghost use Rattle.showing.specs.Shown.{countText, helpText, wordOn, saidOn, secondOn, partsOn, shownOn, lengthOn, writtenOn, hexWrittenOn};
+ghost use Rattle.showing.specs.Each.{onlyWord, oneNumber, twoNumbers, oneCount, countAnd};
+ghost use Rattle.showing.specs.Shown.{countText, helpText, wordOn, frontOn, saidOn, secondOn, partsOn, shownOn, lengthOn, writtenOn, hexWrittenOn};
+use timecodes::Timecode;
 use written::Written;
 
 mod each;
@@ -18,10 +19,11 @@ pub use each::of_timed;
 pub use lists::show_list;
 
 // What is shown: a word (`l` label, `f` footage, `r` refused, `h` the commands in short, `?` not understood, 0 none), and behind it so many
-// numbers, two of them with a mark between them.
+// numbers, two of them with a mark between them; the first with `@` before it where it is the count of a position.
 pub struct Shown {
     pub word: u8,
     pub count: u8,
+    pub position: bool,
     pub x: i64,
     pub mark: u8,
     pub y: u64,
@@ -34,6 +36,7 @@ pub fn only_word(word: u8) -> Shown
     Shown {
         word,
         count: 0,
+        position: false,
         x: 0,
         mark: 0,
         y: 0,
@@ -47,6 +50,7 @@ pub(crate) fn one_number(word: u8, x: i64) -> Shown
     Shown {
         word,
         count: 1,
+        position: false,
         x,
         mark: 0,
         y: 0,
@@ -60,8 +64,39 @@ pub(crate) fn two_numbers(word: u8, x: i64, mark: u8, y: u64) -> Shown
     Shown {
         word,
         count: 2,
+        position: false,
         x,
         mark,
+        y,
+    }
+}
+
+// The count of a timecode, behind a word or alone.
+pub(crate) fn one_count(word: u8, tc: Timecode) -> Shown
+    ensures answer { λ r. ⌜ r ≡ oneCount word tc ⌝ }
+{
+    let kind = tc.kind;
+    Shown {
+        word,
+        count: 1,
+        position: kind.is_position(),
+        x: tc.count,
+        mark: 0,
+        y: 0,
+    }
+}
+
+// The count of a timecode, a space and a number, behind a word or alone.
+pub(crate) fn count_and(word: u8, tc: Timecode, y: u64) -> Shown
+    ensures answer { λ r. ⌜ r ≡ countAnd word tc y ⌝ }
+{
+    let kind = tc.kind;
+    Shown {
+        word,
+        count: 2,
+        position: kind.is_position(),
+        x: tc.count,
+        mark: b' ',
         y,
     }
 }
@@ -85,6 +120,18 @@ fn put_word(out: &mut [u8], used: usize, word: u8) -> usize
         b'r' => streams::put_text(out, used, b"refused "),
         _ => used,
     }
+}
+
+// A word before numbers, and the mark of a position.
+fn put_front(out: &mut [u8], used: usize, word: u8, position: bool) -> usize
+    ensures answer { λ r. ⌜ r ≡ frontOn (sheet (now (out .entry)) used) word position .used ⌝ }
+    ensures sheet { λ r. ⌜ now (out .exit) ≡ frontOn (sheet (now (out .entry)) used) word position .bytes ⌝ }
+{
+    let a = put_word(out, used, word);
+    if position {
+        return streams::put_byte(out, a, b'@');
+    }
+    a
 }
 
 // The commands in short: a line for each command, or for those that are alike, without the last one's end.
@@ -116,7 +163,8 @@ rebase RATE COUNT RATE: COUNT
 convert RATE COUNT RATE ..: COUNT RATE
 read_list HEX: N RECORDS
 write_list PLACE ROOM RECORDS: LENGTH HEX
-A refusal is: refused N; of read and read_as: refused N PLACE",
+A refusal is: refused N; of read and read_as: refused N PLACE
+The first RATE of a command, and the second of add, sub and cmp, may have @ before it: a position; a COUNT that is one has it too",
     )
 }
 
@@ -148,7 +196,7 @@ fn put_shown(out: &mut [u8], used: usize, s: Shown) -> usize
     if s.count == 0 {
         return put_said(out, used, s.word);
     }
-    let a = put_word(out, used, s.word);
+    let a = put_front(out, used, s.word, s.position);
     let b = put_number(out, a, s.x);
     if s.count == 1 {
         return b;

@@ -5,7 +5,7 @@ use mir.Val.{toZ, ofZ}
 use mathlib.Core.Path.{_≡_, subst}
 use borrow.Author.Needs.{needs}
 use Rattle.streams.specs.Sheet.{sheet, putOn}
-use Rattle.showing.specs.Shown.{countText, wordOn, secondOn, firstOn}
+use Rattle.showing.specs.Shown.{countText, frontOn, secondOn, firstOn}
 use Rattle.showing.proofs.Putting.{Leaves, leaves-on, leaves-same, parts-none, parts-one, parts-two}
 use Rattle.showing.proofs.put_shown.Statement.{statement}
 use Rattle.showing.proofs.put_shown.Tie as tie
@@ -31,9 +31,9 @@ first c =
     let a = w .before .before .before .before .before .args in
     let s = sheet (a .out .now) (a .used) in
     let q =
-    subst (λ x. Leaves (putOn (sheet (w .put-word .last .0) (w .put-word .result)) (countText x)) (c .put-number .result) (c .put-number .last .0))
+    subst (λ x. Leaves (putOn (sheet (w .put-front .last .0) (w .put-front .result)) (countText x)) (c .put-number .result) (c .put-number .last .0))
     (back c) (c .put-number .ensures) in
-    leaves-on (wordOn s (a .s .word)) (λ z. putOn z (countText (a .s .x))) _ _ _ _ (w .put-word .ensures) q
+    leaves-on (frontOn s (a .s .word) (a .s .position)) (λ z. putOn z (countText (a .s .x))) _ _ _ _ (w .put-front .ensures) q
 
 returns-2 : tie.Need-returns-2
 returns-2 c =

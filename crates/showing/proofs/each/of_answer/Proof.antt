@@ -1,18 +1,13 @@
 -- `showing::each::of_answer` meets its contract: case by case.
 -- Assumes nothing.
-use mir.Syntax.{w64}
-use mir.Val.{toZ, ofZ}
-use mathlib.Core.Path.{_≡_, sym, ap, _∙_}
+use mathlib.Core.Path.{sym, ap, _∙_}
 use borrow.Author.Needs.{needs}
-use Rattle.showing.specs.Each.{oneNumber, ofAnswer}
+use Rattle.showing.specs.Each.{ofAnswer}
 use Rattle.showing.proofs.each.of_answer.Statement.{statement}
 use Rattle.showing.proofs.each.of_answer.Tie as tie
 
-back : (c : tie.After-struct-told) → toZ w64 (ofZ w64 (c .before .before .a .given .0 .0 .count)) ≡ c .before .before .a .given .0 .0 .count
-back c = search needs
-
 returns : tie.Need-returns
-returns c = c .one-number .ensures ∙ ap (oneNumber 0) (back (c .before)) ∙ sym (ap ofAnswer (c .before .before .before .a .given .1))
+returns c = c .one-count .ensures ∙ sym (ap ofAnswer (c .before .before .a .given .1))
 
 returns-2 : tie.Need-returns-2
 returns-2 c = c .of-refusal .ensures ∙ sym (ap ofAnswer (c .before .before .a2 .given .1))
