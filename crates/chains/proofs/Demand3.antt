@@ -2,7 +2,7 @@
 -- Assumes nothing.
 use mathlib.Core.Path.{_≡_, refl, sym, _∙_, ap, subst}
 use mathlib.Core.Bool.{true, false, not, _||_}
-use mathlib.Core.List.{[], _∷_}
+use mathlib.Core.List.{[], _∷_, _++_}
 use Prim.Native.Nat.{ℕ, _≤_}
 use native.Mathlib.Decide.{decLe}
 use native.Mathlib.Omega.{arith}
@@ -12,23 +12,28 @@ use Rattle.laws.specs.Every.{every-append}
 use Rattle.numbers.specs.OrderLaws.{mul-le}
 use Rattle.numbers.specs.Nearest.{Nearest, nearestN}
 use Rattle.numbers.proofs.Statements.{nearest-is}
+use Rattle.answers.specs.OrderLaws.{in-not}
 use Rattle.answers.specs.Refusals.{isCount}
-use Rattle.rates.specs.Rates.{rates, isRate, rateRow, frameTicks}
+use Rattle.rates.specs.Rates.{rates, isRate, rateRow, frameTicks, badRate}
 use Rattle.rates.specs.Rule.{frameTicks-pos}
 use Rattle.timecodes.specs.declared.Timecode.{Timecode}
-use Rattle.timecodes.specs.Timecode.{moved}
-use Rattle.timecodes.specs.Admitted.{Valid}
+use Rattle.timecodes.specs.declared.Answer.the-variants.{At, Refused}
+use Rattle.timecodes.specs.declared.kinds.Kind.the-variants.{Length}
+use Rattle.timecodes.specs.Timecode.{moved, numberOf}
+use Rattle.timecodes.specs.Admitted.{badInput, Valid}
+use Rattle.timecodes.specs.KindLaws.{valid-counted, position-exactly}
 use Rattle.timecodes.specs.Instant.{instant}
-use Rattle.chains.specs.Chain.{after, endOf, leaves, convertOf, lastRate}
-use Rattle.chains.specs.ChainLaws.{Taken, convertOf-told, taken-is}
-use Rattle.chains.specs.Demand3.{EmptyList, StepIsNearest, InTurn, ConvertedAt, EachTime, ChainWithin, ChainOrdered, CountsOrdered, OutAndBack, SecondTrip}
+use Rattle.chains.specs.Chain.{after, endOf, leaves, badRates, badSteps, convertOf, carried, lastRate}
+use Rattle.chains.specs.ChainLaws.{convertOf-own, Taken, convertOf-told, taken-is}
+use Rattle.chains.specs.Demand3.{EmptyList, StepIsNearest, InTurn, ConvertedAt, EachTime, ChainWithin, ChainOrdered, CountsOrdered}
+use Rattle.chains.specs.Demand3.{OutAndBack, SecondTrip, PositionRefused, LengthStays}
 use Rattle.chains.proofs.Multiples.{there-back, le-multiple}
-use Rattle.chains.proofs.Steps.{rates-split, endOf-valid, endOf-append, leaves-append, endOf-rate, endOf-within, endOf-ordered}
+use Rattle.chains.proofs.Steps.{rates-split, endOf-valid, endOf-kind, endOf-append, leaves-append, endOf-rate, endOf-within, endOf-ordered}
 
 -- ---- what a conversion is
 
 pub empty-list : EmptyList
-empty-list tc v = taken-is tc tc [] (record { start = v; listed = refl; stays = refl; ends = refl })
+empty-list tc v l = taken-is tc tc [] (record { start = v; length = l; listed = refl; stays = refl; ends = refl })
 
 pub step-is-nearest : StepIsNearest
 step-is-nearest tc end next p =
@@ -36,17 +41,20 @@ step-is-nearest tc end next p =
     subst (λ (k : Timecode). Nearest (instant tc) (frameTicks next) (k .count)) (t .ends)
     (nearest-is (instant tc) (frameTicks next) (frameTicks-pos next (rates-split next [] (t .listed) .0)))
 
--- where a chain ends, the timecode is valid
+-- where a chain ends, the timecode is valid, and a length
 arrived : (tc end : Timecode) (list : _) → Taken tc list end → Valid end
-arrived tc end list t = subst Valid (t .ends) (endOf-valid tc list (t .start) (t .listed) (t .stays))
+arrived tc end list t = subst Valid (t .ends) (endOf-valid tc list (t .start) (t .length) (t .listed) (t .stays))
+
+arrived-length : (tc end : Timecode) (list : _) → Taken tc list end → end .kind ≡ Length
+arrived-length tc end list t = ap (λ (k : Timecode). k .kind) (sym (t .ends)) ∙ endOf-kind tc list ∙ t .length
 
 pub in-turn : InTurn
-unfolding convertOf
+unfolding carried
 in-turn tc middle list more p =
     let t = convertOf-told tc middle list p in
-    let m = arrived tc middle list t in
-    rw (every-append isRate list more (t .listed), leaves-append tc list more (t .stays), endOf-append tc list more, t .ends)
-    (rw (t .start .rate, t .start .count, m .rate, m .count))
+    convertOf-own tc (list ++ more) (t .start) (t .length)
+    ∙ (rw (every-append isRate list more (t .listed), leaves-append tc list more (t .stays), endOf-append tc list more, t .ends)
+    (sym (convertOf-own middle more (arrived tc middle list t) (arrived-length tc middle list t))))
 
 pub converted-at : ConvertedAt
 converted-at tc end list p = ap (λ (k : Timecode). k .rate) (sym (convertOf-told tc end list p .ends)) ∙ endOf-rate tc list
@@ -92,8 +100,10 @@ out-and-back tc out next l p =
     taken-is tc tc (next ∷ tc .rate ∷ [])
     (record {
       start = t .start;
+      length = t .length;
       listed = every-append isRate (next ∷ []) (tc .rate ∷ []) (t .listed) ∙ rw (t .start .rate);
-      stays = leaves-append tc (next ∷ []) (tc .rate ∷ []) (t .stays) ∙ ap (λ (k : Timecode). not (isCount (k .count)) || false) home ∙ rw (t .start .count);
+      stays = leaves-append tc (next ∷ []) (tc .rate ∷ []) (t .stays) ∙ ap (λ (k : Timecode). not (isCount (k .count)) || false) home
+          ∙ rw (valid-counted tc (t .start));
       ends = home;
     })
 
@@ -114,7 +124,19 @@ second-trip tc back next p =
     taken-is back back trip
     (record {
       start = arrived tc back trip t;
+      length = arrived-length tc back trip t;
       listed = t .listed;
       stays = ap (λ (k : Timecode). not (isCount (k .count)) || leaves k (tc .rate ∷ [])) same ∙ t .stays;
       ends = ap (λ (k : Timecode). endOf k (tc .rate ∷ [])) same ∙ t .ends;
     })
+
+-- ---- lengths only
+
+pub position-refused : PositionRefused
+unfolding convertOf
+position-refused tc list l r =
+    position-exactly numberOf Refused (λ e. refl) (badRates list ∷ badRate (tc .rate) ∷ []) (badInput tc ∷ badSteps tc list ∷ [])
+    (in-not l, (in-not r, tt)) refl (At (endOf tc list)) refl (tc .kind)
+
+pub length-stays : LengthStays
+length-stays tc end list p = arrived-length tc end list (convertOf-told tc end list p)

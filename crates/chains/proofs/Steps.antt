@@ -16,9 +16,11 @@ use Rattle.answers.specs.Refusals.{isCount}
 use Rattle.rates.specs.Rates.{isRate, frameTicks}
 use Rattle.rates.specs.Rule.{frameTicks-pos}
 use Rattle.timecodes.specs.declared.Timecode.{Timecode}
+use Rattle.timecodes.specs.declared.kinds.Kind.the-variants.{Length}
 use Rattle.timecodes.specs.Admitted.{Valid}
 use Rattle.timecodes.specs.Instant.{instant}
 use Rattle.chains.specs.Chain.{nearestFrame, after, endOf, leaves, lastRate, ticksTogether}
+use Rattle.chains.specs.ChainLaws.{after-valid}
 
 -- of a list of rates, the first and the others
 pub rates-split : (next : ℕ) (list : List ℕ) → every isRate (next ∷ list) ≡ true → (isRate next ≡ true) × (every isRate list ≡ true)
@@ -35,12 +37,18 @@ leaves-split tc next list h = by (isCount (nearestFrame tc next)) refl h
     by false e h = let z : true ≡ false = h in absurd (subst T z tt)
 
 -- where the steps end, there is a rate and a count within its bounds
-pub endOf-valid : (tc : Timecode) (list : List ℕ) → Valid tc → every isRate list ≡ true → leaves tc list ≡ false → Valid (endOf tc list)
-endOf-valid tc [] v l s = v
-endOf-valid tc (next ∷ list) v l s =
+pub endOf-valid : (tc : Timecode) (list : List ℕ) → Valid tc → tc .kind ≡ Length → every isRate list ≡ true → leaves tc list ≡ false
+    → Valid (endOf tc list)
+endOf-valid tc [] v e l s = v
+endOf-valid tc (next ∷ list) v e l s =
     let r = rates-split next list l in
     let k = leaves-split tc next list s in
-    endOf-valid (after tc next) list (record { rate = r .0; count = k .0 }) (r .1) (k .1)
+    endOf-valid (after tc next) list (after-valid tc next e (r .0) (k .0)) e (r .1) (k .1)
+
+-- of the start's kind
+pub endOf-kind : (tc : Timecode) (list : List ℕ) → endOf tc list .kind ≡ tc .kind
+endOf-kind tc [] = refl
+endOf-kind tc (next ∷ list) = endOf-kind (after tc next) list
 
 -- through two lists, one after the other
 pub endOf-append : (tc : Timecode) (list more : List ℕ) → endOf tc (list ++ more) ≡ endOf (endOf tc list) more

@@ -1,4 +1,4 @@
--- A frame carried through a list of rates (BEHAVIOUR: Chains): where it ends, when it is refused, and the answer.
+-- A length carried through a list of rates (BEHAVIOUR: Chains): where it ends, when it is refused, and the answer.
 -- Assumes nothing.
 use Prim.Native.Nat.{ℕ, _+_}
 use mathlib.Core.Bool.{Bool, false, not, _||_}
@@ -13,7 +13,7 @@ use Rattle.timecodes.specs.declared.Timecode.{Timecode}
 use Rattle.timecodes.specs.declared.Answer.{Answer}
 use Rattle.timecodes.specs.declared.Answer.the-variants.{At, Refused}
 use Rattle.timecodes.specs.Timecode.{moved}
-use Rattle.timecodes.specs.Admitted.{admits}
+use Rattle.timecodes.specs.Admitted.{admitsLength}
 use Rattle.timecodes.specs.Instant.{instant}
 
 -- ---- where it ends
@@ -51,9 +51,9 @@ badRates list = when noSuch (not (every isRate list))
 abbrev pub badSteps : Timecode → (list : List ℕ) → Condition
 badSteps tc list = when outOfBounds (leaves tc list)
 
--- 6: of a listed rate or the timecode's own; 5 of its count; then 5 after any step
+-- 6: of a listed rate or the timecode's own; 15, it is a position; 5 of its count; then 5 after any step
 abbrev pub convertWhen : Timecode → (list : List ℕ) → List Condition
-convertWhen tc list = badRates list ∷ admits tc ++ (badSteps tc list ∷ [])
+convertWhen tc list = badRates list ∷ admitsLength tc ++ (badSteps tc list ∷ [])
 
 -- ---- the answer
 

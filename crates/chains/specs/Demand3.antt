@@ -1,24 +1,28 @@
 -- Demand 3, a frame's instant carried through any list of rates (BEHAVIOUR: Chains): the statements, in order. Proofs: proofs/Demand3.antt.
 -- Assumes nothing.
 use mathlib.Core.Path.{_≡_}
+use mathlib.Core.Logic.{_↔_}
+use mathlib.Core.Bool.{true}
 use mathlib.Core.List.{List, [], _∷_, _++_}
 use Prim.Native.Nat.{ℕ, _*_, _≤_}
 use lib.IntN.{pos, natAbs, _-ℤ_}
 use lib.Signed.{_≤ℤ_}
 use Rattle.numbers.specs.Nearest.{Nearest}
-use Rattle.rates.specs.Rates.{frameTicks}
+use Rattle.laws.specs.Every.{every}
+use Rattle.rates.specs.Rates.{isRate, frameTicks}
 use Rattle.timecodes.specs.declared.Timecode.{Timecode}
 use Rattle.timecodes.specs.declared.Answer.the-variants.{At}
-use Rattle.timecodes.specs.Timecode.{timecode}
+use Rattle.timecodes.specs.declared.kinds.Kind.the-variants.{Length, Position}
+use Rattle.timecodes.specs.Timecode.{timecode, numberOf}
 use Rattle.timecodes.specs.Admitted.{Valid}
 use Rattle.timecodes.specs.Instant.{instant}
 use Rattle.chains.specs.Chain.{convertOf, lastRate, ticksTogether}
 
 -- ---- what a conversion is
 
--- an empty list of rates gives back the start
+-- an empty list of rates gives back the start, which is a length
 abbrev pub EmptyList : Type 0
-EmptyList = (tc : Timecode) → Valid tc → convertOf tc [] ≡ At tc
+EmptyList = (tc : Timecode) → Valid tc → tc .kind ≡ Length → convertOf tc [] ≡ At tc
 
 -- through one rate, the end is the nearest frame of that rate, halves away from zero
 abbrev pub StepIsNearest : Type 0
@@ -69,3 +73,15 @@ abbrev pub SecondTrip : Type 0
 SecondTrip =
     (tc back : Timecode) (next : ℕ) → convertOf tc (next ∷ tc .rate ∷ []) ≡ At back
     → convertOf back (next ∷ tc .rate ∷ []) ≡ At back
+
+-- ---- lengths only
+
+-- a timecode at a rate, through rates, is refused 15 exactly when it is a position, through no rate too
+abbrev pub PositionRefused : Type 0
+PositionRefused =
+    (tc : Timecode) (list : List ℕ) → every isRate list ≡ true → isRate (tc .rate) ≡ true
+    → (numberOf (convertOf tc list) ≡ 15) ↔ (tc .kind ≡ Position)
+
+-- what a conversion ends at is a length
+abbrev pub LengthStays : Type 0
+LengthStays = (tc end : Timecode) (list : List ℕ) → convertOf tc list ≡ At end → end .kind ≡ Length

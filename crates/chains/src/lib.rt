@@ -1,5 +1,5 @@
-// A frame carried through any list of rates, the nearest frame taken at each in turn. Refuses 6: a number that is no rate; then 5: a
-// count outside its bounds, at the start or after any step.
+// A length carried through any list of rates, the nearest frame taken at each in turn. Refuses 6: a number that is no rate; then 15: a
+// position; then 5: a count outside its bounds, at the start or after any step.
 use answers::Verdict;
 use timecodes::Answer;
 use timecodes::Timecode;
@@ -7,6 +7,7 @@ ghost use mathlib.Core.Path.{_≡_};
 ghost use mathlib.Core.Bool.{true};
 ghost use Rattle.laws.specs.Every.{every};
 ghost use Rattle.rates.specs.Rates.{isRate};
+ghost use Rattle.timecodes.specs.declared.kinds.Kind.the-variants.{Length};
 ghost use Rattle.timecodes.specs.Admitted.{Valid};
 ghost use Rattle.chains.specs.Chain.{stepOf, carried, convertOf};
 
@@ -34,9 +35,10 @@ fn step(tc: Timecode, next: u64) -> Answer
     timecodes::moved(tc, answers::nearest_count(ticks, row.ticks), next)
 }
 
-// The steps in turn. Asks that the start is valid, and that all listed numbers are rates.
+// The steps in turn. Asks that the start is valid and a length, and that all listed numbers are rates.
 fn carry(tc: Timecode, list: &[u64]) -> Answer
     requires valid { ⌜ Valid tc ⌝ }
+    requires length { ⌜ tc .kind ≡ Length ⌝ }
     requires rates { ⌜ every isRate (now list) ≡ true ⌝ }
     ensures answer { λ r. ⌜ r ≡ carried tc (now (list .entry)) ⌝ }
 {
@@ -54,14 +56,14 @@ fn carry(tc: Timecode, list: &[u64]) -> Answer
 }
 
 // The timecode through a list of rates, the nearest frame at each in turn; an empty list gives it back. Refuses 6: its own rate or
-// any listed number is no rate; then 5: its own count, or that after any step, is outside its bounds.
+// any listed number is no rate; 15: it is a position; then 5: its own count, or that after any step, is outside its bounds.
 pub fn convert(tc: Timecode, list: &[u64]) -> Answer
     ensures answer { λ r. ⌜ r ≡ convertOf tc (now (list .entry)) ⌝ }
 {
     if !all_rates(list) {
         return Answer::Refused(answers::NO_SUCH);
     }
-    match timecodes::admit(tc) {
+    match timecodes::admit_length(tc) {
         Verdict::Passed => carry(tc, list),
         Verdict::Refused(e) => Answer::Refused(e),
     }
