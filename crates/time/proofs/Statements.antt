@@ -2,30 +2,25 @@
 -- Assumes nothing.
 use Prim.Native.Nat.{ℕ, _*_}
 use mathlib.Core.Path.{_≡_, refl, sym, _∙_, ap, subst}
-use mathlib.Core.Bool.{true}
 use native.Mathlib.Nat.{mul-pos}
 use native.Mathlib.Omega.{arith}
-use borrow.Author.Tests.{le-leb}
-use lib.Dec.{T}
-use lib.IntN.{ℤ, pos, negsuc, natAbs, _*ℤ_}
+use lib.IntN.{ℤ, pos, _*ℤ_}
 use Rattle.numbers.specs.Nearest.{Nearest, nearestZ}
 use Rattle.numbers.specs.NearestSignedLaws.{exact}
 use Rattle.numbers.proofs.Statements.{nearest-is}
 use Rattle.answers.specs.declared.Refusal.{Refusal}
 use Rattle.answers.specs.Order.{Clear}
 use Rattle.answers.specs.OrderLaws.{unless-told, unless-clear, not-in, in-not}
-use Rattle.answers.specs.Refusals.{mostCount, isCount}
-use Rattle.rates.specs.Rates.{isRate, rateRow, frameTicks}
+use Rattle.answers.specs.Refusals.{isCount}
+use Rattle.rates.specs.Rates.{rateRow, frameTicks}
 use Rattle.rates.specs.Rule.{sound, frameTicks-pos}
 use Rattle.timecodes.specs.declared.Timecode.{Timecode}
 use Rattle.timecodes.specs.declared.Answer.the-variants.{At, Refused}
-use Rattle.timecodes.specs.declared.kinds.Kind.{Kind}
-use Rattle.timecodes.specs.declared.kinds.Kind.the-variants.{Length, Position}
-use Rattle.timecodes.specs.Timecode.{timecodeAs, timecode, position}
-use Rattle.timecodes.specs.Made.{made, settled}
-use Rattle.timecodes.specs.Admitted.{isWithin, admits, Valid}
-use Rattle.timecodes.specs.AdmittedLaws.{admits-valid, ofDay-told, valid-count-le, at-told}
-use Rattle.timecodes.specs.MadeLaws.{inDay-own}
+use Rattle.timecodes.specs.Timecode.{timecode}
+use Rattle.timecodes.specs.Made.{settled}
+use Rattle.timecodes.specs.Admitted.{admits, Valid}
+use Rattle.timecodes.specs.AdmittedLaws.{admits-valid, valid-count, at-told}
+use Rattle.timecodes.specs.KindLaws.{made-own}
 use Rattle.timecodes.specs.Instant.{instant}
 use Rattle.time.specs.declared.Ticked.the-variants as ticked
 use Rattle.time.specs.Bounds.{mostSeconds}
@@ -72,17 +67,6 @@ module _ (tc : Timecode) (t : ℤ) (h : ticksOf tc ≡ ticked.Ticks t) where
   ticks-are : t ≡ instant tc
   ticks-are = let e = ticks-told .1 in cc
 
--- the count of a valid timecode of either kind is one that a length may have
-valid-counted : (tc : Timecode) → Valid tc → isCount (tc .count) ≡ true
-valid-counted tc v = le-leb (natAbs (tc .count)) mostCount (valid-count-le tc v)
-
--- and made of its own kind it is the timecode: a position's count is of the day
-own-made : (kind : Kind) (count : ℤ) (rate : ℕ) → isRate rate ≡ true → isWithin kind rate count ≡ true
-    → made kind count rate ≡ timecodeAs kind count rate
-own-made Length count rate h w = refl
-own-made Position (pos n) rate h w = ap (λ (z : ℤ). position z rate) (inDay-own rate h n (ofDay-told rate (pos n) w .1))
-own-made Position (negsuc n) rate h w = absurd (subst T (ofDay-told rate (negsuc n) w .0) tt)
-
 -- an exact frame is its count
 module _ (z count : ℤ) (rate : ℕ) (same : z ≡ count) where
   same-timecode : At (timecode z rate) ≡ At (timecode count rate)
@@ -96,7 +80,7 @@ ticks-back tc t h =
     let same : ticksFrame t (tc .rate) ≡ tc .count =
     ap (λ (z : ℤ). nearestZ z n) (ticks-are tc t h) ∙ exact (tc .count) n (frameTicks-pos (tc .rate) (v .rate)) in
     unless-clear Refused (ticksWhen t (tc .rate)) (At (timecode (ticksFrame t (tc .rate)) (tc .rate)))
-    (in-not (v .rate), (in-not (ap isCount same ∙ valid-counted tc v), tt))
+    (in-not (v .rate), (in-not (ap isCount same ∙ valid-count tc v), tt))
     ∙ same-timecode (ticksFrame t (tc .rate)) (tc .count) (tc .rate) same
 
 pub seconds-back : SecondsBack
@@ -109,18 +93,18 @@ seconds-back tc p q h =
     let same : secondsFrame p q (tc .rate) ≡ tc .count =
     ap (λ (z : ℤ). nearestZ z d) (seconds-whole tc p q v x) ∙ exact (tc .count) d above in
     unless-clear Refused (secondsWhen p q (tc .rate)) (At (timecode (secondsFrame p q (tc .rate)) (tc .rate)))
-    (in-not (v .rate), (in-not (seconds-within tc p q v x), (in-not (ap isCount same ∙ valid-counted tc v), tt)))
+    (in-not (v .rate), (in-not (seconds-within tc p q v x), (in-not (ap isCount same ∙ valid-count tc v), tt)))
     ∙ same-timecode (secondsFrame p q (tc .rate)) (tc .count) (tc .rate) same
 
 pub ticks-back-as : TicksBackAs
 ticks-back-as tc t h =
     let v = ticks-valid tc t h in
-    ap (settled (tc .kind)) (ticks-back tc t h) ∙ ap At (own-made (tc .kind) (tc .count) (tc .rate) (v .rate) (v .within))
+    ap (settled (tc .kind)) (ticks-back tc t h) ∙ ap At (made-own (tc .kind) (tc .count) (tc .rate) (v .rate) (v .within))
 
 pub seconds-back-as : SecondsBackAs
 seconds-back-as tc p q h =
     let v = seconds-valid tc p q h in
-    ap (settled (tc .kind)) (seconds-back tc p q h) ∙ ap At (own-made (tc .kind) (tc .count) (tc .rate) (v .rate) (v .within))
+    ap (settled (tc .kind)) (seconds-back tc p q h) ∙ ap At (made-own (tc .kind) (tc .count) (tc .rate) (v .rate) (v .within))
 
 pub seconds-instant : SecondsInstant
 seconds-instant tc t p q h k =

@@ -1,4 +1,4 @@
--- Laws of the two kinds (BEHAVIOUR: Positions, Refusals): what admitting two timecodes tells, and when exactly 15 is given.
+-- Laws of the two kinds (BEHAVIOUR: Positions, Refusals): a timecode as its own kind, what admitting two tells, and when exactly 15 is given.
 -- Assumes nothing.
 use Prim.Native.Nat.{ℕ, _<_}
 use native.Mathlib.Omega.{arith}
@@ -8,12 +8,14 @@ use mathlib.Core.Bool.{Bool, true, false, cond, _&&_, and-eq-true-iff}
 use mathlib.Core.List.{List, [], _∷_, _++_}
 use borrow.Author.Tests.{ltb-true}
 use lib.Dec.{T, ltb}
+use lib.IntN.{ℤ, pos, negsuc}
 use Rattle.answers.specs.declared.Refusal.{Refusal}
 use Rattle.answers.specs.declared.Verdict.{Verdict}
 use Rattle.answers.specs.declared.Verdict.the-variants as verdict
 use Rattle.answers.specs.Order.{Condition, when, unless, first, judged, Clear}
 use Rattle.answers.specs.OrderLaws.{unless-map, unless-told, unless-number}
 use Rattle.answers.specs.Refusals.{wrongKind}
+use Rattle.rates.specs.Rates.{isRate}
 use Rattle.timecodes.specs.declared.Timecode.{Timecode}
 use Rattle.timecodes.specs.declared.Admitted.{Admitted}
 use Rattle.timecodes.specs.declared.Admitted.the-variants.{As, Refused}
@@ -23,7 +25,11 @@ use Rattle.timecodes.specs.declared.kinds.Joining.{Joining}
 use Rattle.timecodes.specs.declared.kinds.Mixed.{Mixed}
 use Rattle.timecodes.specs.declared.kinds.Mixed.the-variants.{Of, Never}
 use Rattle.timecodes.specs.Kinds.{isPosition, isNever, kindIn}
-use Rattle.timecodes.specs.Admitted.{admitsBoth, joinedKind}
+use Rattle.timecodes.specs.Timecode.{timecodeAs, position}
+use Rattle.timecodes.specs.Made.{made}
+use Rattle.timecodes.specs.Admitted.{isWithin, admitsBoth, joinedKind}
+use Rattle.timecodes.specs.AdmittedLaws.{ofDay-told}
+use Rattle.timecodes.specs.MadeLaws.{inDay-own}
 
 -- ---- the kinds
 
@@ -35,6 +41,15 @@ position-told Position e = refl
 pub mixed-told : (m : Mixed) → isNever m ≡ false → m ≡ Of (kindIn m)
 mixed-told (Of kind) e = refl
 mixed-told Never e = absurd (subst T e tt)
+
+-- ---- a timecode as its own kind
+
+-- made of its own kind, a count within its bounds is its own: a position's is of the day
+pub made-own : (kind : Kind) (count : ℤ) (rate : ℕ) → isRate rate ≡ true → isWithin kind rate count ≡ true
+    → made kind count rate ≡ timecodeAs kind count rate
+made-own Length count rate h w = refl
+made-own Position (pos n) rate h w = ap (λ (z : ℤ). position z rate) (inDay-own rate h n (ofDay-told rate (pos n) w .1))
+made-own Position (negsuc n) rate h w = absurd (subst T (ofDay-told rate (negsuc n) w .0) tt)
 
 -- ---- what admitting two tells
 

@@ -4,7 +4,7 @@ pub mod Made
 pub mod Admitted
 pub mod Instant
 pub mod AdmittedLaws
-pub mod KindLaws
 pub mod MadeLaws
+pub mod KindLaws
 pub mod InstantLaws
 pub mod Statements
