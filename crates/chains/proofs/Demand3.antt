@@ -21,7 +21,8 @@ use Rattle.timecodes.specs.declared.Answer.the-variants.{At, Refused}
 use Rattle.timecodes.specs.declared.kinds.Kind.the-variants.{Length}
 use Rattle.timecodes.specs.Timecode.{moved, numberOf}
 use Rattle.timecodes.specs.Admitted.{badInput, Valid}
-use Rattle.timecodes.specs.KindLaws.{valid-counted, position-exactly}
+use Rattle.timecodes.specs.AdmittedLaws.{valid-count}
+use Rattle.timecodes.specs.KindLaws.{position-exactly}
 use Rattle.timecodes.specs.Instant.{instant}
 use Rattle.chains.specs.Chain.{after, endOf, leaves, badRates, badSteps, convertOf, carried, lastRate}
 use Rattle.chains.specs.ChainLaws.{convertOf-own, Taken, convertOf-told, taken-is}
@@ -103,7 +104,7 @@ out-and-back tc out next l p =
       length = t .length;
       listed = every-append isRate (next ∷ []) (tc .rate ∷ []) (t .listed) ∙ rw (t .start .rate);
       stays = leaves-append tc (next ∷ []) (tc .rate ∷ []) (t .stays) ∙ ap (λ (k : Timecode). not (isCount (k .count)) || false) home
-          ∙ rw (valid-counted tc (t .start));
+          ∙ rw (valid-count tc (t .start));
       ends = home;
     })
 
