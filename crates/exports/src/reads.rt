@@ -18,12 +18,7 @@ use timecodes::Kind;
 pub extern "C" fn tzq_read(text: &[u8], rate: u64, position: bool) -> TzqRead
     ensures answer { λ r. ⌜ r ≡ handedRead (readFor (kindFrom position) (now (text .entry)) Stated.Nothing rate) ⌝ }
 {
-    handed::handed_read(reading::read_text(
-        text,
-        Stated::Nothing,
-        rate,
-        Kind::from(position),
-    ))
+    handed::handed_read(reading::read_text(text, Stated::Nothing, rate, Kind::from(position)))
 }
 
 // What a text reads as at a rate, a length or a position, with a film format stated: a footage only. Refuses 6: no such rate or film format; 1: no shape; 2: a
@@ -47,9 +42,5 @@ pub extern "C" fn tzq_read_as(text: &[u8], format: u64, rate: u64, position: boo
 pub extern "C" fn tzq_read_runtime(text: &[u8], rate: u64, position: bool) -> TzqCount
     ensures answer { λ r. ⌜ r ≡ handedAnswer (settled (kindFrom position) (readRuntime (now (text .entry)) rate)) ⌝ }
 {
-    handed::handed_answer(runtime_reading::read_runtime(
-        text,
-        rate,
-        Kind::from(position),
-    ))
+    handed::handed_answer(runtime_reading::read_runtime(text, rate, Kind::from(position)))
 }

@@ -144,21 +144,21 @@ position-label l stated rate n a = (label-forth l stated rate a n, label-back l 
 pub position-footage : PositionFootage
 position-footage l stated rate format z a = (
   λ e.
-    let f = read-footage l stated rate (position z rate) format e in
-    record {
-      count = f .count;
-      footage = f .footage;
-      within = f .within;
-      of-day = subst (OfDay rate (f .count)) (ap (λ (t : Timecode). t .count) (f .is)) (inDay-is rate (a .rated) (f .count));
-    },
+      let f = read-footage l stated rate (position z rate) format e in
+      record {
+        count = f .count;
+        footage = f .footage;
+        within = f .within;
+        of-day = subst (OfDay rate (f .count)) (ap (λ (t : Timecode). t .count) (f .is)) (inDay-is rate (a .rated) (f .count));
+      },
   λ x.
-    let read = footage-counted l stated rate format (x .count) a .1 (x .footage, x .within) in
-    let none : ¬ (numberOf (readFor Position l stated rate) ≡ 14) = λ n.
+      let read = footage-counted l stated rate format (x .count) a .1 (x .footage, x .within) in
+      let none : ¬ (numberOf (readFor Position l stated rate) ≡ 14) = λ n.
       let f = fourteen l stated rate n in
       shapes-apart l (f .text .minus) (f .text .text .digits) (x .footage .parts) (f .text .text .shape) (x .footage .text .shape) in
-    not-fourteen l stated rate none
-    ∙ ap (settledRead Position) read
-    ∙ ap (λ (y : ℤ). Footage (position y rate) format) (sym (inDay-one rate (a .rated) (x .count) z (x .of-day))),
+      not-fourteen l stated rate none
+      ∙ ap (settledRead Position) read
+      ∙ ap (λ (y : ℤ). Footage (position y rate) format) (sym (inDay-one rate (a .rated) (x .count) z (x .of-day))),
 )
 
 -- ---- the kind
@@ -183,17 +183,17 @@ module _ (l : List ℕ) (stated : Stated) (rate : ℕ) where
 pub read-kind : ReadKind
 read-kind Length l stated rate tc = (
   λ e.
-    let r = sym (read-length l stated rate) ∙ e in
-    of-length l stated rate tc (subst (Told l stated rate) r (told l stated rate) .0) (read-valid l stated rate tc .0 r),
+      let r = sym (read-length l stated rate) ∙ e in
+      of-length l stated rate tc (subst (Told l stated rate) r (told l stated rate) .0) (read-valid l stated rate tc .0 r),
   λ format e.
-    let r = sym (read-length l stated rate) ∙ e in
-    of-length l stated rate tc (subst (Told l stated rate) r (told l stated rate) .0) (read-valid l stated rate tc .1 format r),
+      let r = sym (read-length l stated rate) ∙ e in
+      of-length l stated rate tc (subst (Told l stated rate) r (told l stated rate) .0) (read-valid l stated rate tc .1 format r),
 )
 read-kind Position l stated rate tc = (
   λ e.
-    let f = read-label l stated rate tc e in
-    of-position l stated rate tc (f .count) (rated l stated rate Position (isRate rate) refl (ap numberOf e)) (f .within) (f .is),
+      let f = read-label l stated rate tc e in
+      of-position l stated rate tc (f .count) (rated l stated rate Position (isRate rate) refl (ap numberOf e)) (f .within) (f .is),
   λ format e.
-    let f = read-footage l stated rate tc format e in
-    of-position l stated rate tc (f .count) (rated l stated rate Position (isRate rate) refl (ap numberOf e)) (f .within) (f .is),
+      let f = read-footage l stated rate tc format e in
+      of-position l stated rate tc (f .count) (rated l stated rate Position (isRate rate) refl (ap numberOf e)) (f .within) (f .is),
 )

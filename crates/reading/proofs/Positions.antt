@@ -132,12 +132,12 @@ pub refused-fourteen : RefusedFourteen
 refused-fourteen l stated rate a = (
   λ e. let f = fourteen l stated rate e in (f .unstated, f .text),
   λ x.
-    let t = x .1 in
-    ap numberOf
-    (for-shaped Position l stated rate (a .rated) (a .filmed)
-    ∙ ap (shapedFor Position rate stated) (label-shape l stated (t .minus) (t .fields) (x .0) (t .text))
-    ∙ label-not-of Position rate stated (t .minus) (t .fields)
-    (strict-out rate (t .minus) (t .fields) (t .not-strict) (four-fields l (t .minus) (t .fields) (t .text)))),
+      let t = x .1 in
+      ap numberOf
+      (for-shaped Position l stated rate (a .rated) (a .filmed)
+      ∙ ap (shapedFor Position rate stated) (label-shape l stated (t .minus) (t .fields) (x .0) (t .text))
+      ∙ label-not-of Position rate stated (t .minus) (t .fields)
+      (strict-out rate (t .minus) (t .fields) (t .not-strict) (four-fields l (t .minus) (t .fields) (t .text)))),
 )
 
 pub place-fourteen : PlaceFourteen

@@ -11,16 +11,19 @@ use Rattle.exports.proofs.handed.handed_read.Tie as tie
 returns : tie.Need-returns
 unfolding handedRead
 returns c =
-    let z = c .before .before .a .given .0 .0 .count in
+    let there = c .before .before .before in
+    let z = there .a .given .0 .0 .count in
     let back : toZ w64 (ofZ w64 z) ≡ z = search needs in
-    simp (back, c .before .before .a .given .1)
+    simp (back, c .before .is-position .ensures, there .a .given .1)
 
 returns-2 : tie.Need-returns-2
 unfolding handedRead
 returns-2 c =
-    let z = c .before .before .before .a2 .given .0 .0 .count in
+    let numbered = c .before .before in
+    let there = numbered .before .before in
+    let z = there .a2 .given .0 .0 .count in
     let back : toZ w64 (ofZ w64 z) ≡ z = search needs in
-    simp (back, c .before .number .ensures, c .before .before .before .a2 .given .1)
+    simp (back, numbered .number .ensures, c .before .is-position2 .ensures, there .a2 .given .1)
 
 returns-3 : tie.Need-returns-3
 unfolding handedRead
@@ -31,7 +34,9 @@ handed-read-spec =
     tie.close
     (tie.spec
     (λ c. search needs)
+    (λ c κs. search needs)
     (λ c. search needs)
+    (λ c κs. search needs)
     (λ c κs. search needs)
     (λ c. search needs)
     (λ c κs. search needs)
