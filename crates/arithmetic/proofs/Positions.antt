@@ -24,7 +24,8 @@ use Rattle.timecodes.specs.declared.Answer.the-variants.{At, Refused}
 use Rattle.timecodes.specs.declared.kinds.Kind.{Kind}
 use Rattle.timecodes.specs.declared.kinds.Kind.the-variants.{Length, Position}
 use Rattle.timecodes.specs.declared.kinds.Joining.the-variants.{Sum, Difference, Comparison}
-use Rattle.timecodes.specs.Kinds.{isPosition, mixedKinds, isNever}
+use Rattle.timecodes.specs.declared.kinds.Mixed.the-variants.{Of}
+use Rattle.timecodes.specs.Kinds.{isPosition, mixedKinds, isNever, kindIn}
 use Rattle.timecodes.specs.Timecode.{timecode, position, recounted, moved, placed, numberOf}
 use Rattle.timecodes.specs.Made.{made, inDay, settled}
 use Rattle.timecodes.specs.Admitted.{badInput, admitsLength, Valid}
@@ -47,11 +48,28 @@ use Rattle.arithmetic.proofs.Joining.{joined-kind, joined-in-day, joine
 
 -- ---- what two come to
 
+-- a length is no position
+position-apart : Position ≡ Length → ⊥
+position-apart e = let z : true ≡ false = ap isPosition e in subst T z tt
+
+-- each row of the table
+sum-by : (a b end : Kind) → mixedKinds Sum a b ≡ Of end → (end ≡ Length) ↔ ((a ≡ Length) × (b ≡ Length))
+sum-by Length Length end e = (λ k. (refl, refl), λ k. sym (ap kindIn e))
+sum-by Length Position end e = (λ k. absurd (position-apart (ap kindIn e ∙ k)), λ k. absurd (position-apart (k .1)))
+sum-by Position Length end e = (λ k. absurd (position-apart (ap kindIn e ∙ k)), λ k. absurd (position-apart (k .0)))
+sum-by Position Position end e = let z : true ≡ false = ap isNever e in absurd (subst T z tt)
+
+difference-by : (a b end : Kind) → mixedKinds Difference a b ≡ Of end → (end ≡ Length) ↔ (a ≡ b)
+difference-by Length Length end e = (λ k. refl, λ k. sym (ap kindIn e))
+difference-by Length Position end e = let z : true ≡ false = ap isNever e in absurd (subst T z tt)
+difference-by Position Length end e = (λ k. absurd (position-apart (ap kindIn e ∙ k)), λ k. absurd (position-apart k))
+difference-by Position Position end e = (λ k. refl, λ k. sym (ap kindIn e))
+
 pub sum-kind : SumKind
-sum-kind = joined-kind false
+sum-kind a b end h = sum-by (a .kind) (b .kind) (end .kind) (joined-kind false a b end h)
 
 pub difference-kind : DifferenceKind
-difference-kind = joined-kind true
+difference-kind a b end h = difference-by (a .kind) (b .kind) (end .kind) (joined-kind true a b end h)
 
 pub sum-in-day : SumInDay
 sum-in-day = joined-in-day false

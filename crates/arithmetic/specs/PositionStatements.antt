@@ -31,13 +31,13 @@ use Rattle.arithmetic.specs.Count.{negOf, absOf, rebaseOf}
 
 -- ---- what two come to
 
--- a sum is of the kind that its two timecodes come to
+-- a sum is a length exactly when both are lengths: a position with a length, either way round, is a position
 abbrev pub SumKind : Type 0
-SumKind = (a b end : Timecode) → addOf a b ≡ At end → mixedKinds Sum (a .kind) (b .kind) ≡ Of (end .kind)
+SumKind = (a b end : Timecode) → addOf a b ≡ At end → (end .kind ≡ Length) ↔ ((a .kind ≡ Length) × (b .kind ≡ Length))
 
--- and a difference likewise
+-- a difference is a length exactly when both are of one kind: position minus position is a length, position minus length a position
 abbrev pub DifferenceKind : Type 0
-DifferenceKind = (a b end : Timecode) → subOf a b ≡ At end → mixedKinds Difference (a .kind) (b .kind) ≡ Of (end .kind)
+DifferenceKind = (a b end : Timecode) → subOf a b ≡ At end → (end .kind ≡ Length) ↔ (a .kind ≡ b .kind)
 
 -- a sum that is a position is the frame nearest to the exact instant, reduced by whole days: rounded first, then reduced
 abbrev pub SumInDay : Type 0

@@ -14,10 +14,10 @@ use Rattle.rates.specs.Rates.{rateRow, dropFrames}
 use Rattle.rates.specs.Laws.{drop-small}
 use Rattle.rates.specs.Day.{dayCount, dayFrames}
 use Rattle.labels.specs.Label.{hoursIn, minutesIn, secondsIn, framesIn, LabelOf}
-use Rattle.labels.specs.LabelLaws.{kept-past, count-by-minutes}
+use Rattle.labels.specs.LabelLaws.{kept-tenth, kept-second, kept-past, count-by-minutes}
 use Rattle.labels.specs.BoundLaws.{hours-le}
 use Rattle.labels.specs.Sections.{labelNumber, fieldsAt, isAllowed, sectionsOf}
-use Rattle.labels.specs.Statements.{HasFields, OneNumber, CountsEarlier, HasLabel, OneLabel, SmallFields, FillDay, FillRate, FillInOrder, StrictExactly, FillDay30, FillDay60}
+use Rattle.labels.specs.Statements.{HasFields, OneNumber, CountsEarlier, HasLabel, OneLabel, SmallFields, FillDay, FillRate, DayEnds, FillInOrder, StrictExactly, FillDay30, FillDay60}
 use Rattle.labels.specs.StrictLaws.{isStrict-told, isStrict-in}
 use Rattle.labels.proofs.Fields.{fields-back}
 use Rattle.labels.proofs.Earlier.{before-place, before-minute}
@@ -125,6 +125,24 @@ fill-day timebase D d = record {
 pub fill-rate : FillRate
 unfolding dayFrames
 fill-rate rate h = fill-day (rateRow rate .timebase) (dropFrames rate) (drop-small rate h)
+
+pub day-ends : DayEnds
+unfolding dayFrames
+day-ends rate h =
+    let timebase = rateRow rate .timebase in
+    let D = dropFrames rate in
+    let small = drop-small rate h in (
+      record {
+        strict = record { four = refl; minutes = omega arith; seconds = omega arith; frames = omega (arith, small) };
+        allowed = kept-tenth D 0 0 0 refl;
+        count = count-by-minutes timebase D (omega (arith, small)) 0 0 0 0 ∙ omega arith;
+      },
+      record {
+        strict = record { four = refl; minutes = omega arith; seconds = omega arith; frames = omega (arith, small) };
+        allowed = kept-second D 59 59 (timebase - 1) (omega arith);
+        count = count-by-minutes timebase D (omega (arith, small)) 23 59 59 (timebase - 1) ∙ omega (arith, small);
+      },
+    )
 
 -- a label that comes first has fewer before it
 earlier-less : (timebase D m n : ℕ) (a b : List ℕ) → D < timebase → LabelOf timebase D m a → LabelOf timebase D n b

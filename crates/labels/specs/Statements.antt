@@ -3,8 +3,8 @@
 use mathlib.Core.Path.{_≡_}
 use mathlib.Core.Logic.{_↔_}
 use mathlib.Core.Bool.{true}
-use mathlib.Core.List.{List}
-use Prim.Native.Nat.{ℕ, _≤_, _<_}
+use mathlib.Core.List.{List, [], _∷_}
+use Prim.Native.Nat.{ℕ, _-_, _≤_, _<_}
 use lib.ListN.{length}
 use Rattle.tally.specs.Before.{before}
 use Rattle.rates.specs.Rates.{isRate, rateRow, dropFrames}
@@ -78,6 +78,13 @@ abbrev pub FillInOrder : Type 0
 FillInOrder =
     (timebase D m n : ℕ) (a b : List ℕ) → D < timebase → LabelOf timebase D m a → LabelOf timebase D n b
     → (m < n) ↔ (labelNumber timebase a < labelNumber timebase b)
+
+-- the day's first label is 00:00:00 and frame 0, and its last 23:59:59 and the timebase's last frame: behind this comes the first again
+abbrev pub DayEnds : Type 0
+DayEnds =
+    (rate : ℕ) → isRate rate ≡ true
+    → LabelOf (rateRow rate .timebase) (dropFrames rate) 0 (0 ∷ 0 ∷ 0 ∷ 0 ∷ [])
+    × LabelOf (rateRow rate .timebase) (dropFrames rate) (dayFrames rate - 1) (23 ∷ 59 ∷ 59 ∷ (rateRow rate .timebase - 1) ∷ [])
 
 -- exactly the strict labels with hours under 24 pass the test of a position's label
 abbrev pub StrictExactly : Type 0

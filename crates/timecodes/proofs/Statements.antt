@@ -12,7 +12,7 @@ use Rattle.timecodes.specs.Timecode.{position}
 use Rattle.timecodes.specs.Admitted.{isOfDay, Valid}
 use Rattle.timecodes.specs.AdmittedLaws.{ofDay-told}
 use Rattle.timecodes.specs.MadeLaws.{inDay-is, inDay-one, under-day}
-use Rattle.timecodes.specs.Statements.{DayIs, DayOne, UnderDay, PositionWithin, LengthWithin}
+use Rattle.timecodes.specs.Statements.{DayIs, DayOne, UnderDay, PositionWithin, LengthWithin, KindChosen}
 
 pub day-is : DayIs
 day-is rate count h = inDay-is rate h count
@@ -33,3 +33,6 @@ position-within rate count h = (
 
 pub length-within : LengthWithin
 length-within rate count h = (λ v. v .within, λ c. record { rate = h; within = c })
+
+pub kind-chosen : KindChosen
+kind-chosen = (refl, refl)

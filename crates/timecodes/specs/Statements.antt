@@ -3,11 +3,13 @@
 use Prim.Native.Nat.{ℕ, _<_}
 use mathlib.Core.Path.{_≡_}
 use mathlib.Core.Logic.{_↔_}
-use mathlib.Core.Bool.{true}
+use mathlib.Core.Bool.{true, false}
 use lib.IntN.{ℤ, pos}
 use Rattle.answers.specs.Refusals.{isCount}
 use Rattle.rates.specs.Rates.{isRate}
 use Rattle.rates.specs.Day.{dayFrames}
+use Rattle.timecodes.specs.declared.kinds.Kind.the-variants.{Length, Position}
+use Rattle.timecodes.specs.Kinds.{kindFrom}
 use Rattle.timecodes.specs.Timecode.{timecode, position}
 use Rattle.timecodes.specs.Made.{OfDay, inDay}
 use Rattle.timecodes.specs.Admitted.{Valid}
@@ -33,3 +35,7 @@ PositionWithin = (rate : ℕ) (count : ℤ) → isRate rate ≡ true → Valid (
 -- and a length exactly when its count is from -400,000,000 to 400,000,000
 abbrev pub LengthWithin : Type 0
 LengthWithin = (rate : ℕ) (count : ℤ) → isRate rate ≡ true → Valid (timecode count rate) ↔ (isCount count ≡ true)
+
+-- a timecode is a position where that is said, else a length
+abbrev pub KindChosen : Type 0
+KindChosen = (kindFrom true ≡ Position) × (kindFrom false ≡ Length)
