@@ -13,4 +13,5 @@ pub mod ReadBack
 pub mod StrictLabels
 pub mod Demand2
 pub mod Cases
+pub mod PositionCases
 pub mod Promises

@@ -14,6 +14,7 @@ use Rattle.numbers.proofs.Statements as numbers
 use Rattle.lent.proofs.Statements as lent
 use Rattle.digits.proofs.Statements as digits
 use Rattle.rates.proofs.Statements as rates
+use Rattle.timecodes.proofs.Statements as timecodes
 use Rattle.film.proofs.Statements as film
 use Rattle.labels.proofs.Statements as labels
 use Rattle.minutes.proofs.Statements as minutes
@@ -22,6 +23,8 @@ use Rattle.label_scan.proofs.Statements as label-scan
 use Rattle.footage_scan.proofs.Statements as footage-scan
 use Rattle.runtime_scan.proofs.Statements as runtime-scan
 use Rattle.reading.proofs.Statements as reading
+use Rattle.reading.proofs.Positions as reading-positions
+use Rattle.reading.proofs.PositionCounts as reading-counts
 use Rattle.runtime_reading.proofs.Statements as runtime-reading
 use Rattle.written.proofs.Statements as written
 use Rattle.label_writer.proofs.Statements as label-writer
@@ -29,6 +32,7 @@ use Rattle.footage_writer.proofs.Statements as footage-writer
 use Rattle.runtime_writer.proofs.Statements as runtime-writer
 use Rattle.time.proofs.Statements as time
 use Rattle.arithmetic.proofs.Statements as arithmetic
+use Rattle.arithmetic.proofs.Positions as arithmetic-positions
 use Rattle.chains.proofs.Demand3 as chains
 use Rattle.streams.proofs.Statements as streams
 use Rattle.lines.proofs.Statements as lines
@@ -43,10 +47,11 @@ use Rattle.promises.proofs.ReadC.{read-for-c}
 use Rattle.promises.proofs.ListsC.{lists-for-c}
 use Rattle.promises.proofs.When.{refused-when}
 use Rattle.promises.proofs.Demand1.{refused-zero, refused-keeps-line}
-use Rattle.promises.proofs.Demand2.{demand2-at5, demand2-at11}
+use Rattle.promises.proofs.Demand2.{fills-each-rate, demand2-at5, demand2-at11}
 use Rattle.promises.proofs.ReadBack.{labels-read-back, footage-read-back, unstated-read-back}
 use Rattle.promises.proofs.AsWritten.{read-as-written}
 use Rattle.promises.proofs.Cases.{starred-cases}
+use Rattle.promises.proofs.PositionCases.{position-cases}
 
 pub promises : Promises
 promises = record {
@@ -58,6 +63,7 @@ promises = record {
   refused-when = refused-when;
   refused-zero = refused-zero;
   refused-keeps-line = refused-keeps-line;
+  fills-each-rate = fills-each-rate;
   demand2-at5 = demand2-at5;
   demand2-at11 = demand2-at11;
   empty-list = chains.empty-list;
@@ -70,6 +76,36 @@ promises = record {
   counts-ordered = chains.counts-ordered;
   out-and-back = chains.out-and-back;
   second-trip = chains.second-trip;
+  position-refused = chains.position-refused;
+  length-stays = chains.length-stays;
+  day-at = rates.day-at;
+  kind-chosen = timecodes.kind-chosen;
+  day-is = timecodes.day-is;
+  day-one = timecodes.day-one;
+  position-within = timecodes.position-within;
+  length-within = timecodes.length-within;
+  length-read = reading-positions.length-read;
+  refused-fourteen = reading-positions.refused-fourteen;
+  place-fourteen = reading-positions.place-fourteen;
+  position-else = reading-positions.position-else;
+  position-label = reading-counts.position-label;
+  position-footage = reading-counts.position-footage;
+  read-kind = reading-counts.read-kind;
+  ticks-back-as = time.ticks-back-as;
+  seconds-back-as = time.seconds-back-as;
+  sum-kind = arithmetic-positions.sum-kind;
+  difference-kind = arithmetic-positions.difference-kind;
+  sum-in-day = arithmetic-positions.sum-in-day;
+  difference-in-day = arithmetic-positions.difference-in-day;
+  sum-exact-as = arithmetic-positions.sum-exact-as;
+  difference-exact-as = arithmetic-positions.difference-exact-as;
+  sum-refused = arithmetic-positions.sum-refused;
+  difference-refused = arithmetic-positions.difference-refused;
+  compare-refused = arithmetic-positions.compare-refused;
+  lengths-only = arithmetic-positions.lengths-only;
+  midnight = arithmetic-positions.midnight;
+  there-again = arithmetic-positions.there-again;
+  position-cases = position-cases;
   labels-read-back = labels-read-back;
   footage-read-back = footage-read-back;
   unstated-read-back = unstated-read-back;
@@ -84,6 +120,8 @@ promises = record {
   floor-one = numbers.floor-one;
   truncate-is = numbers.truncate-is;
   truncate-one = numbers.truncate-one;
+  reduced-is = numbers.reduced-is;
+  reduced-one = numbers.reduced-one;
   lowest-one = numbers.lowest-one;
   all-digits = digits.all-digits;
   decimal-back = digits.decimal-back;
@@ -114,6 +152,10 @@ promises = record {
   one-label = labels.one-label;
   small-fields = labels.small-fields;
   fill-day = labels.fill-day;
+  fill-rate = labels.fill-rate;
+  day-ends = labels.day-ends;
+  fill-in-order = labels.fill-in-order;
+  strict-exactly = labels.strict-exactly;
   fill-day30 = labels.fill-day30;
   fill-day60 = labels.fill-day60;
   first-of-minute = minutes.first-of-minute;
@@ -258,6 +300,7 @@ promises = record {
   shown-line = showing.shown-line;
   written-line = showing.written-line;
   text-refused-shown = showing.text-refused-shown;
+  position-shown = showing.position-shown;
   hex-written-line = showing.hex-written-line;
   list-line = showing.list-line;
   list-refused-line = showing.list-refused-line;

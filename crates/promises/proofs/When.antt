@@ -3,7 +3,8 @@
 use Prim.Native.Nat.{ℕ}
 use mathlib.Core.Path.{_≡_, refl, sym, ap, subst}
 use mathlib.Core.List.{List, [], _∷_}
-use lib.IntN.{_+ℤ_, _-ℤ_}
+use mathlib.Core.Bool.{true, false}
+use lib.IntN.{ℤ}
 use lib.ListN.{length}
 use Rattle.answers.specs.declared.Refusal.{Refusal}
 use Rattle.answers.specs.declared.Verdict.{Verdict}
@@ -14,16 +15,22 @@ use Rattle.answers.specs.OrderLaws.{unless-number, unless-place}
 use Rattle.rates.specs.declared.Rated.the-variants as rated
 use Rattle.rates.specs.Rates.{badRate, rateAt}
 use Rattle.timecodes.specs.declared.Timecode.{Timecode}
+use Rattle.timecodes.specs.declared.Answer.{Answer}
 use Rattle.timecodes.specs.declared.Answer.the-variants.{At, Refused}
+use Rattle.timecodes.specs.declared.kinds.Kind.{Kind}
+use Rattle.timecodes.specs.declared.kinds.Joining.the-variants.{Comparison}
+use Rattle.timecodes.specs.Timecode.{timecode}
+use Rattle.timecodes.specs.Made.{made, settled}
+use Rattle.timecodes.specs.MadeLaws.{settled-unless}
 use Rattle.timecodes.specs.Instant.{instant}
-use Rattle.timecodes.specs.Admitted.{admits, admitsBoth}
+use Rattle.timecodes.specs.Admitted.{admits, admitsLength, admitsBoth}
 use Rattle.film.specs.declared.Filmed.the-variants as filmed
 use Rattle.film.specs.Film.{badFormat, formatIn, formatAt}
 use Rattle.minutes.specs.Minutes.{badMinute, minuteAt}
 use Rattle.time.specs.declared.Ticked.the-variants as ticked
 use Rattle.time.specs.declared.Timed.{Timed}
 use Rattle.time.specs.declared.Timed.the-variants as timed
-use Rattle.time.specs.Frames.{framesWhen, framesAt, ticksWhen, ticksAt, secondsWhen, secondsAt}
+use Rattle.time.specs.Frames.{framesWhen, framesAt, ticksFrame, ticksWhen, ticksAt, secondsFrame, secondsWhen, secondsAt}
 use Rattle.time.specs.Ticks.{ticksOf}
 use Rattle.time.specs.Seconds.{IsSeconds, SecondsOf}
 use Rattle.arithmetic.specs.Sum.{joinedWhen, joined}
@@ -61,6 +68,12 @@ given inA refused told conditions none answer is = record {
 -- an answer that is a timecode
 at : (conditions : List Condition) → NoPlaces conditions → (tc : Timecode) → Given conditions (inAnswer (unless Refused conditions (At tc)))
 at conditions none tc = given inAnswer Refused (λ e. refl) conditions none (At tc) refl
+
+-- one that was made as a length, and then of a kind
+made-at : (kind : Kind) (conditions : List Condition) → NoPlaces conditions → (count : ℤ) (rate : ℕ)
+    → Given conditions (inAnswer (settled kind (unless Refused conditions (At (timecode count rate)))))
+made-at kind conditions none count rate =
+    subst (λ (a : Answer). Given conditions (inAnswer a)) (sym (settled-unless kind conditions count rate)) (at conditions none (made kind count rate))
 
 -- a text that is written
 laid : (conditions : List Condition) (line : List ℕ) (place : ℕ) (text : List ℕ) → NoPlaces (writtenWhen conditions line place text)
@@ -101,23 +114,23 @@ refused-when = record {
   write-runtime = λ tc precision line place.
       laid (runtimeWhen tc precision) line place (runtimeText (tc .rate) precision (tc .count)) (refl, (refl, (refl, (refl, tt))));
   sections = λ tc. given inSections sectioned-is.Refused (λ e. refl) (admits tc) (refl, (refl, tt)) _ refl;
-  with-frames = λ count rate. at (framesWhen count rate) (refl, (refl, tt)) _;
-  with-premiere-ticks = λ t rate. at (ticksWhen t rate) (refl, (refl, tt)) _;
-  with-seconds = λ p q rate. at (secondsWhen p q rate) (refl, (refl, (refl, tt))) _;
+  with-frames = λ kind count rate. made-at kind (framesWhen count rate) (refl, (refl, tt)) count rate;
+  with-premiere-ticks = λ kind t rate. made-at kind (ticksWhen t rate) (refl, (refl, tt)) (ticksFrame t rate) rate;
+  with-seconds = λ kind p q rate. made-at kind (secondsWhen p q rate) (refl, (refl, (refl, tt))) (secondsFrame p q rate) rate;
   premiere-ticks = λ tc. given inTicks ticked.Refused (λ e. refl) (admits tc) (refl, (refl, tt)) _ refl;
   seconds = second-given;
-  add = λ a b. at (joinedWhen _+ℤ_ a b) (refl, (refl, (refl, (refl, (refl, tt))))) _;
-  sub = λ a b. at (joinedWhen _-ℤ_ a b) (refl, (refl, (refl, (refl, (refl, tt))))) _;
-  cmp = λ a b. given inOrder compared.Refused (λ e. refl) (admitsBoth a b) (refl, (refl, (refl, (refl, tt)))) _ refl;
-  mul = λ tc p q. at (mulWhen tc p q) (refl, (refl, (refl, (refl, tt)))) _;
-  div = λ tc n. at (divWhen tc n) (refl, (refl, (refl, tt))) _;
-  rem = λ tc n. at (divWhen tc n) (refl, (refl, (refl, tt))) _;
-  divq = λ tc p q. at (divqWhen tc p q) (refl, (refl, (refl, (refl, (refl, tt))))) _;
-  remq = λ tc p q. at (remqWhen tc p q) (refl, (refl, (refl, (refl, (refl, tt))))) _;
-  neg = λ tc. at (admits tc) (refl, (refl, tt)) _;
-  abs = λ tc. at (admits tc) (refl, (refl, tt)) _;
-  rebase = λ tc rate. at (rebaseWhen tc rate) (refl, (refl, (refl, tt))) _;
-  convert = λ tc list. at (convertWhen tc list) (refl, (refl, (refl, (refl, tt)))) _;
+  add = λ a b. at (joinedWhen false a b) (refl, (refl, (refl, (refl, (refl, (refl, tt)))))) _;
+  sub = λ a b. at (joinedWhen true a b) (refl, (refl, (refl, (refl, (refl, (refl, tt)))))) _;
+  cmp = λ a b. given inOrder compared.Refused (λ e. refl) (admitsBoth Comparison a b) (refl, (refl, (refl, (refl, (refl, tt))))) _ refl;
+  mul = λ tc p q. at (mulWhen tc p q) (refl, (refl, (refl, (refl, (refl, tt))))) _;
+  div = λ tc n. at (divWhen tc n) (refl, (refl, (refl, (refl, tt)))) _;
+  rem = λ tc n. at (divWhen tc n) (refl, (refl, (refl, (refl, tt)))) _;
+  divq = λ tc p q. at (divqWhen tc p q) (refl, (refl, (refl, (refl, (refl, (refl, tt)))))) _;
+  remq = λ tc p q. at (remqWhen tc p q) (refl, (refl, (refl, (refl, (refl, (refl, tt)))))) _;
+  neg = λ tc. at (admitsLength tc) (refl, (refl, (refl, tt))) _;
+  abs = λ tc. at (admitsLength tc) (refl, (refl, (refl, tt))) _;
+  rebase = λ tc rate. at (rebaseWhen tc rate) (refl, (refl, (refl, (refl, tt)))) _;
+  convert = λ tc list. at (convertWhen tc list) (refl, (refl, (refl, (refl, (refl, tt))))) _;
   record-at = λ held b l. given inEntry entered.Refused (λ e. refl) (against onDisk held b l) (against-nowhere onDisk held b l) _ refl;
   given-at = λ held z l. given inEntry entered.Refused (λ e. refl) (against inNumbers held z l) (against-nowhere inNumbers held z l) _ refl;
   framerate-at = λ rate. given inRow rated.Refused (λ e. refl) (badRate rate ∷ []) (refl, tt) _ refl;

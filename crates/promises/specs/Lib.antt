@@ -12,4 +12,5 @@ pub mod Demand2
 pub mod ReadBack
 pub mod AsWritten
 pub mod Cases
+pub mod PositionCases
 pub mod Promises

@@ -5,6 +5,7 @@ use Rattle.numbers.specs.Statements as numbers
 use Rattle.lent.specs.Statements as lent
 use Rattle.digits.specs.Statements as digits
 use Rattle.rates.specs.Statements as rates
+use Rattle.timecodes.specs.Statements as timecodes
 use Rattle.film.specs.Statements as film
 use Rattle.labels.specs.Statements as labels
 use Rattle.minutes.specs.Statements as minutes
@@ -13,6 +14,7 @@ use Rattle.label_scan.specs.Statements as label-scan
 use Rattle.footage_scan.specs.Statements as footage-scan
 use Rattle.runtime_scan.specs.Statements as runtime-scan
 use Rattle.reading.specs.Statements as reading
+use Rattle.reading.specs.Positions as reading-positions
 use Rattle.runtime_reading.specs.Statements as runtime-reading
 use Rattle.written.specs.Statements as written
 use Rattle.label_writer.specs.Statements as label-writer
@@ -20,6 +22,7 @@ use Rattle.footage_writer.specs.Statements as footage-writer
 use Rattle.runtime_writer.specs.Statements as runtime-writer
 use Rattle.time.specs.Statements as time
 use Rattle.arithmetic.specs.Statements as arithmetic
+use Rattle.arithmetic.specs.PositionStatements as arithmetic-positions
 use Rattle.chains.specs.Demand3 as chains
 use Rattle.low_bytes.specs.Statements as low-bytes
 use Rattle.shot_lists.specs.Statements as shot-lists
@@ -40,10 +43,11 @@ use Rattle.promises.specs.ReadC.{ReadForC}
 use Rattle.promises.specs.ListsC.{ListsForC}
 use Rattle.promises.specs.When.{RefusedWhen}
 use Rattle.promises.specs.Demand1.{RefusedZero, RefusedKeepsLine}
-use Rattle.promises.specs.Demand2.{Demand2At5, Demand2At11}
+use Rattle.promises.specs.Demand2.{FillsEachRate, Demand2At5, Demand2At11}
 use Rattle.promises.specs.ReadBack.{LabelsReadBack, FootageReadBack, UnstatedReadBack}
 use Rattle.promises.specs.AsWritten.{ReadAsWritten}
 use Rattle.promises.specs.Cases.{StarredCases}
+use Rattle.promises.specs.PositionCases.{PositionCases}
 
 pub record Promises : Type 1 where
   -- demand 1
@@ -56,6 +60,7 @@ pub record Promises : Type 1 where
   pub refused-zero : RefusedZero
   pub refused-keeps-line : RefusedKeepsLine
   -- demand 2
+  pub fills-each-rate : FillsEachRate
   pub demand2-at5 : Demand2At5
   pub demand2-at11 : Demand2At11
   -- demand 3
@@ -69,6 +74,37 @@ pub record Promises : Type 1 where
   pub counts-ordered : chains.CountsOrdered
   pub out-and-back : chains.OutAndBack
   pub second-trip : chains.SecondTrip
+  pub position-refused : chains.PositionRefused
+  pub length-stays : chains.LengthStays
+  -- positions
+  pub day-at : rates.DayAt
+  pub kind-chosen : timecodes.KindChosen
+  pub day-is : timecodes.DayIs
+  pub day-one : timecodes.DayOne
+  pub position-within : timecodes.PositionWithin
+  pub length-within : timecodes.LengthWithin
+  pub length-read : reading-positions.LengthRead
+  pub refused-fourteen : reading-positions.RefusedFourteen
+  pub place-fourteen : reading-positions.PlaceFourteen
+  pub position-else : reading-positions.PositionElse
+  pub position-label : reading-positions.PositionLabel
+  pub position-footage : reading-positions.PositionFootage
+  pub read-kind : reading-positions.ReadKind
+  pub ticks-back-as : time.TicksBackAs
+  pub seconds-back-as : time.SecondsBackAs
+  pub sum-kind : arithmetic-positions.SumKind
+  pub difference-kind : arithmetic-positions.DifferenceKind
+  pub sum-in-day : arithmetic-positions.SumInDay
+  pub difference-in-day : arithmetic-positions.DifferenceInDay
+  pub sum-exact-as : arithmetic-positions.SumExactAs
+  pub difference-exact-as : arithmetic-positions.DifferenceExactAs
+  pub sum-refused : arithmetic-positions.SumRefused
+  pub difference-refused : arithmetic-positions.DifferenceRefused
+  pub compare-refused : arithmetic-positions.CompareRefused
+  pub lengths-only : arithmetic-positions.LengthsOnly
+  pub midnight : arithmetic-positions.Midnight
+  pub there-again : arithmetic-positions.ThereAgain
+  pub position-cases : PositionCases
   -- what is written is read back
   pub labels-read-back : LabelsReadBack
   pub footage-read-back : FootageReadBack
@@ -87,6 +123,8 @@ pub record Promises : Type 1 where
   pub floor-one : numbers.FloorOne
   pub truncate-is : numbers.TruncateIs
   pub truncate-one : numbers.TruncateOne
+  pub reduced-is : numbers.ReducedIs
+  pub reduced-one : numbers.ReducedOne
   pub lowest-one : numbers.LowestOne
   pub all-digits : digits.AllDigits
   pub decimal-back : digits.DecimalBack
@@ -118,6 +156,10 @@ pub record Promises : Type 1 where
   pub one-label : labels.OneLabel
   pub small-fields : labels.SmallFields
   pub fill-day : labels.FillDay
+  pub fill-rate : labels.FillRate
+  pub day-ends : labels.DayEnds
+  pub fill-in-order : labels.FillInOrder
+  pub strict-exactly : labels.StrictExactly
   pub fill-day30 : labels.FillDay30
   pub fill-day60 : labels.FillDay60
   pub first-of-minute : minutes.FirstOfMinute
@@ -267,6 +309,7 @@ pub record Promises : Type 1 where
   pub shown-line : showing.ShownLine
   pub written-line : showing.WrittenLine
   pub text-refused-shown : showing.TextRefusedShown
+  pub position-shown : showing.PositionShown
   pub hex-written-line : showing.HexWrittenLine
   pub list-line : showing.ListLine
   pub list-refused-line : showing.ListRefusedLine

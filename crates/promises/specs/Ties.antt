@@ -18,7 +18,8 @@ use Rattle.label_writer.specs.Sections.{sectioned}
 use Rattle.lent.specs.Line.{laid}
 use Rattle.minutes.specs.Minutes.{minuteAt}
 use Rattle.rates.specs.Rates.{rateAt}
-use Rattle.reading.specs.Reading.{readText}
+use Rattle.timecodes.specs.Made.{settled}
+use Rattle.reading.specs.For.{readFor}
 use Rattle.runtime_reading.specs.Reading.{readRuntime}
 use Rattle.runtime_writer.specs.RuntimeText.{runtimeDraft}
 use Rattle.time.specs.Bounds.{isFraction}
@@ -114,8 +115,8 @@ use Rattle.minutes.proofs.minute_start.Reads as minute-start-reads
 -- a is what the function is called with, x what comes of it: the answer, and the last value of each thing lent
 pub record Ties : Type 0 where
   -- reading
-  pub read-text : Gives read-text.ended read-text-reads.Learnt (λ κs a x. x .0 ≡ readText (a .0 .now) (a .1 .0) (a .1 .1 .0))
-  pub read-runtime : Gives read-runtime.ended read-runtime-reads.Learnt (λ κs a x. x .0 ≡ readRuntime (a .0 .now) (a .1 .0))
+  pub read-text : Gives read-text.ended read-text-reads.Learnt (λ κs a x. x .0 ≡ readFor (a .1 .1 .1 .0) (a .0 .now) (a .1 .0) (a .1 .1 .0))
+  pub read-runtime : Gives read-runtime.ended read-runtime-reads.Learnt (λ κs a x. x .0 ≡ settled (a .1 .1 .0) (readRuntime (a .0 .now) (a .1 .0)))
   -- writing
   pub sections : Gives sections.ended sections-reads.Learnt (λ κs a x. x .0 ≡ sectioned (a .0))
   pub sections-length : Gives sections-length.ended sections-length-reads.Learnt (λ κs a x. x .0 ≡ sectionsLength (a .0))
@@ -131,9 +132,9 @@ pub record Ties : Type 0 where
       × (x .1 .1 .1 .0 ≡ lineTo (a .1 .1 .0 .now) (a .1 .1 .1 .0) (runtimeDraft (a .0) (a .1 .0))))
   -- time
   pub is-fraction : Gives is-fraction.ended is-fraction-reads.Learnt (λ κs a x. x .0 ≡ isFraction (a .0) (a .1 .0) (a .1 .1 .0))
-  pub with-frames : Gives with-frames.ended with-frames-reads.Learnt (λ κs a x. x .0 ≡ framesAt (a .0) (a .1 .0))
-  pub with-premiere-ticks : Gives with-premiere-ticks.ended with-premiere-ticks-reads.Learnt (λ κs a x. x .0 ≡ ticksAt (a .0) (a .1 .0))
-  pub with-seconds : Gives with-seconds.ended with-seconds-reads.Learnt (λ κs a x. x .0 ≡ secondsAt (a .0) (a .1 .0) (a .1 .1 .0))
+  pub with-frames : Gives with-frames.ended with-frames-reads.Learnt (λ κs a x. x .0 ≡ settled (a .1 .1 .0) (framesAt (a .0) (a .1 .0)))
+  pub with-premiere-ticks : Gives with-premiere-ticks.ended with-premiere-ticks-reads.Learnt (λ κs a x. x .0 ≡ settled (a .1 .1 .0) (ticksAt (a .0) (a .1 .0)))
+  pub with-seconds : Gives with-seconds.ended with-seconds-reads.Learnt (λ κs a x. x .0 ≡ settled (a .1 .1 .1 .0) (secondsAt (a .0) (a .1 .0) (a .1 .1 .0)))
   pub premiere-ticks : Gives premiere-ticks.ended premiere-ticks-reads.Learnt (λ κs a x. x .0 ≡ ticksOf (a .0))
   pub seconds : Gives seconds.ended seconds-reads.Learnt (λ κs a x. SecondsOf (a .0) (x .0))
   -- arithmetic

@@ -22,7 +22,9 @@ use Rattle.label_writer.specs.LabelText.{labelDraft}
 use Rattle.label_writer.specs.Sections.{sectioned}
 use Rattle.minutes.specs.Minutes.{minuteAt}
 use Rattle.rates.specs.Rates.{dropFrames, rateAt}
-use Rattle.reading.specs.Reading.{readText}
+use Rattle.timecodes.specs.Kinds.{kindFrom}
+use Rattle.timecodes.specs.Made.{settled}
+use Rattle.reading.specs.For.{readFor}
 use Rattle.reading.specs.declared.Stated.the-variants.{Format, Nothing}
 use Rattle.runtime_reading.specs.Reading.{readRuntime}
 use Rattle.runtime_writer.specs.RuntimeText.{runtimeDraft}
@@ -95,9 +97,11 @@ use Rattle.exports.proofs.tables.tzq_minute_start.Reads as tzq-minute-start-rea
 -- a is what the function is called with, x what comes of it: the answer, and the last value of each thing lent
 pub record TiesC : Type 0 where
   -- texts read
-  pub tzq-read : Gives tzq-read.ended tzq-read-reads.Learnt (λ κs a x. x .0 ≡ handedRead (readText (a .0 .now) Nothing (a .1 .0)))
-  pub tzq-read-as : Gives tzq-read-as.ended tzq-read-as-reads.Learnt (λ κs a x. x .0 ≡ handedRead (readText (a .0 .now) (Format (a .1 .0)) (a .1 .1 .0)))
-  pub tzq-read-runtime : Gives tzq-read-runtime.ended tzq-read-runtime-reads.Learnt (λ κs a x. x .0 ≡ handedAnswer (readRuntime (a .0 .now) (a .1 .0)))
+  pub tzq-read : Gives tzq-read.ended tzq-read-reads.Learnt (λ κs a x. x .0 ≡ handedRead (readFor (kindFrom (a .1 .1 .0)) (a .0 .now) Nothing (a .1 .0)))
+  pub tzq-read-as : Gives tzq-read-as.ended tzq-read-as-reads.Learnt (λ κs a x.
+      x .0 ≡ handedRead (readFor (kindFrom (a .1 .1 .1 .0)) (a .0 .now) (Format (a .1 .0)) (a .1 .1 .0)))
+  pub tzq-read-runtime : Gives tzq-read-runtime.ended tzq-read-runtime-reads.Learnt (λ κs a x.
+      x .0 ≡ handedAnswer (settled (kindFrom (a .1 .1 .0)) (readRuntime (a .0 .now) (a .1 .0))))
   -- texts written
   pub tzq-sections : Gives tzq-sections.ended tzq-sections-reads.Learnt (λ κs a x. x .0 ≡ handedSections (sectioned (timecodeFrom (a .0))))
   pub tzq-write-label : Gives tzq-write-label.ended tzq-write-label-reads.Learnt (λ κs a x.
@@ -110,9 +114,12 @@ pub record TiesC : Type 0 where
       (x .0 ≡ handedLength (answerTo (a .1 .1 .0 .now) (a .1 .1 .1 .0) (runtimeDraft (timecodeFrom (a .0)) (a .1 .0))))
       × (x .1 .1 .1 .0 ≡ lineTo (a .1 .1 .0 .now) (a .1 .1 .1 .0) (runtimeDraft (timecodeFrom (a .0)) (a .1 .0))))
   -- time
-  pub tzq-with-frames : Gives tzq-with-frames.ended tzq-with-frames-reads.Learnt (λ κs a x. x .0 ≡ handedAnswer (framesAt (a .0) (a .1 .0)))
-  pub tzq-with-premiere-ticks : Gives tzq-with-premiere-ticks.ended tzq-with-premiere-ticks-reads.Learnt (λ κs a x. x .0 ≡ handedAnswer (ticksAt (a .0) (a .1 .0)))
-  pub tzq-with-seconds : Gives tzq-with-seconds.ended tzq-with-seconds-reads.Learnt (λ κs a x. x .0 ≡ handedAnswer (secondsAt (a .0) (a .1 .0) (a .1 .1 .0)))
+  pub tzq-with-frames : Gives tzq-with-frames.ended tzq-with-frames-reads.Learnt (λ κs a x.
+      x .0 ≡ handedAnswer (settled (kindFrom (a .1 .1 .0)) (framesAt (a .0) (a .1 .0))))
+  pub tzq-with-premiere-ticks : Gives tzq-with-premiere-ticks.ended tzq-with-premiere-ticks-reads.Learnt (λ κs a x.
+      x .0 ≡ handedAnswer (settled (kindFrom (a .1 .1 .0)) (ticksAt (a .0) (a .1 .0))))
+  pub tzq-with-seconds : Gives tzq-with-seconds.ended tzq-with-seconds-reads.Learnt (λ κs a x.
+      x .0 ≡ handedAnswer (settled (kindFrom (a .1 .1 .1 .0)) (secondsAt (a .0) (a .1 .0) (a .1 .1 .0))))
   pub tzq-premiere-ticks : Gives tzq-premiere-ticks.ended tzq-premiere-ticks-reads.Learnt (λ κs a x. x .0 ≡ handedTicks (ticksOf (timecodeFrom (a .0))))
   pub tzq-seconds : Gives tzq-seconds.ended tzq-seconds-reads.Learnt (λ κs a x. SecondsHanded (timecodeFrom (a .0)) (x .0))
   -- arithmetic

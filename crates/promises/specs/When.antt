@@ -2,11 +2,15 @@
 -- Assumes nothing.
 use Prim.Native.Nat.{ℕ}
 use mathlib.Core.List.{List, [], _∷_}
-use lib.IntN.{ℤ, _+ℤ_, _-ℤ_}
+use mathlib.Core.Bool.{true, false}
+use lib.IntN.{ℤ}
 use Rattle.answers.specs.declared.Refusal.{Refusal}
 use Rattle.rates.specs.Rates.{badRate, rateAt}
 use Rattle.timecodes.specs.declared.Timecode.{Timecode}
-use Rattle.timecodes.specs.Admitted.{admits, admitsBoth}
+use Rattle.timecodes.specs.declared.kinds.Kind.{Kind}
+use Rattle.timecodes.specs.declared.kinds.Joining.the-variants.{Comparison}
+use Rattle.timecodes.specs.Made.{settled}
+use Rattle.timecodes.specs.Admitted.{admits, admitsLength, admitsBoth}
 use Rattle.film.specs.Film.{badFormat, formatIn, formatAt}
 use Rattle.minutes.specs.Minutes.{badMinute, minuteAt}
 use Rattle.time.specs.Frames.{framesWhen, framesAt, ticksWhen, ticksAt, secondsWhen, secondsAt}
@@ -49,22 +53,22 @@ pub record RefusedWhen : Type 0 where
       (givenBy (runtimeDraft tc precision) line place)
   pub sections : (tc : Timecode) → Given (admits tc) (inSections (sectioned tc))
   -- time
-  pub with-frames : (count : ℤ) (rate : ℕ) → Given (framesWhen count rate) (inAnswer (framesAt count rate))
-  pub with-premiere-ticks : (t : ℤ) (rate : ℕ) → Given (ticksWhen t rate) (inAnswer (ticksAt t rate))
-  pub with-seconds : (p : ℤ) (q rate : ℕ) → Given (secondsWhen p q rate) (inAnswer (secondsAt p q rate))
+  pub with-frames : (kind : Kind) (count : ℤ) (rate : ℕ) → Given (framesWhen count rate) (inAnswer (settled kind (framesAt count rate)))
+  pub with-premiere-ticks : (kind : Kind) (t : ℤ) (rate : ℕ) → Given (ticksWhen t rate) (inAnswer (settled kind (ticksAt t rate)))
+  pub with-seconds : (kind : Kind) (p : ℤ) (q rate : ℕ) → Given (secondsWhen p q rate) (inAnswer (settled kind (secondsAt p q rate)))
   pub premiere-ticks : (tc : Timecode) → Given (admits tc) (inTicks (ticksOf tc))
   pub seconds : (tc : Timecode) (answer : Timed) → SecondsOf tc answer → Given (admits tc) (inSeconds answer)
   -- arithmetic
-  pub add : (a b : Timecode) → Given (joinedWhen _+ℤ_ a b) (inAnswer (addOf a b))
-  pub sub : (a b : Timecode) → Given (joinedWhen _-ℤ_ a b) (inAnswer (subOf a b))
-  pub cmp : (a b : Timecode) → Given (admitsBoth a b) (inOrder (compareOf a b))
+  pub add : (a b : Timecode) → Given (joinedWhen false a b) (inAnswer (addOf a b))
+  pub sub : (a b : Timecode) → Given (joinedWhen true a b) (inAnswer (subOf a b))
+  pub cmp : (a b : Timecode) → Given (admitsBoth Comparison a b) (inOrder (compareOf a b))
   pub mul : (tc : Timecode) (p : ℤ) (q : ℕ) → Given (mulWhen tc p q) (inAnswer (mulOf tc p q))
   pub div : (tc : Timecode) (n : ℤ) → Given (divWhen tc n) (inAnswer (divOf tc n))
   pub rem : (tc : Timecode) (n : ℤ) → Given (divWhen tc n) (inAnswer (remOf tc n))
   pub divq : (tc : Timecode) (p : ℤ) (q : ℕ) → Given (divqWhen tc p q) (inAnswer (divqOf tc p q))
   pub remq : (tc : Timecode) (p : ℤ) (q : ℕ) → Given (remqWhen tc p q) (inAnswer (remqOf tc p q))
-  pub neg : (tc : Timecode) → Given (admits tc) (inAnswer (negOf tc))
-  pub abs : (tc : Timecode) → Given (admits tc) (inAnswer (absOf tc))
+  pub neg : (tc : Timecode) → Given (admitsLength tc) (inAnswer (negOf tc))
+  pub abs : (tc : Timecode) → Given (admitsLength tc) (inAnswer (absOf tc))
   pub rebase : (tc : Timecode) (rate : ℕ) → Given (rebaseWhen tc rate) (inAnswer (rebaseOf tc rate))
   -- chains
   pub convert : (tc : Timecode) (list : List ℕ) → Given (convertWhen tc list) (inAnswer (convertOf tc list))
