@@ -38,7 +38,7 @@ use Rattle.promises.specs.PositionCases.{PositionCases}
 pub position-cases : PositionCases
 unfolding nearestN valueFrom span digitsOf widthBy width decimal held rates isRate rateRow
     dropFrames isDrop isFormat formatAt footageCount footageOf onFilm labelCount isDropped fieldsAt droppedBefore sectionsOf
-    fieldThen byteThen signOf tailOf fieldsIn fieldsFound textScan labelScan footageScan labelRead footageRead labelFields
+    fieldThen byteThen signOf tailOf fieldsIn fieldsFound textScan labelScan footageScan labelRead footageRead readText labelFields
     labelSections clockText sectionsText labelText instant joined convertOf reducedZ dayFrames inDay isOfDay isStrict shapedFor readFor
     isFraction framesAt ticksAt secondsAt negOf rebaseOf orderOf compareOf
 position-cases = (

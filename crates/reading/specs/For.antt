@@ -2,7 +2,7 @@
 -- Assumes nothing.
 use Prim.Native.Nat.{ℕ}
 use mathlib.Core.Bool.{Bool, true, not, _&&_}
-use mathlib.Core.List.{List, [], _∷_}
+use mathlib.Core.List.{List, [], _∷_, _++_}
 use Rattle.answers.specs.Order.{Condition, when, unless}
 use Rattle.answers.specs.Refusals.{notStrict}
 use Rattle.rates.specs.Rates.{rateRow}
@@ -14,7 +14,7 @@ use Rattle.reading.specs.declared.Stated.{Stated}
 use Rattle.reading.specs.declared.Read.{Read}
 use Rattle.reading.specs.declared.Read.the-variants.{Label, Footage, Refused}
 use Rattle.reading.specs.Shaped.{Shaped, label, footage, refused, shapeOf}
-use Rattle.reading.specs.Reading.{readShaped, readWhen}
+use Rattle.reading.specs.Reading.{readShaped, readWhen, readText}
 
 -- what was read as a length, made a timecode of a kind; what is refused stays so
 abbrev pub settledRead : Kind → Read → Read
@@ -37,6 +37,7 @@ strictWhen kind rate (refused e) = []
 unfoldable pub shapedFor : Kind → (rate : ℕ) → Stated → Shaped → Read
 shapedFor kind rate stated shaped = unless Refused (strictWhen kind rate shaped) (settledRead kind (readShaped rate stated shaped))
 
--- 6, then what the shape gives
+-- of a text: 6, no such rate or film format; 14; then what a length's reading gives
 unfoldable pub readFor : Kind → (text : List ℕ) → Stated → (rate : ℕ) → Read
-readFor kind text stated rate = unless Refused (readWhen stated rate) (shapedFor kind rate stated (shapeOf stated text))
+readFor kind text stated rate =
+    unless Refused (readWhen stated rate ++ strictWhen kind rate (shapeOf stated text)) (settledRead kind (readText text stated rate))

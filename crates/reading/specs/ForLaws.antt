@@ -1,7 +1,7 @@
 -- Laws of reading a length or a position that callers cite (BEHAVIOUR: Positions): each test, and that a length's reading is as it was.
 -- Assumes nothing.
 use Prim.Native.Nat.{ℕ}
-use mathlib.Core.Path.{_≡_, refl, sym, ap, subst}
+use mathlib.Core.Path.{_≡_, refl, sym, ap, _∙_, subst}
 use mathlib.Core.Bool.{Bool, true, false, not, _&&_}
 use mathlib.Core.List.{List}
 use lib.Dec.{T}
@@ -24,6 +24,7 @@ use Rattle.reading.specs.declared.Read.{Read}
 use Rattle.reading.specs.declared.Read.the-variants.{Label, Footage, Refused}
 use Rattle.reading.specs.Shaped.{isStated, formatFor, Shaped, label, footage, refused, byFit, farthest, footageShaped, shapeOf}
 use Rattle.reading.specs.Reading.{labelReadWhen, labelRead, footageFrames, footageReadWhen, footageRead, readShaped, readWhen, readText}
+use Rattle.reading.specs.ReadingLaws.{no-rate, no-format, read-shaped}
 use Rattle.reading.specs.For.{settledRead, isLabelOf, strictWhen, shapedFor, readFor}
 
 -- ---- a label by kind: any may be a length's, a position's is strict and has no sign
@@ -61,7 +62,7 @@ module _ (kind : Kind) (rate : ℕ) (stated : Stated) where
       by (TooLong place) = refl
       by (NoShape stop) = refl
 
--- ---- a length's reading is as it was
+-- ---- by shape a length's reading is as it was
 length-read : (rate : ℕ) (stated : Stated) (x : Shaped) → shapedFor Length rate stated x ≡ readShaped rate stated x
 unfolding shapedFor labelRead footageRead
 length-read rate stated (label minus fields) =
@@ -74,10 +75,6 @@ length-read rate stated (footage minus feet frames perf marker) = settled-footag
         (Footage (timecode (footageFrames format minus feet frames) rate) format)
 length-read rate stated (refused e) = refl
 
-pub read-length : (text : List ℕ) (stated : Stated) (rate : ℕ) → readFor Length text stated rate ≡ readText text stated rate
-unfolding readFor readText
-read-length text stated rate = ap (λ (r : Read). unless Refused (readWhen stated rate) r) (length-read rate stated (shapeOf stated text))
-
 -- ---- a text
 module _ (kind : Kind) (text : List ℕ) (stated : Stated) (rate : ℕ) where
   pub for-no-rate : isRate rate ≡ false → readFor kind text stated rate ≡ Refused noSuch
@@ -89,5 +86,17 @@ module _ (kind : Kind) (text : List ℕ) (stated : Stated) (rate : ℕ) where
   for-no-format r s = simp (r, s)
 
   pub for-shaped : isRate rate ≡ true → isStated stated ≡ true → readFor kind text stated rate ≡ shapedFor kind rate stated (shapeOf stated text)
-  unfolding readFor
-  for-shaped r s = simp (r, s)
+  unfolding readFor shapedFor
+  for-shaped r s =
+      let x = shapeOf stated text in
+      simp (r, s) (ap (λ (a : Read). unless Refused (strictWhen kind rate x) (settledRead kind a)) (read-shaped text stated rate r s))
+
+-- a length's reading is as it was
+pub read-length : (text : List ℕ) (stated : Stated) (rate : ℕ) → readFor Length text stated rate ≡ readText text stated rate
+read-length text stated rate = by (isRate rate) (isStated stated) refl refl
+  where
+    by : (s t : Bool) → isRate rate ≡ s → isStated stated ≡ t → readFor Length text stated rate ≡ readText text stated rate
+    by false t r f = for-no-rate Length text stated rate r ∙ sym (no-rate text stated rate r)
+    by true false r f = for-no-format Length text stated rate r f ∙ sym (no-format text stated rate r f)
+    by true true r f =
+        for-shaped Length text stated rate r f ∙ length-read rate stated (shapeOf stated text) ∙ sym (read-shaped text stated rate r f)
