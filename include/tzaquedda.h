@@ -14,8 +14,34 @@
  *
  * Each answer begins with `refused`: 0, or one of the numbers below, and then every other number of the answer is 0 (but the place in
  * the text that tzq_read and tzq_read_as answer with 1 and 2), a fraction 0/1, and no byte of the line has changed. Of several refusals
- * the first is given in the order 6, 5 (of an input), 7, 1, 2, 4, 13, 3, 5 (of the resulting count), 8; of a shot list the earliest record
- * at fault decides, and for a record the order is 9, 10, 6, 5, 11, 12; where a list is written, 8 comes last.
+ * the first is given in the order 6, 15, 5 (of an input), 7, 1, 2, 4, 13 (of a footage) or 14 (of a label), 3, 5 (of the resulting count),
+ * 8; of a shot list the earliest record at fault decides, and for a record the order is 9, 10, 6, 5, 11, 12; where a list is written, 8
+ * comes last.
+ *
+ * ---- Lengths and positions ----
+ *
+ * A timecode is a length, or a position: a time of day, where `23:59:59;29` is followed by `00:00:00;00`. A length's count goes from
+ * -400,000,000 to 400,000,000. A position's goes from 0 up to its rate's day, which is not included: 24 hours of the timebase, less the
+ * dropped labels (2,589,408 at rate 5, 5,178,816 at rate 11); another count handed in is refused 5. What is made a position is rounded
+ * first, then held to a length's bounds (5), then reduced by whole days, negative ones too. Which operations take what:
+ *
+ *     operation                                                        takes                   answers
+ *     tzq_with_frames, tzq_with_premiere_ticks, tzq_with_seconds,      position true or false  a position or a length, as asked
+ *       tzq_read, tzq_read_as, tzq_read_runtime
+ *     tzq_write_label, tzq_write_footage, tzq_write_runtime,           either                  a text, fields, ticks, seconds
+ *       tzq_sections, tzq_premiere_ticks, tzq_seconds
+ *     tzq_add                                                          length, length          a length
+ *                                                                      position, length        a position at the left one's rate
+ *                                                                      length, position        a position at the left one's rate
+ *                                                                      position, position      refused 15
+ *     tzq_sub                                                          length, length          a length
+ *                                                                      position, length        a position at the left one's rate
+ *                                                                      position, position      a length, perhaps negative, not reduced
+ *                                                                      length, position        refused 15
+ *     tzq_cmp                                                          two of one kind         the order of their instants
+ *                                                                      one of each             refused 15
+ *     tzq_mul, tzq_div, tzq_rem, tzq_divq, tzq_remq, tzq_neg, tzq_abs, length                  a length
+ *       tzq_rebase, tzq_convert                                        position                refused 15
  */
 #ifndef TZAQUEDDA_H
 #define TZAQUEDDA_H
@@ -43,12 +69,14 @@ enum {
     TZQ_CUT_SHORT = 10,    /* the body of a record is cut short */
     TZQ_NO_RATE_YET = 11,  /* a shot before any rate */
     TZQ_END_BEFORE_FIRST = 12, /* a shot's end before its first frame */
-    TZQ_NOT_ON_FILM = 13   /* a footage's frames number does not occur in that foot, or its perf field, if any, is not feet modulo 3 */
+    TZQ_NOT_ON_FILM = 13,  /* a footage's frames number does not occur in that foot, or its perf field, if any, is not feet modulo 3 */
+    TZQ_NOT_STRICT = 14,   /* a label of a position that is not strict or has a sign */
+    TZQ_WRONG_KIND = 15    /* a position where only a length may be, or a length where only a position may: see the table above */
 };
 
 /* ---- Numbers that are passed and answered ---- */
 
-/* The most that a count may be, either side of zero. */
+/* The most that a length's count may be, either side of zero. */
 #define TZQ_MOST 400000000
 
 /* Room enough for any label (14 bytes at most), footage (14) or runtime (18). */
@@ -57,12 +85,14 @@ enum {
 /* Rates 1 to 12: 23.98, 24, 25, 29.97, 29.97 drop, 30, 47.95, 48, 50, 59.94, 59.94 drop, 60.
  * Film formats 1 to 4: 4-perf, 3-perf, 2-perf on 35 mm; 16 mm. */
 
-/* A timecode: a count from -400,000,000 to 400,000,000 and a rate. Nothing is assumed of the two numbers: what takes a timecode
- * refuses a rate that is none (6), then a count out of its bounds (5). */
-typedef struct { int64_t count; uint64_t rate; } tzq_timecode;
+/* A timecode: a count, a rate, and whether it is a position; where that is left out of an initializer it is a length. Nothing is assumed of
+ * the two numbers: what takes a timecode refuses a rate that is none (6), then a position where none may be (15), then a count out of its
+ * bounds (5). `position` is a bool of C, true or false and nothing else. */
+typedef struct { int64_t count; uint64_t rate; bool position; } tzq_timecode;
 
-typedef struct { uint64_t refused; int64_t count; } tzq_count;
-typedef struct { uint64_t refused; int64_t count; uint64_t format; size_t place; } tzq_read_count; /* format 0: a label; 1 to 4: a footage's */
+/* The count of a timecode, and whether it is a position; of tzq_minute_start a count, position false. */
+typedef struct { uint64_t refused; int64_t count; bool position; } tzq_count;
+typedef struct { uint64_t refused; int64_t count; uint64_t format; size_t place; bool position; } tzq_read_count; /* format 0: a label; 1 to 4: a footage's */
 typedef struct { uint64_t refused; int64_t order; } tzq_order; /* -1, 0 or 1 */
 typedef struct { uint64_t refused; int64_t ticks; } tzq_ticks;
 typedef struct { uint64_t refused; int64_t numerator; uint64_t denominator; } tzq_fraction;
@@ -72,7 +102,7 @@ typedef struct { uint64_t refused; size_t length; } tzq_length;
 typedef struct {
     uint64_t refused;
     bool negative;
-    uint64_t hours, minutes, seconds, frames; /* minutes and seconds under 60, frames under the timebase; hours run on past 23 */
+    uint64_t hours, minutes, seconds, frames; /* minutes and seconds under 60, frames under the timebase; a length's hours run on past 23 */
 } tzq_label;
 
 typedef struct {
@@ -104,25 +134,27 @@ typedef struct { uint64_t refused; size_t records; } tzq_checked;
 
 /* ---- Reading ---- */
 
-/* What the `length` bytes of text read as at a rate, with no film format stated.
+/* What the `length` bytes of text read as at a rate, a position or else a length, with no film format stated.
  * A label: optional `-`, one to four fields of digits divided by `:` or `;`, the last is frames, then leftward seconds, minutes, hours.
  * A footage: optional `-`, feet, `+`, frames, optionally `.` and a perf field; with a perf field it is 3-perf, without 4-perf.
- * The whole text counts, nothing around it. Refuses 6: no such rate; 1, 2; 13: a footage that cannot be on the film; 3, 5.
+ * The whole text counts, nothing around it. Refuses 6: no such rate; 1, 2; 13: a footage that cannot be on the film; 14, 3, 5.
+ * The label of a position must be strict (hours under 24, minutes and seconds under 60, frames under the timebase; fields left out are 0)
+ * and have no sign, not even `-0`: else 14. A footage gets no 14: its count is reduced by whole days.
  * The frames of a foot are numbered from 0: 4-perf has 16 a foot, 2-perf 32, 16 mm 20, and 3-perf 22 where feet modulo 3 is 2, else 21. A
  * frames number that the foot has not, or a perf field that is not feet modulo 3 by value, is refused 13, whatever the sign.
  * `place` is the byte of the text, from 0, where it went wrong. Refused 1: the length of the longest beginning of the text that also
  * begins some label or footage, so text[place], if the text goes that far, is the byte that none has there. Refused 2: the first digit
  * of the first field that is too long. Else 0. */
-tzq_read_count tzq_read(const uint8_t *text, size_t length, uint64_t rate);
+tzq_read_count tzq_read(const uint8_t *text, size_t length, uint64_t rate, bool position);
 
 /* The same with a stated film format, 1 to 4: then only a footage is taken, and the place of 1 is that of footages alone.
  * Refuses 6: no such rate or film format; 1, 2; 4: a perf field with a format other than 3-perf; 13, 5. 3-perf may leave the field out. */
-tzq_read_count tzq_read_as(const uint8_t *text, size_t length, uint64_t format, uint64_t rate);
+tzq_read_count tzq_read_as(const uint8_t *text, size_t length, uint64_t format, uint64_t rate, bool position);
 
-/* The frame nearest to the time that a runtime gives, halves away from zero.
+/* The frame nearest to the time that a runtime gives, halves away from zero, as a position or else a length.
  * A runtime: optional `-`, one to three fields divided by `:`, optionally `.` and a fraction; the last field is seconds, then leftward
  * minutes, hours. Refuses 6: no such rate; 1; 2: a field of over 9 digits or a fraction of over 6; 5: the resulting count. */
-tzq_count tzq_read_runtime(const uint8_t *text, size_t length, uint64_t rate);
+tzq_count tzq_read_runtime(const uint8_t *text, size_t length, uint64_t rate, bool position);
 
 /* ---- Writing: each text is laid down in the line from `place` on; only its own bytes change, and nothing ends it ---- */
 
@@ -146,16 +178,17 @@ tzq_label tzq_sections(tzq_timecode tc);
 
 /* ---- Counts, ticks and seconds ---- */
 
-/* A count at a rate: the count itself. Refuses 6: no such rate; 5: the count is out of bounds. */
-tzq_count tzq_with_frames(int64_t count, uint64_t rate);
+/* A count at a rate, as a length the count itself, as a position reduced by whole days. Refuses 6: no such rate; 5: the count is out of a
+ * length's bounds. */
+tzq_count tzq_with_frames(int64_t count, uint64_t rate, bool position);
 
-/* The frame nearest to a number of ticks, halves away from zero; any number of ticks is taken.
+/* The frame nearest to a number of ticks, halves away from zero, as a position or else a length; any number of ticks is taken.
  * Refuses 6: no such rate; 5: the resulting count is out of bounds. */
-tzq_count tzq_with_premiere_ticks(int64_t ticks, uint64_t rate);
+tzq_count tzq_with_premiere_ticks(int64_t ticks, uint64_t rate, bool position);
 
-/* The frame nearest to p/q seconds, halves away from zero: |p| at most 10^12, q from 1 to 1,000,000.
+/* The frame nearest to p/q seconds, halves away from zero, as a position or else a length: |p| at most 10^12, q from 1 to 1,000,000.
  * Refuses 6: no such rate; 5: p or q, or then the resulting count, is out of bounds. */
-tzq_count tzq_with_seconds(int64_t p, uint64_t q, uint64_t rate);
+tzq_count tzq_with_seconds(int64_t p, uint64_t q, uint64_t rate, bool position);
 
 /* The ticks of a timecode, exactly: count times the rate's ticks a frame. Refuses 6, 5. */
 tzq_ticks tzq_premiere_ticks(tzq_timecode tc);
@@ -164,17 +197,19 @@ tzq_ticks tzq_premiere_ticks(tzq_timecode tc);
 tzq_fraction tzq_seconds(tzq_timecode tc);
 
 /* The timecode's instant through a list of `length` rates, the nearest frame taken at each in turn, halves away from zero; an empty
- * list gives back the start. Refuses 6: its own rate or any listed number is no rate; 5: its own count, or that after any step. */
+ * list gives back the start. For lengths only. Refuses 6: its own rate or any listed number is no rate; 15: a position, whatever the list;
+ * 5: its own count, or that after any step. */
 tzq_converted tzq_convert(tzq_timecode tc, const uint64_t *rates, size_t length);
 
-/* ---- Arithmetic ---- */
+/* ---- Arithmetic: what stands behind tzq_cmp is for lengths only, and refuses a position 15, behind 6 and before 5 ---- */
 
-/* The sum and the difference of two timecodes: the exact instant, rounded once at a's rate, halves away from zero.
- * Refuses 6: either rate; 5: either count, or then the resulting count. */
+/* The sum and the difference of two timecodes: the exact instant, rounded once at a's rate, halves away from zero; what is a position (see
+ * the table above) is then reduced by whole days. Refuses 6: either rate; 15; 5: either count, or then the resulting count, before it is
+ * reduced. */
 tzq_count tzq_add(tzq_timecode a, tzq_timecode b);
 tzq_count tzq_sub(tzq_timecode a, tzq_timecode b);
 
-/* How two timecodes compare, by instant: -1, 0 or 1. Refuses 6: either rate; 5: either count. */
+/* How two timecodes of one kind compare, by instant: -1, 0 or 1. Refuses 6: either rate; 15: a position and a length; 5: either count. */
 tzq_order tzq_cmp(tzq_timecode a, tzq_timecode b);
 
 /* The product with p/q, rounded, halves away from zero: |p| at most 1,000,000, q from 1 to 1,000,000; a whole factor is p/1.
