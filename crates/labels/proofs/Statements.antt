@@ -10,7 +10,7 @@ use native.Mathlib.Omega.{arith}
 use lib.Arith.{digits-lt}
 use Rattle.tally.specs.Before.{before}
 use Rattle.tally.specs.BeforeLaws.{which, never-fewer, fewer-before, one-each}
-use Rattle.rates.specs.Rates.{rateRow, dropFrames}
+use Rattle.rates.specs.Rates.{isRate, rateRow, dropFrames}
 use Rattle.rates.specs.Laws.{drop-small}
 use Rattle.rates.specs.Day.{dayCount, dayFrames}
 use Rattle.labels.specs.Label.{hoursIn, minutesIn, secondsIn, framesIn, LabelOf}
@@ -126,22 +126,35 @@ pub fill-rate : FillRate
 unfolding dayFrames
 fill-rate rate h = fill-day (rateRow rate .timebase) (dropFrames rate) (drop-small rate h)
 
+-- the labels at the day's ends
+module _ (rate : ℕ) (h : isRate rate ≡ true) where
+  first-label : LabelOf (rateRow rate .timebase) (dropFrames rate) 0 (0 ∷ 0 ∷ 0 ∷ 0 ∷ [])
+  first-label =
+      let small = drop-small rate h in
+      record {
+        strict = record { four = refl; minutes = omega arith; seconds = omega arith; frames = omega (arith, small) };
+        allowed = kept-tenth (dropFrames rate) 0 0 0 refl;
+        count = count-by-minutes (rateRow rate .timebase) (dropFrames rate) (omega (arith, small)) 0 0 0 0 ∙ omega arith;
+      }
+
+  last-label : LabelOf (rateRow rate .timebase) (dropFrames rate) (dayFrames rate - 1) (23 ∷ 59 ∷ 59 ∷ (rateRow rate .timebase - 1) ∷ [])
+  unfolding dayFrames
+  last-label =
+      let timebase = rateRow rate .timebase in
+      let small = drop-small rate h in
+      record {
+        strict = record { four = refl; minutes = omega arith; seconds = omega arith; frames = omega (arith, small) };
+        allowed = kept-second (dropFrames rate) 59 59 (timebase - 1) (omega arith);
+        count = count-by-minutes timebase (dropFrames rate) (omega (arith, small)) 23 59 59 (timebase - 1) ∙ omega (arith, small);
+      }
+
 pub day-ends : DayEnds
-unfolding dayFrames
 day-ends rate h =
     let timebase = rateRow rate .timebase in
     let D = dropFrames rate in
     let small = drop-small rate h in (
-      record {
-        strict = record { four = refl; minutes = omega arith; seconds = omega arith; frames = omega (arith, small) };
-        allowed = kept-tenth D 0 0 0 refl;
-        count = count-by-minutes timebase D (omega (arith, small)) 0 0 0 0 ∙ omega arith;
-      },
-      record {
-        strict = record { four = refl; minutes = omega arith; seconds = omega arith; frames = omega (arith, small) };
-        allowed = kept-second D 59 59 (timebase - 1) (omega arith);
-        count = count-by-minutes timebase D (omega (arith, small)) 23 59 59 (timebase - 1) ∙ omega (arith, small);
-      },
+      one-label timebase D 0 _ _ small (found timebase D 0 small) (first-label rate h),
+      one-label timebase D (dayFrames rate - 1) _ _ small (found timebase D (dayFrames rate - 1) small) (last-label rate h),
     )
 
 -- a label that comes first has fewer before it

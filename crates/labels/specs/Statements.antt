@@ -83,8 +83,8 @@ FillInOrder =
 abbrev pub DayEnds : Type 0
 DayEnds =
     (rate : ℕ) → isRate rate ≡ true
-    → LabelOf (rateRow rate .timebase) (dropFrames rate) 0 (0 ∷ 0 ∷ 0 ∷ 0 ∷ [])
-    × LabelOf (rateRow rate .timebase) (dropFrames rate) (dayFrames rate - 1) (23 ∷ 59 ∷ 59 ∷ (rateRow rate .timebase - 1) ∷ [])
+    → (sectionsOf (rateRow rate .timebase) (dropFrames rate) 0 ≡ 0 ∷ 0 ∷ 0 ∷ 0 ∷ [])
+    × (sectionsOf (rateRow rate .timebase) (dropFrames rate) (dayFrames rate - 1) ≡ 23 ∷ 59 ∷ 59 ∷ (rateRow rate .timebase - 1) ∷ [])
 
 -- exactly the strict labels with hours under 24 pass the test of a position's label
 abbrev pub StrictExactly : Type 0

@@ -5,6 +5,8 @@ use mathlib.Core.Path.{_≡_}
 use mathlib.Core.Logic.{_↔_}
 use mathlib.Core.Bool.{true, false}
 use lib.IntN.{ℤ, pos}
+use Rattle.answers.specs.declared.Verdict.the-variants.{Passed}
+use Rattle.answers.specs.Order.{judged}
 use Rattle.answers.specs.Refusals.{isCount}
 use Rattle.rates.specs.Rates.{isRate}
 use Rattle.rates.specs.Day.{dayFrames}
@@ -12,7 +14,7 @@ use Rattle.timecodes.specs.declared.kinds.Kind.the-variants.{Length, Pos
 use Rattle.timecodes.specs.Kinds.{kindFrom}
 use Rattle.timecodes.specs.Timecode.{timecode, position}
 use Rattle.timecodes.specs.Made.{OfDay, inDay}
-use Rattle.timecodes.specs.Admitted.{Valid}
+use Rattle.timecodes.specs.Admitted.{admits}
 
 -- what a count is reduced to is the number of the day that differs from it by whole days, negative counts too
 abbrev pub DayIs : Type 0
@@ -28,13 +30,13 @@ pub record UnderDay (rate : ℕ) (count : ℤ) : Type 0 where
   pub is : count ≡ pos number
   pub under : number < dayFrames rate
 
--- a position is within its bounds exactly when its count is such a number
+-- what takes both kinds admits a position at a rate exactly when its count is such a number
 abbrev pub PositionWithin : Type 0
-PositionWithin = (rate : ℕ) (count : ℤ) → isRate rate ≡ true → Valid (position count rate) ↔ UnderDay rate count
+PositionWithin = (rate : ℕ) (count : ℤ) → isRate rate ≡ true → (judged (admits (position count rate)) ≡ Passed) ↔ UnderDay rate count
 
 -- and a length exactly when its count is from -400,000,000 to 400,000,000
 abbrev pub LengthWithin : Type 0
-LengthWithin = (rate : ℕ) (count : ℤ) → isRate rate ≡ true → Valid (timecode count rate) ↔ (isCount count ≡ true)
+LengthWithin = (rate : ℕ) (count : ℤ) → isRate rate ≡ true → (judged (admits (timecode count rate)) ≡ Passed) ↔ (isCount count ≡ true)
 
 -- a timecode is a position where that is said, else a length
 abbrev pub KindChosen : Type 0
