@@ -1,5 +1,5 @@
-/* Labels written and read a second through the C interface, and digits of nine-digit numbers, beside plain C (bench/plain.c) on the same
- * inputs in the same run. Where bench/run.sh links an earlier commit's library too, it is measured beside it as well, as `before`.
+/* Labels of lengths written and read a second through the C interface, and digits of nine-digit numbers, beside plain C (bench/plain.c) on
+ * the same inputs in the same run. Where bench/run.sh links an earlier commit's library too, it is measured beside it as well, as `before`.
  * First all are compared on every input that is measured, on numbers around each power of ten, and on texts that are refused. */
 #define _POSIX_C_SOURCE 199309L
 #include <inttypes.h>
@@ -12,16 +12,18 @@
 
 enum { INPUTS = 200000, ROUNDS = 15, WIDTH = 16, NINE = 9, SIDES = 4 };
 
+/* the timecodes lie ready: one made up in the loop is stored field by field and loaded wider to be handed over, and the processor waits */
+static tzq_timecode given[INPUTS];
 static uint8_t kept[INPUTS][WIDTH];
 static size_t lengths[INPUTS];
 static uint64_t numbers[INPUTS];
 static uint64_t sink;
 
 typedef tzq_length writer(tzq_timecode, uint8_t *, size_t, size_t);
-typedef tzq_read_count reader(const uint8_t *, size_t, uint64_t);
+typedef tzq_read_count reader(const uint8_t *, size_t, uint64_t, bool);
 typedef void digit_writer(uint8_t *, size_t, size_t, uint64_t);
 
-/* linked by bench/run.sh: digits::put_digits, and both writers of the earlier commit */
+/* linked by bench/run.sh: digits::put_digits, and both writers of the earlier commit (that of labels by way of bench/before.c) */
 __attribute__((weak)) digit_writer now_put_digits, before_put_digits;
 __attribute__((weak)) writer before_write_label;
 
@@ -48,21 +50,19 @@ static double now(void) {
 
 /* ---- the seconds that one input takes */
 
-static double write_all(writer *w, uint64_t rate) {
+static double write_all(writer *w) {
     uint8_t line[WIDTH];
     memset(line, '.', sizeof line);
     double start = now();
-    for (uint64_t i = 0; i < INPUTS; i++) {
-        tzq_timecode tc = {count_at(i), rate};
-        sink += w(tc, line, sizeof line, 0).length + line[7];
-    }
+    for (uint64_t i = 0; i < INPUTS; i++)
+        sink += w(given[i], line, sizeof line, 0).length + line[7];
     return (now() - start) / INPUTS;
 }
 
 static double read_all(reader *r, uint64_t rate) {
     double start = now();
     for (uint64_t i = 0; i < INPUTS; i++)
-        sink += (uint64_t)r(kept[i], lengths[i], rate).count;
+        sink += (uint64_t)r(kept[i], lengths[i], rate, false).count;
     return (now() - start) / INPUTS;
 }
 
@@ -79,10 +79,15 @@ static double put_all(digit_writer *d) {
 
 /* ---- all the same answers */
 
+static bool same(tzq_read_count x, tzq_read_count y) {
+    return x.refused == y.refused && x.count == y.count && x.format == y.format && x.place == y.place && x.position == y.position;
+}
+
 /* the labels of all counts, by every writer; then by both readers */
 static void agree(uint64_t rate) {
     for (uint64_t i = 0; i < INPUTS; i++) {
-        tzq_timecode tc = {count_at(i), rate};
+        tzq_timecode tc = {count_at(i), rate, false};
+        given[i] = tc;
         memset(kept[i], '.', WIDTH);
         tzq_length a = tzq_write_label(tc, kept[i], WIDTH, 0);
         for (int s = 1; s < SIDES; s++) {
@@ -95,8 +100,8 @@ static void agree(uint64_t rate) {
                 die("writing", i);
         }
         lengths[i] = a.length;
-        tzq_read_count x = tzq_read(kept[i], a.length, rate), y = plain_read(kept[i], a.length, rate);
-        if (x.refused != y.refused || x.count != y.count || x.format != y.format || x.place != y.place || x.count != tc.count)
+        tzq_read_count x = tzq_read(kept[i], a.length, rate, false);
+        if (!same(x, plain_read(kept[i], a.length, rate, false)) || x.count != tc.count)
             die("reading", i);
     }
 }
@@ -128,8 +133,7 @@ static void agree_on_numbers(void) {
 }
 
 static void agree_on_text(const uint8_t *text, size_t length, uint64_t i) {
-    tzq_read_count x = tzq_read(text, length, i % 14), y = plain_read(text, length, i % 14);
-    if (x.refused != y.refused || x.count != y.count || x.format != y.format || x.place != y.place)
+    if (!same(tzq_read(text, length, i % 14, false), plain_read(text, length, i % 14, false)))
         die("text", i);
 }
 
@@ -188,7 +192,7 @@ static void measure_labels(uint64_t rate) {
     agree(rate);
     for (int k = 0; k < ROUNDS; k++)
         for (int s = 0; s < SIDES; s++) {
-            written[s][k] = WRITERS[s] ? write_all(WRITERS[s], rate) : 0;
+            written[s][k] = WRITERS[s] ? write_all(WRITERS[s]) : 0;
             read[s][k] = READERS[s] ? read_all(READERS[s], rate) : 0;
         }
     snprintf(what, sizeof what, "labels written, rate %" PRIu64, rate);

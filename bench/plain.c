@@ -1,5 +1,6 @@
-/* The same rules, refusals and answers as tzq_write_label and tzq_read, and the digits of digits::put_digits, written as one would write
- * them in C without proofs. Writing is there twice: dividing by ten for each digit, and taking pairs of digits from a table. */
+/* The same rules, refusals and answers as those of tzq_write_label and tzq_read for lengths, and the digits of digits::put_digits, written
+ * as one would write them in C without proofs. Writing is there twice: dividing by ten for each digit, and taking pairs of digits from a
+ * table. */
 #include "plain.h"
 
 #include <string.h>
@@ -120,14 +121,14 @@ static run digits_at(const uint8_t *text, size_t length, size_t at) {
 }
 
 static tzq_read_count refused(uint64_t number, size_t place) {
-    tzq_read_count a = {number, 0, 0, place};
+    tzq_read_count a = {number, 0, 0, place, false};
     return a;
 }
 
 static tzq_read_count held(bool minus, uint64_t count, uint64_t format) {
     if (count > TZQ_MOST)
         return refused(TZQ_OUT_OF_BOUNDS, 0);
-    tzq_read_count a = {0, minus ? -(int64_t)count : (int64_t)count, format, 0};
+    tzq_read_count a = {0, minus ? -(int64_t)count : (int64_t)count, format, 0, false};
     return a;
 }
 
@@ -172,7 +173,8 @@ static tzq_read_count read_footage(const uint8_t *text, size_t length, bool minu
     return held(minus, 16 * feet.value + frames.value, 1);
 }
 
-tzq_read_count plain_read(const uint8_t *text, size_t length, uint64_t rate) {
+tzq_read_count plain_read(const uint8_t *text, size_t length, uint64_t rate, bool position) {
+    (void)position;
     if (rate < 1 || rate > 12)
         return refused(TZQ_NO_SUCH, 0);
     bool minus = length > 0 && text[0] == '-';

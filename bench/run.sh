@@ -13,14 +13,15 @@ before=''
 if [ "${1-}" = --before ]; then before=${2:?--before takes a commit}; shift 2; fi
 lines=${1:-200000}
 
-# target/before.o and target/before-digits.o: the writers of the commit, under names of their own
+# target/before.o, target/before-label.o and target/before-digits.o: the writers of the commit, under names of their own
 earlier() {
     local at
     at=target/before-$(git rev-parse --short "$before^{commit}")
     mkdir -p "$at"
-    git archive "$before" crates crates.txt | tar -x -C "$at"
+    git archive "$before" crates crates.txt include | tar -x -C "$at"
     (cd "$at" && rt staticlib exports) > "$at.log" 2>&1 || { tail -n 20 "$at.log" >&2; exit 1; }
-    under_name target/before.o "$at/target/staticlib/libexports.a" tzq_write_label=before_write_label
+    under_name target/before.o "$at/target/staticlib/libexports.a" tzq_write_label=earlier_write_label
+    "$(compiler)" -std=c11 -O2 -Wall -Wextra -Werror -I "$at/include" -c -o target/before-label.o bench/before.c
     digits_object before "$at"
 }
 
@@ -73,7 +74,7 @@ digits_object now
 objects=(target/now-digits.o)
 if [ -n "$before" ]; then
     earlier
-    objects+=(target/before.o target/before-digits.o)
+    objects+=(target/before.o target/before-label.o target/before-digits.o)
 fi
 compile target/bench bench/bench.c bench/plain.c "${objects[@]}"
 run target/bench

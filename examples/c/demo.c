@@ -5,39 +5,51 @@
 
 #include "tzaquedda.h"
 
+/* a length */
 static tzq_timecode tc(int64_t count, uint64_t rate) {
-    tzq_timecode t = {count, rate};
+    tzq_timecode t = {count, rate, false};
     return t;
 }
 
-/* a count, or why there is none */
+/* a position: a time of day */
+static tzq_timecode pos(int64_t count, uint64_t rate) {
+    tzq_timecode t = {count, rate, true};
+    return t;
+}
+
+/* a count and its kind, or why there is none */
 static void counted(const char *what, tzq_count a) {
     if (a.refused)
         printf("%s: refused %" PRIu64 "\n", what, a.refused);
     else
-        printf("%s: %" PRId64 "\n", what, a.count);
+        printf("%s: %s%" PRId64 "\n", what, a.position ? "position " : "", a.count);
 }
 
 /* what a text reads as: a label's count, or a footage's with its film format; refused, the byte where it went wrong */
 static void reads(const char *text, tzq_read_count a) {
+    const char *kind = a.position ? "position " : "";
     if (a.refused)
         printf("read %s: refused %" PRIu64 " at %zu\n", text, a.refused, a.place);
     else if (a.format)
-        printf("read %s: %" PRId64 " in film format %" PRIu64 "\n", text, a.count, a.format);
+        printf("read %s: %s%" PRId64 " in film format %" PRIu64 "\n", text, kind, a.count, a.format);
     else
-        printf("read %s: %" PRId64 "\n", text, a.count);
+        printf("read %s: %s%" PRId64 "\n", text, kind, a.count);
 }
 
 static void read_label(const char *text, uint64_t rate) {
-    reads(text, tzq_read((const uint8_t *)text, strlen(text), rate));
+    reads(text, tzq_read((const uint8_t *)text, strlen(text), rate, false));
 }
 
-static void read_footage(const char *text, uint64_t format) {
-    reads(text, tzq_read_as((const uint8_t *)text, strlen(text), format, 2));
+static void read_position(const char *text, uint64_t rate) {
+    reads(text, tzq_read((const uint8_t *)text, strlen(text), rate, true));
 }
 
-static void read_runtime(const char *text, uint64_t rate) {
-    counted(text, tzq_read_runtime((const uint8_t *)text, strlen(text), rate));
+static void read_footage(const char *text, uint64_t format, bool position) {
+    reads(text, tzq_read_as((const uint8_t *)text, strlen(text), format, 2, position));
+}
+
+static void read_runtime(const char *text, uint64_t rate, bool position) {
+    counted(text, tzq_read_runtime((const uint8_t *)text, strlen(text), rate, position));
 }
 
 /* the whole line, so that every byte of it shows */
@@ -53,19 +65,44 @@ static uint8_t *dots(uint8_t *line, size_t length) {
     return line;
 }
 
-static void label(int64_t count, uint64_t rate) {
+static void label(tzq_timecode t) {
     uint8_t line[TZQ_ROOM];
-    wrote("label", line, sizeof line, tzq_write_label(tc(count, rate), dots(line, sizeof line), sizeof line, 2));
+    wrote("label", line, sizeof line, tzq_write_label(t, dots(line, sizeof line), sizeof line, 2));
 }
 
-static void footage(int64_t count, uint64_t format) {
+static void footage(tzq_timecode t, uint64_t format) {
     uint8_t line[TZQ_ROOM];
-    wrote("footage", line, sizeof line, tzq_write_footage(tc(count, 2), format, dots(line, sizeof line), sizeof line, 0));
+    wrote("footage", line, sizeof line, tzq_write_footage(t, format, dots(line, sizeof line), sizeof line, 0));
 }
 
-static void runtime(int64_t count, uint64_t rate, uint64_t precision) {
+static void runtime(tzq_timecode t, uint64_t precision) {
     uint8_t line[TZQ_ROOM];
-    wrote("runtime", line, sizeof line, tzq_write_runtime(tc(count, rate), precision, dots(line, sizeof line), sizeof line, 0));
+    wrote("runtime", line, sizeof line, tzq_write_runtime(t, precision, dots(line, sizeof line), sizeof line, 0));
+}
+
+static void sections(tzq_timecode t) {
+    tzq_label s = tzq_sections(t);
+    printf("sections: %" PRIu64 " %d %" PRIu64 " %" PRIu64 " %" PRIu64 " %" PRIu64 "\n", s.refused, s.negative, s.hours, s.minutes,
+           s.seconds, s.frames);
+}
+
+static void ticks(tzq_timecode t) {
+    tzq_ticks a = tzq_premiere_ticks(t);
+    printf("ticks: %" PRIu64 " %" PRId64 "\n", a.refused, a.ticks);
+}
+
+static void seconds(tzq_timecode t) {
+    tzq_fraction f = tzq_seconds(t);
+    printf("seconds: %" PRIu64 " %" PRId64 "/%" PRIu64 "\n", f.refused, f.numerator, f.denominator);
+}
+
+static void convert(tzq_timecode t, const uint64_t *rates, size_t length) {
+    tzq_converted c = tzq_convert(t, rates, length);
+    printf("convert: %" PRIu64 " %" PRId64 " at %" PRIu64 "\n", c.refused, c.count, c.rate);
+}
+
+static void ordered(const char *what, tzq_order o) {
+    printf("%s: %" PRIu64 " %" PRId64 "\n", what, o.refused, o.order);
 }
 
 static void texts(void) {
@@ -85,81 +122,70 @@ static void texts(void) {
     read_label("12+3:4", 2);
     read_label("-0000000001:00", 2);
     read_label("1+2.0000000003", 2);
-    read_footage("2+00", 4);
-    read_footage("2+00.0", 4);
-    read_footage("1:00", 1);
-    read_footage("1+2.", 1);
-    read_footage("2+00", 5);
-    read_footage("0+21", 2);
-    read_footage("2+21", 2);
-    read_footage("1+00.2", 2);
-    read_footage("1+00", 2);
+    read_footage("2+00", 4, false);
+    read_footage("2+00.0", 4, false);
+    read_footage("1:00", 1, false);
+    read_footage("1+2.", 1, false);
+    read_footage("2+00", 5, false);
+    read_footage("0+21", 2, false);
+    read_footage("2+21", 2, false);
+    read_footage("1+00.2", 2, false);
+    read_footage("1+00", 2, false);
     read_label("0+20", 2);
     read_label("2+21.2", 2);
     read_label("-2+05.1", 2);
     read_label("25000000+16", 2);
-    read_runtime("01:00:03.6", 1);
-    read_runtime("1:00:00:00", 1);
+    read_runtime("01:00:03.6", 1, false);
+    read_runtime("1:00:00:00", 1, false);
 
-    label(1799, 5);
-    label(1800, 5);
-    label(901, 5);
-    label(2589407, 5);
-    label(2589408, 5);
-    label(86400, 1);
-    label(-5, 2);
-    label(400000001, 2);
-    footage(21, 2);
-    footage(63, 2);
-    footage(20, 2);
-    footage(64, 2);
-    footage(39, 4);
-    footage(40, 4);
-    runtime(86400, 1, 6);
-    runtime(23, 2, 1);
-    runtime(23, 2, 7);
+    label(tc(1799, 5));
+    label(tc(1800, 5));
+    label(tc(901, 5));
+    label(tc(2589407, 5));
+    label(tc(2589408, 5));
+    label(tc(86400, 1));
+    label(tc(-5, 2));
+    label(tc(400000001, 2));
+    footage(tc(21, 2), 2);
+    footage(tc(63, 2), 2);
+    footage(tc(20, 2), 2);
+    footage(tc(64, 2), 2);
+    footage(tc(39, 2), 4);
+    footage(tc(40, 2), 4);
+    runtime(tc(86400, 1), 6);
+    runtime(tc(23, 2), 1);
+    runtime(tc(23, 2), 7);
 
     uint8_t line[11];
     wrote("exact room", line, sizeof line, tzq_write_label(tc(0, 2), dots(line, sizeof line), sizeof line, 0));
     wrote("no room", line, sizeof line, tzq_write_label(tc(0, 2), dots(line, sizeof line), sizeof line, 1));
     wrote("no wrap", line, sizeof line, tzq_write_label(tc(0, 2), dots(line, sizeof line), sizeof line, SIZE_MAX));
 
-    tzq_label s = tzq_sections(tc(-1800, 5));
-    printf("sections: %" PRIu64 " %d %" PRIu64 " %" PRIu64 " %" PRIu64 " %" PRIu64 "\n", s.refused, s.negative, s.hours, s.minutes,
-           s.seconds, s.frames);
-    s = tzq_sections(tc(-1800, 0));
-    printf("sections: %" PRIu64 " %d %" PRIu64 " %" PRIu64 " %" PRIu64 " %" PRIu64 "\n", s.refused, s.negative, s.hours, s.minutes,
-           s.seconds, s.frames);
+    sections(tc(-1800, 5));
+    sections(tc(-1800, 0));
 }
 
 static void times(void) {
-    counted("400000000 frames", tzq_with_frames(400000000, 2));
-    counted("400000001 frames", tzq_with_frames(400000001, 2));
-    counted("5292000000 ticks", tzq_with_premiere_ticks(5292000000, 2));
-    counted("5291999999 ticks", tzq_with_premiere_ticks(5291999999, 2));
-    counted("-5292000000 ticks", tzq_with_premiere_ticks(-5292000000, 2));
-    counted("3600 seconds", tzq_with_seconds(3600, 1, 1));
-    counted("1/0 seconds", tzq_with_seconds(1, 0, 1));
-    tzq_ticks t = tzq_premiere_ticks(tc(86400, 1));
-    printf("ticks: %" PRIu64 " %" PRId64 "\n", t.refused, t.ticks);
-    tzq_fraction f = tzq_seconds(tc(86400, 1));
-    printf("seconds: %" PRIu64 " %" PRId64 "/%" PRIu64 "\n", f.refused, f.numerator, f.denominator);
-    f = tzq_seconds(tc(86400, 13));
-    printf("seconds: %" PRIu64 " %" PRId64 "/%" PRIu64 "\n", f.refused, f.numerator, f.denominator);
+    counted("400000000 frames", tzq_with_frames(400000000, 2, false));
+    counted("400000001 frames", tzq_with_frames(400000001, 2, false));
+    counted("5292000000 ticks", tzq_with_premiere_ticks(5292000000, 2, false));
+    counted("5291999999 ticks", tzq_with_premiere_ticks(5291999999, 2, false));
+    counted("-5292000000 ticks", tzq_with_premiere_ticks(-5292000000, 2, false));
+    counted("3600 seconds", tzq_with_seconds(3600, 1, 1, false));
+    counted("1/0 seconds", tzq_with_seconds(1, 0, 1, false));
+    ticks(tc(86400, 1));
+    seconds(tc(86400, 1));
+    seconds(tc(86400, 13));
     const uint64_t rates[] = {2, 12};
-    tzq_converted c = tzq_convert(tc(1, 12), rates, 2);
-    printf("convert: %" PRIu64 " %" PRId64 " at %" PRIu64 "\n", c.refused, c.count, c.rate);
-    c = tzq_convert(tc(1, 12), rates, 0);
-    printf("convert: %" PRIu64 " %" PRId64 " at %" PRIu64 "\n", c.refused, c.count, c.rate);
+    convert(tc(1, 12), rates, 2);
+    convert(tc(1, 12), rates, 0);
 }
 
 static void arithmetic(void) {
     counted("5 at 24 plus -1 at 48", tzq_add(tc(5, 2), tc(-1, 8)));
     counted("5 at 24 minus 1 at 48", tzq_sub(tc(5, 2), tc(1, 8)));
-    tzq_order o = tzq_cmp(tc(1, 2), tc(2, 8));
-    printf("1 at 24 beside 2 at 48: %" PRIu64 " %" PRId64 "\n", o.refused, o.order);
-    o = tzq_cmp(tc(-1, 2), tc(-1, 8));
-    printf("-1 at 24 beside -1 at 48: %" PRIu64 " %" PRId64 "\n", o.refused, o.order);
+    ordered("1 at 24 beside 2 at 48", tzq_cmp(tc(1, 2), tc(2, 8)));
+    ordered("-1 at 24 beside -1 at 48", tzq_cmp(tc(-1, 2), tc(-1, 8)));
     counted("5 times 1/2", tzq_mul(tc(5, 2), 1, 2));
     counted("-1 by 2", tzq_div(tc(-1, 2), 2));
     counted("-1 rem 2", tzq_rem(tc(-1, 2), 2));
@@ -170,6 +196,101 @@ static void arithmetic(void) {
     counted("absolute -7", tzq_abs(tc(-7, 2)));
     counted("7 rebased", tzq_rebase(tc(7, 2), 12));
     counted("7 rebased to none", tzq_rebase(tc(7, 2), 13));
+}
+
+/* ---- positions; the table at the top of the header says what takes them ---- */
+
+/* The day's last label at 29.97 drop, a frame later, and back: a length's hours run on past 23, a position's day begins again. The count and
+ * kind of each answer are those of the next timecode; its rate is the one that was asked for. */
+static void midnight(bool position) {
+    static const char text[] = "23:59:59;29";
+    tzq_read_count r = tzq_read((const uint8_t *)text, strlen(text), 5, position);
+    reads(text, r);
+    tzq_timecode last = {r.count, 5, r.position};
+    tzq_count a = tzq_add(last, tc(1, 5));
+    counted("a frame later", a);
+    tzq_timecode later = {a.count, 5, a.position};
+    label(later);
+    a = tzq_sub(later, tc(1, 5));
+    counted("and back", a);
+    tzq_timecode back = {a.count, 5, a.position};
+    label(back);
+}
+
+/* what is made a position is rounded, then held to a length's bounds, then reduced by whole days, negative ones too */
+static void made(void) {
+    counted("-1 frames", tzq_with_frames(-1, 5, true));
+    counted("2589408 frames", tzq_with_frames(2589408, 5, true));
+    counted("400000001 frames", tzq_with_frames(400000001, 5, true));
+    counted("86401 seconds at 24", tzq_with_seconds(86401, 1, 2, true));
+    counted("86400 seconds at 29.97 drop", tzq_with_seconds(86400, 1, 5, true)); /* count 2589411, three past the day's labels */
+    counted("-5292000000 ticks", tzq_with_premiere_ticks(-5292000000, 2, true)); /* half a frame before midnight, rounded to -1 */
+    read_runtime("-0.5", 2, true);
+    read_position("129600+00", 2);
+    read_footage("-0+01", 4, true);
+}
+
+/* a label is not reduced: it must be strict and have no sign, else 14, and then not be dropped, else 3 */
+static void strict(void) {
+    read_position("1:00", 5);
+    read_position("23:60:00;00", 5);
+    read_position("24:00:00;00", 5);
+    read_position("-00:00:00;00", 5);
+    read_position("00:01:00;01", 5);
+    read_position("24:01:00;01", 5);
+}
+
+/* two timecodes of which one or both are positions; the difference of two is a length within one day, and not reduced */
+static void kinds(void) {
+    counted("1 at 24 plus position 48 at 48", tzq_add(tc(1, 2), pos(48, 8)));
+    counted("position 0 at 24 minus 1 at 48", tzq_sub(pos(0, 2), tc(1, 8)));
+    counted("00:00:00;00 minus 23:59:59;29", tzq_sub(pos(0, 5), pos(2589407, 5)));
+    ordered("00:00:00;00 beside 23:59:59;29", tzq_cmp(pos(0, 5), pos(2589407, 5)));
+    counted("position plus position", tzq_add(pos(1, 5), pos(1, 5)));
+    counted("length minus position", tzq_sub(tc(1, 5), pos(1, 5)));
+    ordered("length beside position", tzq_cmp(tc(1, 5), pos(1, 5)));
+}
+
+/* a position that is handed in lies in its rate's day, else 5; but 15 comes first */
+static void in_its_day(void) {
+    label(pos(2589408, 5));
+    label(pos(-1, 5));
+    counted("position past its day plus position", tzq_add(pos(2589408, 5), pos(1, 5)));
+}
+
+/* what else is told of a position, as of a length */
+static void told(void) {
+    sections(pos(1800, 5));
+    footage(pos(21, 2), 2);
+    runtime(pos(86400, 1), 6);
+    ticks(pos(86400, 1));
+    seconds(pos(86400, 1));
+}
+
+/* 15 for a position, and for its conversion through no rate at all too */
+static void lengths_only(void) {
+    const uint64_t rates[] = {12};
+    counted("position times 1/2", tzq_mul(pos(5, 2), 1, 2));
+    counted("position by 2", tzq_div(pos(5, 2), 2));
+    counted("position rem 2", tzq_rem(pos(5, 2), 2));
+    counted("position by 2/1", tzq_divq(pos(5, 2), 2, 1));
+    counted("position rem 3/2", tzq_remq(pos(5, 2), 3, 2));
+    counted("position negated", tzq_neg(pos(5, 2)));
+    counted("position absolute", tzq_abs(pos(5, 2)));
+    counted("position rebased", tzq_rebase(pos(5, 2), 12));
+    convert(pos(5, 2), rates, 1);
+    convert(pos(5, 2), rates, 0);
+}
+
+static void positions(void) {
+    midnight(false);
+    midnight(true);
+    made();
+    strict();
+    kinds();
+    in_its_day();
+    told();
+    lengths_only();
 }
 
 static void tables(void) {
@@ -249,6 +370,7 @@ int main(void) {
     texts();
     times();
     arithmetic();
+    positions();
     tables();
     lists();
     return 0;
