@@ -9,11 +9,12 @@
  *
  * Every function is total: it answers for all arguments, keeps nothing between calls, allocates nothing, and may be called from any
  * number of threads at once. A pointer must not be null and must point at as many elements as the length behind it says (a pointer to
- * anything will do where that is 0); a line that is written must not overlap anything else that is passed. What is compiled with this
- * header is linked with the library of the same version: structs may grow.
+ * anything will do where that is 0); a line that is written must not overlap anything else that is passed. Structs may grow and
+ * functions take more from version to version, under the same names: what is linked with the library is compiled with the header of the
+ * same version, all of it anew.
  *
  * Each answer begins with `refused`: 0, or one of the numbers below, and then every other number of the answer is 0 (but the place in
- * the text that tzq_read and tzq_read_as answer with 1 and 2), a fraction 0/1, and no byte of the line has changed. Of several refusals
+ * the text that tzq_read and tzq_read_as answer with 1 and 2), `position` false, a fraction 0/1, and no byte of the line has changed. Of several refusals
  * the first is given in the order 6, 15, 5 (of an input), 7, 1, 2, 4, 13 (of a footage) or 14 (of a label), 3, 5 (of the resulting count),
  * 8; of a shot list the earliest record at fault decides, and for a record the order is 9, 10, 6, 5, 11, 12; where a list is written, 8
  * comes last.
@@ -22,7 +23,8 @@
  *
  * A timecode is a length, or a position: a time of day, where `23:59:59;29` is followed by `00:00:00;00`. A length's count goes from
  * -400,000,000 to 400,000,000. A position's goes from 0 up to its rate's day, which is not included: 24 hours of the timebase, less the
- * dropped labels (2,589,408 at rate 5, 5,178,816 at rate 11); another count handed in is refused 5. What is made a position is rounded
+ * dropped labels, 86400 x timebase - 1296 x tzq_drop_frames_per_minute(rate) (2,589,408 at rate 5, 5,178,816 at rate 11); another count
+ * handed in is refused 5. What is made a position is rounded
  * first, then held to a length's bounds (5), then reduced by whole days, negative ones too. Which operations take what:
  *
  *     operation                                                        takes                   answers
@@ -85,8 +87,8 @@ enum {
 /* Rates 1 to 12: 23.98, 24, 25, 29.97, 29.97 drop, 30, 47.95, 48, 50, 59.94, 59.94 drop, 60.
  * Film formats 1 to 4: 4-perf, 3-perf, 2-perf on 35 mm; 16 mm. */
 
-/* A timecode: a count, a rate, and whether it is a position; where that is left out of an initializer it is a length. Nothing is assumed of
- * the two numbers: what takes a timecode refuses a rate that is none (6), then a position where none may be (15), then a count out of its
+/* A timecode: a count, a rate, and whether it is a position (false: a length). Set all three, or initialize: `{.count = 1, .rate = 5}` is a
+ * length. Nothing is assumed of the two numbers: what takes a timecode refuses a rate that is none (6), then a position where none may be (15), then a count out of its
  * bounds (5). `position` is a bool of C, true or false and nothing else. */
 typedef struct { int64_t count; uint64_t rate; bool position; } tzq_timecode;
 
@@ -213,24 +215,24 @@ tzq_count tzq_sub(tzq_timecode a, tzq_timecode b);
 tzq_order tzq_cmp(tzq_timecode a, tzq_timecode b);
 
 /* The product with p/q, rounded, halves away from zero: |p| at most 1,000,000, q from 1 to 1,000,000; a whole factor is p/1.
- * Refuses 6; 5: the count, p or q, or then the resulting count. */
+ * Refuses 6; 15: a position; 5: the count, p or q, or then the resulting count. */
 tzq_count tzq_mul(tzq_timecode tc, int64_t p, uint64_t q);
 
 /* The quotient by a whole number, truncated, and its remainder, which takes the dividend's sign; any divisor is taken but 0.
- * Refuses 6; 5: the count; 7: n is 0. */
+ * Refuses 6; 15: a position; 5: the count; 7: n is 0. */
 tzq_count tzq_div(tzq_timecode tc, int64_t n);
 tzq_count tzq_rem(tzq_timecode tc, int64_t n);
 
 /* The quotient by p/q, floored, and the remainder (count x q rem p)/q, with the dividend's sign, rounded: |p| at most 1,000,000,
- * q from 1 to 1,000,000. Refuses 6; 5: the count, p or q; 7: p is 0; 5: the resulting count. */
+ * q from 1 to 1,000,000. Refuses 6; 15: a position; 5: the count, p or q; 7: p is 0; 5: the resulting count. */
 tzq_count tzq_divq(tzq_timecode tc, int64_t p, uint64_t q);
 tzq_count tzq_remq(tzq_timecode tc, int64_t p, uint64_t q);
 
-/* The negated count, and the absolute count. Refuses 6, 5. */
+/* The negated count, and the absolute count. Refuses 6; 15: a position; 5. */
 tzq_count tzq_neg(tzq_timecode tc);
 tzq_count tzq_abs(tzq_timecode tc);
 
-/* The same count, taken at another rate. Refuses 6: either rate; 5: the count. */
+/* The same count, taken at another rate. Refuses 6: either rate; 15: a position; 5: the count. */
 tzq_count tzq_rebase(tzq_timecode tc, uint64_t rate);
 
 /* ---- Shot lists: records one after the other, each a byte of kind and a body whose length the kind fixes ----
