@@ -9,23 +9,23 @@
  *
  * Every function is total: it answers for all arguments, keeps nothing between calls, allocates nothing, and may be called from any
  * number of threads at once. A pointer must not be null and must point at as many elements as the length behind it says (a pointer to
- * anything will do where that is 0); a line that is written must not overlap anything else that is passed. Structs may grow and
- * functions take more from version to version, under the same names: what is linked with the library is compiled with the header of the
- * same version, all of it anew.
+ * anything will do where that is 0); a line that is written must not overlap anything else that is passed. Structs may grow and functions
+ * take more from version to version, under the same names: what is linked with the library is compiled with the header of the same
+ * version, all of it anew.
  *
- * Each answer begins with `refused`: 0, or one of the numbers below, and then every other number of the answer is 0 (but the place in
- * the text that tzq_read and tzq_read_as answer with 1 and 2), `position` false, a fraction 0/1, and no byte of the line has changed. Of several refusals
- * the first is given in the order 6, 15, 5 (of an input), 7, 1, 2, 4, 13 (of a footage) or 14 (of a label), 3, 5 (of the resulting count),
- * 8; of a shot list the earliest record at fault decides, and for a record the order is 9, 10, 6, 5, 11, 12; where a list is written, 8
- * comes last.
+ * Each answer begins with `refused`: 0, or one of the numbers below, and then every other number of the answer is 0 (but the place in the
+ * text that tzq_read and tzq_read_as answer with 1 and 2), `position` false, a fraction 0/1, and no byte of the line has changed. Of
+ * several refusals the first is given in the order 6, 15, 5 (of an input), 7, 1, 2, 4, 13 (of a footage) or 14 (of a label), 3, 5 (of the
+ * resulting count), 8; of a shot list the earliest record at fault decides, and for a record the order is 9, 10, 6, 5, 11, 12; where a
+ * list is written, 8 comes last.
  *
  * ---- Lengths and positions ----
  *
  * A timecode is a length, or a position: a time of day, where `23:59:59;29` is followed by `00:00:00;00`. A length's count goes from
  * -400,000,000 to 400,000,000. A position's goes from 0 up to its rate's day, which is not included: 24 hours of the timebase, less the
  * dropped labels, 86400 x timebase - 1296 x tzq_drop_frames_per_minute(rate) (2,589,408 at rate 5, 5,178,816 at rate 11); another count
- * handed in is refused 5. What is made a position is rounded
- * first, then held to a length's bounds (5), then reduced by whole days, negative ones too. Which operations take what:
+ * handed in is refused 5. What is made a position is rounded first, then held to a length's bounds (5), then reduced by whole days,
+ * negative ones too. Which operations take what:
  *
  *     operation                                                        takes                   answers
  *     tzq_with_frames, tzq_with_premiere_ticks, tzq_with_seconds,      position true or false  a position or a length, as asked
