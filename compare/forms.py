@@ -70,7 +70,7 @@ def shown(command, answer):
             return b"label " + answer
         return b"footage %s %d" % (answer, 2 if b"." in rest else 1)
     if word == b"read_as":
-        return b"footage %s %s" % (answer, rest.partition(b" ")[0])
+        return b"footage %s %d" % (answer, model.number(rest.partition(b" ")[0]))
     return answer
 
 
@@ -79,8 +79,21 @@ def from_crate(command, answer):
     return shown(command, MEANT.get(answer, answer))
 
 
+def is_understood(command):
+    """What the model does not look at: PLACE is 0 or more, ROOM 0 to 128, and at most 64 rates are listed."""
+    word, *words = command.split(b" ")
+    if word == b"convert":
+        return len(words) <= 2 + 64
+    if word not in WRITERS:
+        return True
+    line = [model.number(number) for number in words[-2:]]
+    return len(line) == 2 and None not in line and 0 <= line[0] and 0 <= line[1] <= 128
+
+
 def from_model(command):
     """What `ask` answers if it agrees with the model."""
+    if not is_understood(command):
+        return b"not understood"
     return shown(command, model.answer(for_model(command)).encode())
 
 

@@ -5,7 +5,8 @@
 or `refused N`; `not understood` for what is no command. `python3 compare/model.py cases` runs the worked cases. Rules stand in
 quotation marks.
 
-Texts are bytes. Writers give the text itself, without a line to lay it down in, so 8 is never given here.
+A timecode is a length or a position; the rate of a position has the mark `@` before it, and so has a count in an answer that is a
+position's. Texts are bytes. Writers give the text itself, without a line to lay it down in, so 8 is never given here.
 """
 
 import re
@@ -42,6 +43,27 @@ FORMATS = {1: (4, 64), 2: (3, 64), 3: (2, 64), 4: (1, 20)}
 BOUND = 400_000_000
 
 
+class Marked(int):
+    """A number with the mark `@`: the rate of a position, or its count in an answer."""
+
+    def __str__(self):
+        return f"@{int(self)}"
+
+
+def is_position(rate):
+    """ "A timecode now says whether it is a position or a length." """
+    return isinstance(rate, Marked)
+
+
+def day(rate):
+    """ "24 hours of the timebase, less the dropped labels": D in each minute that is no multiple of 10."""
+    return 24 * 60 * 60 * RATES[rate][2] - DROPPED.get(rate, 0) * (24 * 60 - 24 * 6)
+
+
+# "so 2,589,408 at rate 5 and 5,178,816 at rate 11"
+assert (day(5), day(11)) == (2_589_408, 5_178_816)
+
+
 class Refused(Exception):
     """A refusal, with its number."""
 
@@ -50,7 +72,7 @@ class Refused(Exception):
         self.number = number
 
 
-# -- What is checked first: "Order: 6, input bounds (5), 7, 1, 2, 4, 13, 3, resulting count (5), 8." --
+# -- What is checked first: "6, 15, [..] input bounds (5), 7, 1, 2, 4, then 13 for a footage and 14 for a label, 3, resulting count (5), 8" --
 
 
 def known_rates(*rates):
@@ -65,14 +87,24 @@ def known_format(form):
         raise Refused(6)
 
 
+def of_kinds(allowed, *rates):
+    """15: "adding two positions, taking a position from a length, comparing a position with a length, or giving a position to an
+    operation for lengths only". What is allowed is said by letters: `l` is a length, `p` a position."""
+    if "".join("p" if is_position(rate) else "l" for rate in rates) not in allowed:
+        raise Refused(15)
+
+
 def within(number, low, high):
     """5: "an input number [..] is outside its bounds"."""
     if not low <= number <= high:
         raise Refused(5)
 
 
-def given(*counts):
-    for count in counts:
+def given(rate, count):
+    """A timecode's count: "A position's count lies from 0 up to its rate's day, which isn't included"."""
+    if is_position(rate):
+        within(count, 0, day(rate) - 1)
+    else:
         within(count, -BOUND, BOUND)
 
 
@@ -92,6 +124,13 @@ def counted(count):
     """5: "the resulting count [..] is outside its bounds"."""
     within(count, -BOUND, BOUND)
     return count
+
+
+def made(rate, count):
+    """The resulting count at a rate: "Making or adding positions reduces the count by whole days, negative ones too, after the bound on
+    it is checked." """
+    counted(count)
+    return Marked(count % day(rate)) if is_position(rate) else count
 
 
 # -- Rounding --
@@ -166,10 +205,10 @@ def read(rate, text):
     known_rates(rate)
     label, footage = LABEL.fullmatch(text), FOOTAGE.fullmatch(text)
     if label:
-        return counted(label_read(rate, label))
+        return made(rate, label_read(rate, label))
     if footage:
         # "Without a stated format, perf present means 3-perf, absent means 4-perf."
-        return counted(footage_read(1 if footage[4] is None else 2, footage))
+        return made(rate, footage_read(1 if footage[4] is None else 2, footage))
     raise Refused(1)
 
 
@@ -180,7 +219,7 @@ def read_as(form, rate, text):
     footage = FOOTAGE.fullmatch(text)
     if not footage:
         raise Refused(1)
-    return counted(footage_read(form, footage))
+    return made(rate, footage_read(form, footage))
 
 
 def label_read(rate, match):
@@ -188,6 +227,9 @@ def label_read(rate, match):
     values = fields(*re.split(rb"[:;]", numbers))
     # "The last is frames, then leftward seconds, minutes, hours"
     hours, minutes, seconds, frames = right_justified(values, 4)
+    # 14: "a position label that isn't strict or has a sign"
+    if is_position(rate) and (sign or not is_strict(rate, hours, minutes, seconds, frames)):
+        raise Refused(14)
     if is_dropped(rate, minutes, seconds, frames):
         raise Refused(3)
     return with_sign(sign, label_count(rate, hours, minutes, seconds, frames))
@@ -216,7 +258,7 @@ def read_runtime(rate, text):
     hours, minutes, seconds = right_justified(values, 3)
     unit = 10 ** len(fraction)
     whole = (60 * hours + minutes) * 60 + seconds
-    return counted(with_sign(sign, seconds_count(rate, whole * unit + int(fraction or b"0"), unit)))
+    return made(rate, with_sign(sign, seconds_count(rate, whole * unit + int(fraction or b"0"), unit)))
 
 
 # -- Labels and counts --
@@ -233,11 +275,16 @@ def is_dropped(rate, minutes, seconds, frames):
     return seconds == 0 and frames < DROPPED.get(rate, 0) and minutes % 10 != 0
 
 
+def is_strict(rate, hours, minutes, seconds, frames):
+    """ "strict (hours under 24, minutes and seconds under 60, frames under the timebase)"."""
+    return hours < 24 and minutes < 60 and seconds < 60 and frames < RATES[rate][2]
+
+
 def sections(rate, count):
     """Hours, minutes, seconds and frames: "those of the one allowed label, with minutes and seconds under 60 and frames
     under the timebase, whose count is the absolute count. Hours run on past 23." """
     known_rates(rate)
-    given(count)
+    given(rate, count)
     timebase, drop = RATES[rate][2], DROPPED.get(rate, 0)
     # ten minutes: one of 60 timebases, then nine of D fewer, whose first label is D
     tens, rest = divmod(abs(count), 600 * timebase - 9 * drop)
@@ -289,7 +336,7 @@ def footage(form, rate, count):
     at least; `-` in front if the count is below 0. 3-perf adds `.` and feet modulo 3." """
     known_rates(rate)
     known_format(form)
-    given(count)
+    given(rate, count)
     perfs, perfs_a_foot = FORMATS[form]
     feet, rest = divmod(abs(count) * perfs + perfs - 1, perfs_a_foot)
     return f"{minus(count)}{feet}+{rest // perfs:02}" + (f".{feet % 3}" if form == 2 else "")
@@ -305,36 +352,35 @@ def seconds_count(rate, p, q):
 
 
 def count_itself(rate, count):
-    """The count of a timecode that is given as one."""
+    """The count of a timecode that is made from one."""
     known_rates(rate)
-    given(count)
-    return count
+    return made(rate, count)
 
 
 def from_ticks(rate, ticks):
     """ "Ticks, seconds and runtime become the nearest frame, halves away from zero." """
     known_rates(rate)
-    return counted(nearest(ticks, RATES[rate][3]))
+    return made(rate, nearest(ticks, RATES[rate][3]))
 
 
 def from_seconds(rate, p, q):
     """ "Seconds p/q: |p| at most 10^12, q from 1 to 1,000,000." """
     known_rates(rate)
     given_fraction(p, q, 10**12)
-    return counted(seconds_count(rate, p, q))
+    return made(rate, seconds_count(rate, p, q))
 
 
 def ticks(rate, count):
     """ "its instant in ticks is count times the last column, exactly"."""
     known_rates(rate)
-    given(count)
+    given(rate, count)
     return count * RATES[rate][3]
 
 
 def seconds(rate, count):
     """ "seconds as a fraction in lowest terms"."""
     known_rates(rate)
-    given(count)
+    given(rate, count)
     n, d, _, _ = RATES[rate]
     common = gcd(count * d, n)
     return f"{count * d // common}/{n // common}"
@@ -345,7 +391,7 @@ def runtime(rate, count, precision):
     hours, trailing zeros dropped but one digit kept (`.0` at precision 0 [..]), hours, minutes and seconds of two digits
     at least, `-` if the count is below 0" """
     known_rates(rate)
-    given(count)
+    given(rate, count)
     within(precision, 0, 6)
     n, d, _, _ = RATES[rate]
     whole, fraction = divmod(nearest(abs(count) * d * 10**precision, n), 10**precision)
@@ -368,28 +414,42 @@ def minute(m):
 def add(rate, count, rate2, count2):
     """ "A sum or difference of two timecodes is the exact instant, rounded at the left one's rate." """
     known_rates(rate, rate2)
-    given(count, count2)
-    return counted(nearest(count * RATES[rate][3] + count2 * RATES[rate2][3], RATES[rate][3]))
+    of_kinds(("ll", "pl", "lp"), rate, rate2)
+    given(rate, count)
+    given(rate2, count2)
+    # "A position plus or minus a length, or a length plus a position, is a position at the left one's rate"
+    left = Marked(rate) if is_position(rate2) else rate
+    return made(left, nearest(count * RATES[rate][3] + count2 * RATES[rate2][3], RATES[rate][3]))
 
 
 def sub(rate, count, rate2, count2):
     known_rates(rate, rate2)
-    given(count, count2)
-    return counted(nearest(count * RATES[rate][3] - count2 * RATES[rate2][3], RATES[rate][3]))
+    of_kinds(("ll", "pl", "pp"), rate, rate2)
+    given(rate, count)
+    given(rate2, count2)
+    # "position minus position is a length that may be negative"
+    left = int(rate) if is_position(rate2) else rate
+    return made(left, nearest(count * RATES[rate][3] - count2 * RATES[rate2][3], RATES[rate][3]))
 
 
 def cmp(rate, count, rate2, count2):
-    """ "Comparison is by instant." """
+    """ "Comparison is by instant." "Two positions may be compared." """
     known_rates(rate, rate2)
-    given(count, count2)
+    of_kinds(("ll", "pp"), rate, rate2)
+    given(rate, count)
+    given(rate2, count2)
     left, right = count * RATES[rate][3], count2 * RATES[rate2][3]
     return (left > right) - (left < right)
+
+
+# "Products, divisions, remainders, negation, absolute value, `rebase` and conversion take lengths only."
 
 
 def mul(rate, count, p, q):
     """ "Product with p/q: rounded." "Factors and rational divisors p/q: |p| at most 1,000,000" """
     known_rates(rate)
-    given(count)
+    of_kinds("l", rate)
+    given(rate, count)
     given_fraction(p, q, 1_000_000)
     return counted(nearest(count * p, q))
 
@@ -397,7 +457,8 @@ def mul(rate, count, p, q):
 def div(rate, count, n):
     """ "Integer division truncates"."""
     known_rates(rate)
-    given(count)
+    of_kinds("l", rate)
+    given(rate, count)
     not_zero(n)
     return counted(truncated(count, n))
 
@@ -405,7 +466,8 @@ def div(rate, count, n):
 def rem(rate, count, n):
     """ "its remainder takes the dividend's sign"."""
     known_rates(rate)
-    given(count)
+    of_kinds("l", rate)
+    given(rate, count)
     not_zero(n)
     return counted(remainder(count, n))
 
@@ -413,7 +475,8 @@ def rem(rate, count, n):
 def divq(rate, count, p, q):
     """ "Division by p/q floors"."""
     known_rates(rate)
-    given(count)
+    of_kinds("l", rate)
+    given(rate, count)
     given_fraction(p, q, 1_000_000)
     not_zero(p)
     return counted(count * q // p)
@@ -422,7 +485,8 @@ def divq(rate, count, p, q):
 def remq(rate, count, p, q):
     """ "its remainder is (f x q rem p)/q, dividend's sign, rounded"."""
     known_rates(rate)
-    given(count)
+    of_kinds("l", rate)
+    given(rate, count)
     given_fraction(p, q, 1_000_000)
     not_zero(p)
     return counted(nearest(remainder(count * q, p), q))
@@ -431,27 +495,31 @@ def remq(rate, count, p, q):
 def neg(rate, count):
     """ "Negation and absolute value act on the count." """
     known_rates(rate)
-    given(count)
+    of_kinds("l", rate)
+    given(rate, count)
     return -count
 
 
 def absolute(rate, count):
     known_rates(rate)
-    given(count)
+    of_kinds("l", rate)
+    given(rate, count)
     return abs(count)
 
 
 def rebase(rate, count, rate2):
     """ "`rebase` keeps the count"."""
     known_rates(rate, rate2)
-    given(count)
+    of_kinds("l", rate)
+    given(rate, count)
     return count
 
 
 def convert(rate, count, *rates):
     """ "the nearest frame taken at every listed rate in turn"; "An empty list of rates gives back the start." """
     known_rates(rate, *rates)
-    given(count)
+    of_kinds("l", rate)
+    given(rate, count)
     for step in rates:
         # "(through a list of rates, the count after any step)"
         count = counted(nearest(count * RATES[rate][3], RATES[step][3]))
@@ -489,6 +557,9 @@ NUMBERS = {
     b"minute": (minute, 1),
 }
 
+# which of a command's numbers are the rates of timecodes, and so may have the mark; of every other one the first alone
+RATES_AT = {b"read_as": (1,), b"footage": (1,), b"add": (0, 2), b"sub": (0, 2), b"cmp": (0, 2), b"minute": ()}
+
 NUMBER = re.compile(rb"(-?)0*([0-9]{1,19})")
 
 
@@ -497,6 +568,12 @@ def number(word):
     match = NUMBER.fullmatch(word)
     value = int(match[1] + match[2]) if match else None
     return value if match and -(2**63) <= value < 2**63 else None
+
+
+def rate_number(word):
+    """A number that may have the mark: "`@` before the RATE of a timecode makes it a position"."""
+    value = number(word.removeprefix(b"@"))
+    return Marked(value) if value is not None and word.startswith(b"@") else value
 
 
 def answer(line):
@@ -516,7 +593,8 @@ def answer(line):
         words = rest.split(b" ")
     else:
         return "not understood"
-    numbers = [number(word) for word in words]
+    rates = RATES_AT.get(command, (0,))
+    numbers = [rate_number(word) if n in rates else number(word) for n, word in enumerate(words)]
     if len(numbers) != wanted or None in numbers:
         return "not understood"
     try:
@@ -570,6 +648,28 @@ minute 2 = 3598
 minute 9 = 16184
 minute 10 = 17982
 minute 1439 = 2587610
+label @5 2589407 = 23:59:59;29
+label @5 2589408 = refused 5
+read @5 23:59:59;29 = @2589407
+read @5 24:00:00;00 = refused 14
+read @5 24:01:00;00 = refused 14
+read @5 00:01:00;00 = refused 3
+read @5 -0 = refused 14
+read 5 24:00:00;00 = 2589408
+count @5 -1 = @2589407
+count @5 2589408 = @0
+count @11 5178816 = @0
+count @11 5178815 = @5178815
+add @5 10 5 3 = @13
+add 5 3 @5 10 = @13
+add @5 2589407 5 1 = @0
+sub @2 0 8 1 = @2073599
+sub @5 0 @5 10 = -10
+cmp @5 0 @5 10 = -1
+add @5 10 @5 3 = refused 15
+sub 5 10 @5 3 = refused 15
+cmp @5 10 5 3 = refused 15
+convert @5 10 = refused 15
 """
 
 

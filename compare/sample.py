@@ -73,8 +73,8 @@ def with_line(command):
 
 
 def of_cases():
-    """The worked cases and the list's inputs."""
-    cases = (case.rpartition(" = ")[0].encode() for case in model.CASES.strip().split("\n"))
+    """The worked cases and the list's inputs; of positions, which the crate has none of, there are cases in cases.txt."""
+    cases = (case.rpartition(" = ")[0].encode() for case in model.CASES.strip().split("\n") if "@" not in case)
     return [*map(with_line, cases), *(command for command, _ in comparison.shown_in_list())]
 
 
