@@ -13,7 +13,7 @@ use Rattle.numbers.proofs.Statements.{nearest-is, nearest-one}
 use Rattle.answers.specs.declared.Counted.{Counted}
 use Rattle.answers.specs.declared.Counted.the-variants as counted
 use Rattle.answers.specs.Order.{unless, Clear}
-use Rattle.answers.specs.OrderLaws.{unless-clear, not-in, in-not}
+use Rattle.answers.specs.OrderLaws.{unless-clear, not-in}
 use Rattle.answers.specs.Refusals.{badCount, held}
 use Rattle.rates.specs.Rates.{isRate, frameTicks, badRate}
 use Rattle.rates.specs.Rule.{frameTicks-pos}
@@ -118,9 +118,19 @@ module _ (minus : Bool) (a b : Timecode) where
     joined-exact m f = joined-exact-as Length m ∙ length-moved a (held (sumOr minus (a .count) (b .count))) f
 
   -- ---- 15 exactly when the two are never mixed
-  pub joined-refused : isRate (a .rate) ≡ true → isRate (b .rate) ≡ true
-      → (numberOf (joined minus a b) ≡ 15) ↔ (isNever (mixedKinds (joiningOf minus) (a .kind) (b .kind)) ≡ true)
+  pub joined-refused :
+      (numberOf (joined minus a b) ≡ 15)
+      ↔ (Clear (badRate (a .rate) ∷ badRate (b .rate) ∷ []) × (isNever (mixedKinds (joiningOf minus) (a .kind) (b .kind)) ≡ true))
   unfolding joined
-  joined-refused h k =
+  joined-refused =
       barred-exactly numberOf Refused (λ e. refl) (badRate (a .rate) ∷ badRate (b .rate) ∷ []) (badInput a ∷ badInput b ∷ badCount frame ∷ [])
-      (in-not h, (in-not k, tt)) refl (At (made kind frame (a .rate))) refl (isNever (mixedKinds (joiningOf minus) (a .kind) (b .kind)))
+      refl refl (At (made kind frame (a .rate))) refl (isNever (mixedKinds (joiningOf minus) (a .kind) (b .kind)))
+
+  -- what is joined is within its bounds
+  pub joined-takes : (end : Timecode) → joined minus a b ≡ At end → Valid a × Valid b
+  unfolding joined
+  joined-takes end h =
+      let clear = at-told (joinedWhen minus a b) (made kind frame (a .rate)) end h .0 in (
+        record { rate = not-in _ (clear .0); within = not-in _ (clear .1 .1 .1 .0) },
+        record { rate = not-in _ (clear .1 .0); within = not-in _ (clear .1 .1 .1 .1 .0) },
+      )

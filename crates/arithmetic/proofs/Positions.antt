@@ -12,9 +12,10 @@ use lib.Dec.{T}
 use lib.IntN.{ℤ, pos, negsuc, negℤ, natAbs, _+ℤ_, _-ℤ_, -ℤ-+ℤ-cancel, +ℤ-comm}
 use Rattle.numbers.specs.DistanceLaws.{far}
 use Rattle.numbers.specs.ModuloLaws.{reduced-in}
+use Rattle.answers.specs.declared.Refusal.{Refusal}
 use Rattle.answers.specs.declared.Counted.{Counted}
-use Rattle.answers.specs.Order.{Condition, unless}
-use Rattle.answers.specs.OrderLaws.{in-not}
+use Rattle.answers.specs.Order.{Condition, unless, Clear}
+use Rattle.answers.specs.OrderLaws.{unless-told, not-in, in-not}
 use Rattle.answers.specs.Laws.{held-in}
 use Rattle.answers.specs.Refusals.{mostCount, isCount, held}
 use Rattle.rates.specs.Rates.{isRate, badRate}
@@ -26,9 +27,10 @@ use Rattle.timecodes.specs.declared.kinds.Kind.the-variants.{Length, Position}
 use Rattle.timecodes.specs.declared.kinds.Joining.the-variants.{Sum, Difference, Comparison}
 use Rattle.timecodes.specs.declared.kinds.Mixed.the-variants.{Of}
 use Rattle.timecodes.specs.Kinds.{isPosition, mixedKinds, isNever, kindIn}
-use Rattle.timecodes.specs.Timecode.{timecode, position, recounted, moved, placed, numberOf}
+use Rattle.timecodes.specs.Timecode.{timecodeAs, timecode, position, recounted, moved, placed, numberOf}
 use Rattle.timecodes.specs.Made.{made, inDay, settled}
-use Rattle.timecodes.specs.Admitted.{badInput, admitsLength, Valid}
+use Rattle.timecodes.specs.Admitted.{badInput, admitsLength, admitsBoth, Valid}
+use Rattle.timecodes.specs.AdmittedLaws.{at-told, admitsLength-valid, admitsLength-length, admitsBoth-left, admitsBoth-right}
 use Rattle.timecodes.specs.KindLaws.{below15, barred-exactly, position-exactly}
 use Rattle.timecodes.specs.MadeLaws.{inDay-one, inDay-own, under-day}
 use Rattle.timecodes.specs.Instant.{instant}
@@ -43,8 +45,9 @@ use Rattle.arithmetic.specs.Compare.{orderOf, compareOf}
 use Rattle.arithmetic.specs.Compare as compare
 use Rattle.arithmetic.specs.Count.{negOf, absOf, rebaseOf}
 use Rattle.arithmetic.specs.PositionStatements.{SumKind, DifferenceKind, SumInDay, DifferenceInDay, SumExactAs, DifferenceExactAs}
-use Rattle.arithmetic.specs.PositionStatements.{SumRefused, DifferenceRefused, CompareRefused, LengthsOnly, Midnight, ThereAgain}
-use Rattle.arithmetic.proofs.Joining.{joined-kind, joined-in-day, joined-exact-as, joined-refused}
+use Rattle.arithmetic.specs.PositionStatements.{SumTakes, DifferenceTakes, CompareTakes, BothRates, SumRefused, DifferenceRefused, CompareRefused}
+use Rattle.arithmetic.specs.PositionStatements.{PositionAtRate, LengthsOnly, LengthTo, LengthsAnswered, Midnight, ThereAgain}
+use Rattle.arithmetic.proofs.Joining.{joined-kind, joined-in-day, joined-exact-as, joined-refused, joined-takes}
 
 -- ---- what two come to
 
@@ -87,7 +90,7 @@ difference-exact-as = joined-exact-as true
 
 -- the two kinds are two
 apart : {X : Type 0} → Length ≡ Position → X
-apart e = absurd (subst T (sym (ap isPosition e)) tt)
+apart e = absurd (position-apart (sym e))
 
 -- each row of the table that is never mixed
 sum-never : (a b : Kind) → (isNever (mixedKinds Sum a b) ≡ true) ↔ ((a ≡ Position) × (b ≡ Position))
@@ -108,43 +111,111 @@ comparison-never Length Position = (λ e h. apart h, λ h. refl)
 comparison-never Position Length = (λ e h. apart (sym h), λ h. refl)
 comparison-never Position Position = (λ e. absurd (subst T (sym e) tt), λ h. absurd (h refl))
 
--- one 'exactly' behind another
-through : {A B C : Type 0} → A ↔ B → B ↔ C → A ↔ C
-through f g = (λ x. g .0 (f .0 x), λ z. f .1 (g .1 z))
+pub sum-takes : SumTakes
+sum-takes = joined-takes false
+
+pub difference-takes : DifferenceTakes
+difference-takes = joined-takes true
+
+pub compare-takes : CompareTakes
+unfolding compareOf
+compare-takes a b o h =
+    let clear = unless-told compared.Refused (admitsBoth Comparison a b) (compared.Order (orderOf (instant a) (instant b))) (compared.Order o) none h .0 in
+    (admitsBoth-left Comparison a b clear, admitsBoth-right Comparison a b clear)
+  where
+    none : (e : Refusal) → compared.Refused e ≡ compared.Order o → ⊥
+    none e k = let clash : _≡_ {A = ℕ} 0 1 = cc in omega arith
+
+-- 15 behind two rates, and the kinds by their row
+behind-rates : {X Y Z : Type 0} (a b : Timecode) → X ↔ (Clear (badRate (a .rate) ∷ badRate (b .rate) ∷ []) × Y) → Y ↔ Z → X ↔ (BothRates a b × Z)
+behind-rates a b f g = (
+  λ x. let c = f .0 x in ((not-in _ (c .0 .0), not-in _ (c .0 .1 .0)), g .0 (c .1)),
+  λ z. f .1 ((in-not (z .0 .0), (in-not (z .0 .1), tt)), g .1 (z .1)),
+)
 
 pub sum-refused : SumRefused
-sum-refused a b h k = through (joined-refused false a b h k) (sum-never (a .kind) (b .kind))
+sum-refused a b = behind-rates a b (joined-refused false a b) (sum-never (a .kind) (b .kind))
 
 pub difference-refused : DifferenceRefused
-difference-refused a b h k = through (joined-refused true a b h k) (difference-never (a .kind) (b .kind))
+difference-refused a b = behind-rates a b (joined-refused true a b) (difference-never (a .kind) (b .kind))
 
 pub compare-refused : CompareRefused
 unfolding compareOf
-compare-refused a b h k =
-    through
+compare-refused a b =
+    behind-rates a b
     (barred-exactly compare.numberOf compared.Refused (λ e. refl) (badRate (a .rate) ∷ badRate (b .rate) ∷ []) (badInput a ∷ badInput b ∷ [])
-    (in-not h, (in-not k, tt)) refl (compared.Order (orderOf (instant a) (instant b))) refl (isNever (mixedKinds Comparison (a .kind) (b .kind))))
+    refl refl (compared.Order (orderOf (instant a) (instant b))) refl (isNever (mixedKinds Comparison (a .kind) (b .kind))))
     (comparison-never (a .kind) (b .kind))
 
 -- an operation for lengths only, whatever comes behind its admission
-only : (tc end : Timecode) (more : List Condition) → isRate (tc .rate) ≡ true → below15 more ≡ true
-    → (numberOf (unless Refused (admitsLength tc ++ more) (At end)) ≡ 15) ↔ (tc .kind ≡ Position)
-only tc end more h below =
-    position-exactly numberOf Refused (λ e. refl) (badRate (tc .rate) ∷ []) (badInput tc ∷ more) (in-not h, tt) below (At end) refl (tc .kind)
+only : (tc end : Timecode) (more : List Condition) → below15 more ≡ true
+    → (numberOf (unless Refused (admitsLength tc ++ more) (At end)) ≡ 15) ↔ PositionAtRate tc
+only tc end more below =
+    let x = position-exactly numberOf Refused (λ e. refl) (badRate (tc .rate) ∷ []) (badInput tc ∷ more) refl below (At end) refl (tc .kind) in
+    (λ e. let c = x .0 e in (not-in _ (c .0 .0), c .1), λ h. x .1 ((in-not (h .0), tt), h .1))
+
+rebased-only : (tc : Timecode) (rate : ℕ) → (numberOf (rebaseOf tc rate) ≡ 15) ↔ ((isRate rate ≡ true) × PositionAtRate tc)
+unfolding rebaseOf
+rebased-only tc rate =
+    let x =
+    position-exactly numberOf Refused (λ e. refl) (badRate rate ∷ badRate (tc .rate) ∷ []) (badInput tc ∷ []) refl refl
+    (At (moved tc (tc .count) rate)) refl (tc .kind) in
+    (λ e. let c = x .0 e in (not-in _ (c .0 .0), (not-in _ (c .0 .1 .0), c .1)), λ h. x .1 ((in-not (h .0), (in-not (h .1 .0), tt)), h .1 .1))
 
 pub lengths-only : LengthsOnly
-unfolding mulOf divOf remOf divqOf remqOf negOf absOf rebaseOf
+unfolding mulOf divOf remOf divqOf remqOf negOf absOf
 lengths-only =
     record {
-      product = λ tc p q h. only tc _ (productWhen (tc .count) p q) h refl;
-      quotient = λ tc n h. only tc _ (badDivisor n ∷ []) h refl;
-      remainder = λ tc n h. only tc _ (badDivisor n ∷ []) h refl;
-      quotient-by = λ tc p q h. only tc _ (flooredWhen (tc .count) p q) h refl;
-      remainder-by = λ tc p q h. only tc _ (leftWhen (tc .count) p q) h refl;
-      negated = λ tc h. only tc (recounted tc (negℤ (tc .count))) [] h refl;
-      absolute = λ tc h. only tc (recounted tc (pos (natAbs (tc .count)))) [] h refl;
-      rebased = λ tc rate h k. position-exactly numberOf Refused (λ e. refl) (badRate rate ∷ badRate (tc .rate) ∷ []) (badInput tc ∷ [])
-          (in-not k, (in-not h, tt)) refl (At (moved tc (tc .count) rate)) refl (tc .kind);
+      product = λ tc p q. only tc _ (productWhen (tc .count) p q) refl;
+      quotient = λ tc n. only tc _ (badDivisor n ∷ []) refl;
+      remainder = λ tc n. only tc _ (badDivisor n ∷ []) refl;
+      quotient-by = λ tc p q. only tc _ (flooredWhen (tc .count) p q) refl;
+      remainder-by = λ tc p q. only tc _ (leftWhen (tc .count) p q) refl;
+      negated = λ tc. only tc (recounted tc (negℤ (tc .count))) [] refl;
+      absolute = λ tc. only tc (recounted tc (pos (natAbs (tc .count)))) [] refl;
+      rebased = rebased-only;
+    }
+
+-- ---- what is answered of a length
+
+-- behind its admission and more
+length-to : (tc end : Timecode) (more : List Condition) (z : ℤ) → unless Refused (admitsLength tc ++ more) (At (recounted tc z)) ≡ At end
+    → LengthTo tc end z (tc .rate)
+length-to tc end more z h =
+    let told = at-told (admitsLength tc ++ more) (recounted tc z) end h in
+    let clear : Clear (admitsLength tc) = (told .0 .0, (told .0 .1 .0, (told .0 .1 .1 .0, tt))) in
+    let l = admitsLength-length tc clear in
+    record { taken = admitsLength-valid tc clear; length = l; is = sym (told .1) ∙ ap (λ (k : Kind). timecodeAs k z (tc .rate)) l }
+
+-- where its own count is not named
+own-count : (tc end : Timecode) (z : ℤ) → LengthTo tc end z (tc .rate) → LengthTo tc end (end .count) (tc .rate)
+own-count tc end z x =
+    record {
+      taken = x .taken;
+      length = x .length;
+      is = x .is ∙ ap (λ (y : ℤ). timecode y (tc .rate)) (sym (ap (λ (t : Timecode). t .count) (x .is)));
+    }
+
+rebased-to : (tc end : Timecode) (rate : ℕ) → rebaseOf tc rate ≡ At end → LengthTo tc end (tc .count) rate
+unfolding rebaseOf
+rebased-to tc end rate h =
+    let told = at-told (badRate rate ∷ admitsLength tc) (moved tc (tc .count) rate) end h in
+    let clear : Clear (admitsLength tc) = told .0 .1 in
+    let l = admitsLength-length tc clear in
+    record { taken = admitsLength-valid tc clear; length = l; is = sym (told .1) ∙ ap (λ (k : Kind). timecodeAs k (tc .count) rate) l }
+
+pub lengths-answered : LengthsAnswered
+unfolding mulOf divOf remOf divqOf remqOf negOf absOf
+lengths-answered =
+    record {
+      product = λ tc end p q h. own-count tc end _ (length-to tc end (productWhen (tc .count) p q) _ h);
+      quotient = λ tc end n h. own-count tc end _ (length-to tc end (badDivisor n ∷ []) _ h);
+      remainder = λ tc end n h. own-count tc end _ (length-to tc end (badDivisor n ∷ []) _ h);
+      quotient-by = λ tc end p q h. own-count tc end _ (length-to tc end (flooredWhen (tc .count) p q) _ h);
+      remainder-by = λ tc end p q h. own-count tc end _ (length-to tc end (leftWhen (tc .count) p q) _ h);
+      negated = λ tc end h. length-to tc end [] (negℤ (tc .count)) h;
+      absolute = λ tc end h. length-to tc end [] (pos (natAbs (tc .count))) h;
+      rebased = rebased-to;
     }
 
 -- ---- the day

@@ -4,7 +4,7 @@ use Prim.Native.Nat.{ℕ, _-_, _<_}
 use mathlib.Core.Path.{_≡_}
 use mathlib.Core.Logic.{_↔_}
 use mathlib.Core.Bool.{true}
-use lib.IntN.{ℤ, pos, _+ℤ_, _-ℤ_}
+use lib.IntN.{ℤ, pos, negℤ, natAbs, _+ℤ_, _-ℤ_}
 use Rattle.numbers.specs.Nearest.{Nearest}
 use Rattle.answers.specs.Refusals.{held}
 use Rattle.rates.specs.Rates.{isRate, frameTicks}
@@ -20,6 +20,7 @@ use Rattle.timecodes.specs.Timecode.{timecode, position, placed, numberOf}
 use Rattle.timecodes.specs.Made.{OfDay, settled}
 use Rattle.timecodes.specs.Admitted.{Valid}
 use Rattle.timecodes.specs.Instant.{instant}
+use Rattle.arithmetic.specs.declared.Compared.the-variants.{Order}
 use Rattle.arithmetic.specs.Sum.{addOf, subOf}
 use Rattle.arithmetic.specs.Product.{mulOf}
 use Rattle.arithmetic.specs.Truncating.{divOf, remOf}
@@ -63,38 +64,67 @@ DifferenceExactAs =
     (a b : Timecode) → Valid a → Valid b → a .rate ≡ b .rate → (kind : Kind) → mixedKinds Difference (a .kind) (b .kind) ≡ Of kind
     → subOf a b ≡ settled kind (placed (a .rate) (held (a .count -ℤ b .count)))
 
--- ---- refusal 15
+-- two timecodes that are added are within their bounds, both of them
+abbrev pub SumTakes : Type 0
+SumTakes = (a b end : Timecode) → addOf a b ≡ At end → Valid a × Valid b
 
--- at two rates a sum is refused 15 exactly when both are positions
+-- so are two whose difference is taken
+abbrev pub DifferenceTakes : Type 0
+DifferenceTakes = (a b end : Timecode) → subOf a b ≡ At end → Valid a × Valid b
+
+-- and two that are compared
+abbrev pub CompareTakes : Type 0
+CompareTakes = (a b : Timecode) (o : ℤ) → compareOf a b ≡ Order o → Valid a × Valid b
+
+-- ---- refusal 15, behind 6
+
+-- both rates are ones: 6 comes before 15
+abbrev pub BothRates : (a b : Timecode) → Type 0
+BothRates a b = (isRate (a .rate) ≡ true) × (isRate (b .rate) ≡ true)
+
+-- a sum is refused 15 exactly when both rates are ones and both are positions
 abbrev pub SumRefused : Type 0
-SumRefused =
-    (a b : Timecode) → isRate (a .rate) ≡ true → isRate (b .rate) ≡ true
-    → (numberOf (addOf a b) ≡ 15) ↔ ((a .kind ≡ Position) × (b .kind ≡ Position))
+SumRefused = (a b : Timecode) → (numberOf (addOf a b) ≡ 15) ↔ (BothRates a b × ((a .kind ≡ Position) × (b .kind ≡ Position)))
 
--- at two rates a difference is refused 15 exactly when a position is taken from a length
+-- a difference is refused 15 exactly when both rates are ones and a position is taken from a length
 abbrev pub DifferenceRefused : Type 0
-DifferenceRefused =
-    (a b : Timecode) → isRate (a .rate) ≡ true → isRate (b .rate) ≡ true
-    → (numberOf (subOf a b) ≡ 15) ↔ ((a .kind ≡ Length) × (b .kind ≡ Position))
+DifferenceRefused = (a b : Timecode) → (numberOf (subOf a b) ≡ 15) ↔ (BothRates a b × ((a .kind ≡ Length) × (b .kind ≡ Position)))
 
--- at two rates a comparison is refused 15 exactly when the two are not of one kind
+-- a comparison is refused 15 exactly when both rates are ones and the two are not of one kind
 abbrev pub CompareRefused : Type 0
-CompareRefused =
-    (a b : Timecode) → isRate (a .rate) ≡ true → isRate (b .rate) ≡ true
-    → (compare.numberOf (compareOf a b) ≡ 15) ↔ (¬ (a .kind ≡ b .kind))
+CompareRefused = (a b : Timecode) → (compare.numberOf (compareOf a b) ≡ 15) ↔ (BothRates a b × (¬ (a .kind ≡ b .kind)))
 
--- a timecode at a rate is refused 15 by each operation that is for lengths only exactly when it is a position
+-- a position at a rate
+abbrev pub PositionAtRate : Timecode → Type 0
+PositionAtRate tc = (isRate (tc .rate) ≡ true) × (tc .kind ≡ Position)
+
+-- each operation that is for lengths only refuses 15 exactly a position at a rate; `rebase` exactly one that is to go to a rate
 pub record LengthsOnly : Type 0 where
-  pub product : (tc : Timecode) (p : ℤ) (q : ℕ) → isRate (tc .rate) ≡ true → (numberOf (mulOf tc p q) ≡ 15) ↔ (tc .kind ≡ Position)
-  pub quotient : (tc : Timecode) (n : ℤ) → isRate (tc .rate) ≡ true → (numberOf (divOf tc n) ≡ 15) ↔ (tc .kind ≡ Position)
-  pub remainder : (tc : Timecode) (n : ℤ) → isRate (tc .rate) ≡ true → (numberOf (remOf tc n) ≡ 15) ↔ (tc .kind ≡ Position)
-  pub quotient-by : (tc : Timecode) (p : ℤ) (q : ℕ) → isRate (tc .rate) ≡ true → (numberOf (divqOf tc p q) ≡ 15) ↔ (tc .kind ≡ Position)
-  pub remainder-by : (tc : Timecode) (p : ℤ) (q : ℕ) → isRate (tc .rate) ≡ true → (numberOf (remqOf tc p q) ≡ 15) ↔ (tc .kind ≡ Position)
-  pub negated : (tc : Timecode) → isRate (tc .rate) ≡ true → (numberOf (negOf tc) ≡ 15) ↔ (tc .kind ≡ Position)
-  pub absolute : (tc : Timecode) → isRate (tc .rate) ≡ true → (numberOf (absOf tc) ≡ 15) ↔ (tc .kind ≡ Position)
-  pub rebased :
-      (tc : Timecode) (rate : ℕ) → isRate (tc .rate) ≡ true → isRate rate ≡ true
-      → (numberOf (rebaseOf tc rate) ≡ 15) ↔ (tc .kind ≡ Position)
+  pub product : (tc : Timecode) (p : ℤ) (q : ℕ) → (numberOf (mulOf tc p q) ≡ 15) ↔ PositionAtRate tc
+  pub quotient : (tc : Timecode) (n : ℤ) → (numberOf (divOf tc n) ≡ 15) ↔ PositionAtRate tc
+  pub remainder : (tc : Timecode) (n : ℤ) → (numberOf (remOf tc n) ≡ 15) ↔ PositionAtRate tc
+  pub quotient-by : (tc : Timecode) (p : ℤ) (q : ℕ) → (numberOf (divqOf tc p q) ≡ 15) ↔ PositionAtRate tc
+  pub remainder-by : (tc : Timecode) (p : ℤ) (q : ℕ) → (numberOf (remqOf tc p q) ≡ 15) ↔ PositionAtRate tc
+  pub negated : (tc : Timecode) → (numberOf (negOf tc) ≡ 15) ↔ PositionAtRate tc
+  pub absolute : (tc : Timecode) → (numberOf (absOf tc) ≡ 15) ↔ PositionAtRate tc
+  pub rebased : (tc : Timecode) (rate : ℕ) → (numberOf (rebaseOf tc rate) ≡ 15) ↔ ((isRate rate ≡ true) × PositionAtRate tc)
+
+-- what is answered is of a length within its bounds, and is the length with this count at this rate
+pub record LengthTo (tc end : Timecode) (count : ℤ) (rate : ℕ) : Type 0 where
+  pub taken : Valid tc
+  pub length : tc .kind ≡ Length
+  pub is : end ≡ timecode count rate
+
+-- each of them answers a length: at its own rate, `rebase` at the other; negation, absolute value and `rebase` with the count that they name
+pub record LengthsAnswered : Type 0 where
+  pub product : (tc end : Timecode) (p : ℤ) (q : ℕ) → mulOf tc p q ≡ At end → LengthTo tc end (end .count) (tc .rate)
+  pub quotient : (tc end : Timecode) (n : ℤ) → divOf tc n ≡ At end → LengthTo tc end (end .count) (tc .rate)
+  pub remainder : (tc end : Timecode) (n : ℤ) → remOf tc n ≡ At end → LengthTo tc end (end .count) (tc .rate)
+  pub quotient-by : (tc end : Timecode) (p : ℤ) (q : ℕ) → divqOf tc p q ≡ At end → LengthTo tc end (end .count) (tc .rate)
+  pub remainder-by : (tc end : Timecode) (p : ℤ) (q : ℕ) → remqOf tc p q ≡ At end → LengthTo tc end (end .count) (tc .rate)
+  pub negated : (tc end : Timecode) → negOf tc ≡ At end → LengthTo tc end (negℤ (tc .count)) (tc .rate)
+  pub absolute : (tc end : Timecode) → absOf tc ≡ At end → LengthTo tc end (pos (natAbs (tc .count))) (tc .rate)
+  pub rebased : (tc end : Timecode) (rate : ℕ) → rebaseOf tc rate ≡ At end → LengthTo tc end (tc .count) rate
 
 -- ---- the day, at every rate
 

@@ -12,7 +12,7 @@ use Rattle.laws.specs.Every.{every-append}
 use Rattle.numbers.specs.OrderLaws.{mul-le}
 use Rattle.numbers.specs.Nearest.{Nearest, nearestN}
 use Rattle.numbers.proofs.Statements.{nearest-is}
-use Rattle.answers.specs.OrderLaws.{in-not}
+use Rattle.answers.specs.OrderLaws.{in-not, not-in}
 use Rattle.answers.specs.Refusals.{isCount}
 use Rattle.rates.specs.Rates.{rates, isRate, rateRow, frameTicks, badRate}
 use Rattle.rates.specs.Rule.{frameTicks-pos}
@@ -135,9 +135,11 @@ second-trip tc back next p =
 
 pub position-refused : PositionRefused
 unfolding convertOf
-position-refused tc list l r =
-    position-exactly numberOf Refused (λ e. refl) (badRates list ∷ badRate (tc .rate) ∷ []) (badInput tc ∷ badSteps tc list ∷ [])
-    (in-not l, (in-not r, tt)) refl (At (endOf tc list)) refl (tc .kind)
+position-refused tc list =
+    let x =
+    position-exactly numberOf Refused (λ e. refl) (badRates list ∷ badRate (tc .rate) ∷ []) (badInput tc ∷ badSteps tc list ∷ []) refl refl
+    (At (endOf tc list)) refl (tc .kind) in
+    (λ e. let c = x .0 e in (not-in _ (c .0 .0), (not-in _ (c .0 .1 .0), c .1)), λ h. x .1 ((in-not (h .0), (in-not (h .1 .0), tt)), h .1 .1))
 
 pub length-stays : LengthStays
 length-stays tc end list p = arrived-length tc end list (convertOf-told tc end list p)

@@ -76,11 +76,11 @@ SecondTrip =
 
 -- ---- lengths only
 
--- a timecode at a rate, through rates, is refused 15 exactly when it is a position, through no rate too
+-- a conversion is refused 15 exactly when all listed numbers are rates and it is of a position at a rate; with an empty list too
 abbrev pub PositionRefused : Type 0
 PositionRefused =
-    (tc : Timecode) (list : List ℕ) → every isRate list ≡ true → isRate (tc .rate) ≡ true
-    → (numberOf (convertOf tc list) ≡ 15) ↔ (tc .kind ≡ Position)
+    (tc : Timecode) (list : List ℕ)
+    → (numberOf (convertOf tc list) ≡ 15) ↔ ((every isRate list ≡ true) × ((isRate (tc .rate) ≡ true) × (tc .kind ≡ Position)))
 
 -- what a conversion ends at is a length
 abbrev pub LengthStays : Type 0

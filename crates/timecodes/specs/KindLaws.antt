@@ -92,29 +92,37 @@ first-below (c ∷ rest) h =
     by true l later = l
     by false l later = later
 
-first-clear : (front back : List Condition) → Clear front → first (front ++ back) ≡ first back
-first-clear [] back h = refl
-first-clear (c ∷ rest) back h =
-    ap (λ (t : Bool). cond t (c .refusal .number) (first (rest ++ back))) (h .0) ∙ first-clear rest back (h .1)
+-- behind conditions of smaller numbers 15 is given exactly when these are clear and it is given by what stands behind
+front-exactly : (front back : List Condition) → below15 front ≡ true → (first (front ++ back) ≡ 15) ↔ (Clear front × (first back ≡ 15))
+front-exactly [] back h = (λ e. (tt, e), λ x. x .1)
+front-exactly (c ∷ rest) back h =
+    let both = and-eq-true-iff (ltb (c .refusal .number) 15) (below15 rest) .0 h in
+    by (c .holds) (ltb-true (c .refusal .number) 15 (both .0)) (front-exactly rest back (both .1))
+  where
+    by : (t : Bool) → c .refusal .number < 15 → ((first (rest ++ back) ≡ 15) ↔ (Clear rest × (first back ≡ 15)))
+        → (cond t (c .refusal .number) (first (rest ++ back)) ≡ 15) ↔ (((t ≡ false) × Clear rest) × (first back ≡ 15))
+    by true l later = (λ e. absurd (omega (arith, l, e)), λ x. absurd (subst T (x .0 .0) tt))
+    by false l later = (λ e. let r = later .0 e in ((refl, r .0), r .1), λ x. later .1 (x .0 .1, x .1))
 
 fifteen : (barred : Bool) (back : List Condition) → below15 back ≡ true → (first (when wrongKind barred ∷ back) ≡ 15) ↔ (barred ≡ true)
 fifteen true back h = (λ e. refl, λ e. refl)
 fifteen false back h = (λ e. absurd (omega (arith, first-below back h)), λ e. absurd (subst T (sym e) tt))
 
--- behind conditions that are clear 15 is given exactly when the kinds are barred, for every type of answers
+-- 15 exactly when what stands before it is clear and the kinds are barred, for every type of answers
 module _ {A : Type 0} (numberOf : A → ℕ) (refused : Refusal → A) (told : (e : Refusal) → numberOf (refused e) ≡ e .number)
-    (front back : List Condition) (clear : Clear front) (below : below15 back ≡ true) (answer : A) (none : numberOf answer ≡ 0) where
+    (front back : List Condition) (smaller : below15 front ≡ true) (below : below15 back ≡ true) (answer : A) (none : numberOf answer ≡ 0) where
   pub barred-exactly : (barred : Bool)
-      → (numberOf (unless refused (front ++ (when wrongKind barred ∷ back)) answer) ≡ 15) ↔ (barred ≡ true)
+      → (numberOf (unless refused (front ++ (when wrongKind barred ∷ back)) answer) ≡ 15) ↔ (Clear front × (barred ≡ true))
   barred-exactly barred =
       let conditions = front ++ (when wrongKind barred ∷ back) in
-      let given : numberOf (unless refused conditions answer) ≡ first (when wrongKind barred ∷ back) =
-      unless-number numberOf refused told conditions answer none ∙ first-clear front (when wrongKind barred ∷ back) clear in
-      (λ e. fifteen barred back below .0 (sym given ∙ e), λ h. given ∙ fifteen barred back below .1 h)
+      let given = unless-number numberOf refused told conditions answer none in
+      let exactly = front-exactly front (when wrongKind barred ∷ back) smaller in
+      let one = fifteen barred back below in
+      (λ e. let x = exactly .0 (sym given ∙ e) in (x .0, one .0 (x .1)), λ h. given ∙ exactly .1 (h .0, one .1 (h .1)))
 
   -- where only lengths are taken, exactly when it is a position
   pub position-exactly : (kind : Kind)
-      → (numberOf (unless refused (front ++ (when wrongKind (isPosition kind) ∷ back)) answer) ≡ 15) ↔ (kind ≡ Position)
+      → (numberOf (unless refused (front ++ (when wrongKind (isPosition kind) ∷ back)) answer) ≡ 15) ↔ (Clear front × (kind ≡ Position))
   position-exactly kind =
       let exactly = barred-exactly (isPosition kind) in
-      (λ e. position-told kind (exactly .0 e), λ h. exactly .1 (ap isPosition h))
+      (λ e. let x = exactly .0 e in (x .0, position-told kind (x .1)), λ h. exactly .1 (h .0, ap isPosition (h .1)))
