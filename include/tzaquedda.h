@@ -73,7 +73,7 @@ enum {
     TZQ_END_BEFORE_FIRST = 12, /* a shot's end before its first frame */
     TZQ_NOT_ON_FILM = 13,  /* a footage's frames number does not occur in that foot, or its perf field, if any, is not feet modulo 3 */
     TZQ_NOT_STRICT = 14,   /* a label of a position that is not strict or has a sign */
-    TZQ_WRONG_KIND = 15    /* a position where only a length may be, or a length where only a position may: see the table above */
+    TZQ_WRONG_KIND = 15    /* a position where only a length may be, or one of each compared: see the table above */
 };
 
 /* ---- Numbers that are passed and answered ---- */

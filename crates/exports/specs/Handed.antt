@@ -42,7 +42,7 @@ use Rattle.exports.specs.declared.handed.TzqFormat.{TzqFormat}
 abbrev pub timecodeFrom : TzqTimecode → Timecode
 timecodeFrom t = timecodeAs (kindFrom (t .position)) (t .count) (t .rate)
 
--- a refusal returns its number with count 0
+-- a refusal returns its number with count 0; a count alone is no position
 unfoldable pub handedCount : Counted → TzqCount
 handedCount a = record { refused = answers.numberOf a; count = answers.countOf a; position = false }
 

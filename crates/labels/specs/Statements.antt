@@ -79,7 +79,7 @@ FillInOrder =
     (timebase D m n : ℕ) (a b : List ℕ) → D < timebase → LabelOf timebase D m a → LabelOf timebase D n b
     → (m < n) ↔ (labelNumber timebase a < labelNumber timebase b)
 
--- the day's first label is 00:00:00 and frame 0, and its last 23:59:59 and the timebase's last frame: behind this comes the first again
+-- the day's first label is 00:00:00 and frame 0, and its last 23:59:59 and the timebase's last frame
 abbrev pub DayEnds : Type 0
 DayEnds =
     (rate : ℕ) → isRate rate ≡ true

@@ -101,8 +101,8 @@ module _ (l : List ℕ) (stated : Stated) (rate : ℕ) (a : RateAndFormat stated
       by : (s : Bool) → isLabelOf Position rate m fields ≡ s → StrictLabel rate m fields
       by true e = strict-told rate m fields (four-fields l m fields t) e
       by false e =
-          absurd (n (refused-fourteen l stated rate a .1
-          (u, record { minus = m; fields = fields; text = t; not-strict = λ s. false≢true (sym e ∙ strict-in rate m fields s) })))
+          absurd (n (refused-fourteen l stated rate .1
+          (a, (u, record { minus = m; fields = fields; text = t; not-strict = λ s. false≢true (sym e ∙ strict-in rate m fields s) }))))
 
   label-forth : (n : ℕ) → readFor Position l stated rate ≡ Label (position (pos n) rate) → DayText l stated rate n
   label-forth n e =

@@ -94,14 +94,14 @@ module _ (l : List ℕ) (stated : Stated) (rate : ℕ) where
   shape-outcome x (filmed p t) = inr refl
 
   abbrev Outcome : Type 0
-  Outcome = Fourteen (readFor Position l stated rate) ⊎ (readFor Position l stated rate ≡ settledRead Position (readText l stated rate))
+  Outcome = (RateAndFormat stated rate × Fourteen (readFor Position l stated rate)) ⊎ (readFor Position l stated rate ≡ settledRead Position (readText l stated rate))
 
   by-format : isRate rate ≡ true → (t : Bool) → isStated stated ≡ t → Outcome
   by-format r false e =
       inr (for-no-format Position l stated rate r e ∙ sym (ap (settledRead Position) (no-format l stated rate r e)))
   by-format r true e =
       ⊎-elim
-      (λ f. inl (record { is = for-shaped Position l stated rate r e ∙ f .is; unstated = f .unstated; text = f .text }))
+      (λ f. inl (record { rated = r; filmed = e }, record { is = for-shaped Position l stated rate r e ∙ f .is; unstated = f .unstated; text = f .text }))
       (λ same. inr (for-shaped Position l stated rate r e ∙ same ∙ sym (ap (settledRead Position) (read-shaped l stated rate r e))))
       (shape-outcome (shapeOf stated l) (kind stated l))
 
@@ -118,24 +118,27 @@ module _ (l : List ℕ) (stated : Stated) (rate : ℕ) where
       let n = sym (settled-number Position (readText l stated rate)) ∙ sym (ap numberOf same) ∙ e in
       ⊎-elim (λ h. omega (arith, n, h)) (λ h. omega (arith, n, h)) (numbers-given l stated rate)
 
+  rated-fourteen : numberOf (readFor Position l stated rate) ≡ 14 → RateAndFormat stated rate × Fourteen (readFor Position l stated rate)
+  rated-fourteen e = ⊎-elim (λ f. f) (λ same. absurd (not-settled same e)) outcome
+
   pub fourteen : numberOf (readFor Position l stated rate) ≡ 14 → Fourteen (readFor Position l stated rate)
-  fourteen e = ⊎-elim (λ f. f) (λ same. absurd (not-settled same e)) outcome
+  fourteen e = rated-fourteen e .1
 
   pub not-fourteen : ¬ (numberOf (readFor Position l stated rate) ≡ 14) → readFor Position l stated rate ≡ settledRead Position (readText l stated rate)
-  not-fourteen n = ⊎-elim (λ f. absurd (n (ap numberOf (f .is)))) (λ same. same) outcome
+  not-fourteen n = ⊎-elim (λ f. absurd (n (ap numberOf (f .1 .is)))) (λ same. same) outcome
 
 -- a label of the text, with no film format stated
 pub label-shape : (l : List ℕ) (stated : Stated) (m : Bool) (fields : List ℕ) → stated ≡ Nothing → LabelText l m fields → shapeOf stated l ≡ label m fields
 label-shape l stated m fields u t = ap (λ (s : Stated). shapeOf s l) u ∙ shape-label l m fields t
 
 pub refused-fourteen : RefusedFourteen
-refused-fourteen l stated rate a = (
-  λ e. let f = fourteen l stated rate e in (f .unstated, f .text),
+refused-fourteen l stated rate = (
+  λ e. let f = rated-fourteen l stated rate e in (f .0, (f .1 .unstated, f .1 .text)),
   λ x.
-      let t = x .1 in
+      let t = x .1 .1 in
       ap numberOf
-      (for-shaped Position l stated rate (a .rated) (a .filmed)
-      ∙ ap (shapedFor Position rate stated) (label-shape l stated (t .minus) (t .fields) (x .0) (t .text))
+      (for-shaped Position l stated rate (x .0 .rated) (x .0 .filmed)
+      ∙ ap (shapedFor Position rate stated) (label-shape l stated (t .minus) (t .fields) (x .1 .0) (t .text))
       ∙ label-not-of Position rate stated (t .minus) (t .fields)
       (strict-out rate (t .minus) (t .fields) (t .not-strict) (four-fields l (t .minus) (t .fields) (t .text)))),
 )

@@ -37,7 +37,8 @@ strictWhen kind rate (refused e) = []
 unfoldable pub shapedFor : Kind → (rate : ℕ) → Stated → Shaped → Read
 shapedFor kind rate stated shaped = unless Refused (strictWhen kind rate shaped) (settledRead kind (readShaped rate stated shaped))
 
--- of a text: 6, no such rate or film format; 14; then what a length's reading gives
+-- of a text: 6, no such rate or film format; 14, which is after 1, 2 and 4 since only a text that is taken for a label gets it, and before 3; then what
+-- a length's reading gives
 unfoldable pub readFor : Kind → (text : List ℕ) → Stated → (rate : ℕ) → Read
 readFor kind text stated rate =
     unless Refused (readWhen stated rate ++ strictWhen kind rate (shapeOf stated text)) (settledRead kind (readText text stated rate))

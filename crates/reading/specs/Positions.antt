@@ -44,11 +44,12 @@ pub record NotStrictText (l : List ℕ) (rate : ℕ) : Type 0 where
   pub text : LabelText l minus fields
   pub not-strict : ¬ StrictLabel rate minus fields
 
--- refusal 14 exactly when the text is a label that is not strict or has a sign, no film format stated: only labels get it
+-- refusal 14 exactly when there is such a rate and film format (6 comes first) and the text is a label that is not strict or has a sign, no film
+-- format stated: only labels get it
 abbrev pub RefusedFourteen : Type 0
 RefusedFourteen =
-    (l : List ℕ) (stated : Stated) (rate : ℕ) → RateAndFormat stated rate
-    → (numberOf (readFor Position l stated rate) ≡ 14) ↔ ((stated ≡ Nothing) × NotStrictText l rate)
+    (l : List ℕ) (stated : Stated) (rate : ℕ)
+    → (numberOf (readFor Position l stated rate) ≡ 14) ↔ (RateAndFormat stated rate × ((stated ≡ Nothing) × NotStrictText l rate))
 
 -- and it has place 0
 abbrev pub PlaceFourteen : Type 0
@@ -69,7 +70,7 @@ pub record DayText (l : List ℕ) (stated : Stated) (rate n : ℕ) : Type 0 wher
   pub text : LabelText l false fields
   pub label : DayLabel (rateRow rate .timebase) (dropFrames rate) n fields
 
--- a label is read as a position exactly when it is an allowed label of the day, and it is its own count, which is never past the day
+-- a label is read as a position exactly when it is an allowed label of the day, and is then the position of its own count
 abbrev pub PositionLabel : Type 0
 PositionLabel =
     (l : List ℕ) (stated : Stated) (rate n : ℕ) → RateAndFormat stated rate

@@ -135,7 +135,7 @@ hex-written-line s w line h = written-line s w (hexText line) h
 -- ---- a text that is refused
 pub position-shown : PositionShown
 unfolding shownText partsText wordText
-position-shown z rate = (refl, refl, refl, λ format. refl)
+position-shown z rate = (refl, refl, refl, refl, λ format. refl, λ format. refl)
 
 pub text-refused-shown : TextRefusedShown
 unfolding wordText partsText shownText

@@ -56,9 +56,13 @@ PositionShown =
     → (shownText (ofAnswer (At (position z rate))) ≡ (64 ∷ countText z) ++ (10 ∷ []))
     × (shownText (ofAnswer (At (timecode z rate))) ≡ countText z ++ (10 ∷ []))
     × (shownText (ofRead (Label (position z rate))) ≡ (spelt "label @" ++ countText z) ++ (10 ∷ []))
+    × (shownText (ofRead (Label (timecode z rate))) ≡ (spelt "label " ++ countText z) ++ (10 ∷ []))
     × ((format : FilmFormat)
     → shownText (ofRead (Footage (position z rate) format))
     ≡ (spelt "footage @" ++ (countText z ++ (32 ∷ signedText false (formatNumber format)))) ++ (10 ∷ []))
+    × ((format : FilmFormat)
+    → shownText (ofRead (Footage (timecode z rate) format))
+    ≡ (spelt "footage " ++ (countText z ++ (32 ∷ signedText false (formatNumber format)))) ++ (10 ∷ []))
 
 -- behind the text that the sheet has stands a shot list's, where it has room: how many records it has, and each as words
 abbrev pub ListLine : Type 0

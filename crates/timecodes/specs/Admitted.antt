@@ -38,7 +38,7 @@ admits tc = badRate (tc .rate) ∷ badInput tc ∷ []
 abbrev pub admitsLength : Timecode → List Condition
 admitsLength tc = badRate (tc .rate) ∷ when wrongKind (isPosition (tc .kind)) ∷ badInput tc ∷ []
 
--- the one or the other
+-- both in one, as the code has it: with `lengths` the second, else the first
 abbrev pub admitsOnly : (lengths : Bool) → Timecode → List Condition
 admitsOnly lengths tc = badRate (tc .rate) ∷ when wrongKind (lengths && isPosition (tc .kind)) ∷ badInput tc ∷ []
 

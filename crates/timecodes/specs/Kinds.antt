@@ -8,10 +8,12 @@ use Rattle.timecodes.specs.declared.kinds.Joining.the-variants.{Sum, Dif
 use Rattle.timecodes.specs.declared.kinds.Mixed.{Mixed}
 use Rattle.timecodes.specs.declared.kinds.Mixed.the-variants.{Of, Never}
 
+-- that of a position where so said, else that of a length
 abbrev pub kindFrom : (position : Bool) → Kind
 kindFrom true = Position
 kindFrom false = Length
 
+-- it is that of a position
 abbrev pub isPosition : Kind → Bool
 isPosition Length = false
 isPosition Position = true

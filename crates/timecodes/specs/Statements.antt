@@ -7,14 +7,18 @@ use mathlib.Core.Bool.{true, false}
 use lib.IntN.{ℤ, pos}
 use Rattle.answers.specs.declared.Verdict.the-variants.{Passed}
 use Rattle.answers.specs.Order.{judged}
-use Rattle.answers.specs.Refusals.{isCount}
+use Rattle.answers.specs.declared.Counted.{Counted}
+use Rattle.answers.specs.Refusals.{isCount, held}
 use Rattle.rates.specs.Rates.{isRate}
 use Rattle.rates.specs.Day.{dayFrames}
+use Rattle.timecodes.specs.declared.Timecode.{Timecode}
+use Rattle.timecodes.specs.declared.Answer.the-variants.{At}
+use Rattle.timecodes.specs.declared.kinds.Kind.{Kind}
 use Rattle.timecodes.specs.declared.kinds.Kind.the-variants.{Length, Position}
 use Rattle.timecodes.specs.Kinds.{kindFrom}
-use Rattle.timecodes.specs.Timecode.{timecode, position}
-use Rattle.timecodes.specs.Made.{OfDay, inDay}
-use Rattle.timecodes.specs.Admitted.{admits}
+use Rattle.timecodes.specs.Timecode.{timecode, position, placed}
+use Rattle.timecodes.specs.Made.{OfDay, inDay, settled}
+use Rattle.timecodes.specs.Admitted.{admits, Valid}
 
 -- what a count is reduced to is the number of the day that differs from it by whole days, negative counts too
 abbrev pub DayIs : Type 0
@@ -37,6 +41,22 @@ PositionWithin = (rate : ℕ) (count : ℤ) → isRate rate ≡ true → (judged
 -- and a length exactly when its count is from -400,000,000 to 400,000,000
 abbrev pub LengthWithin : Type 0
 LengthWithin = (rate : ℕ) (count : ℤ) → isRate rate ≡ true → (judged (admits (timecode count rate)) ≡ Passed) ↔ (isCount count ≡ true)
+
+-- what a length is made of is made a position exactly where it is within a count's bounds: first held to them, then the number of the day
+abbrev pub SettledPosition : Type 0
+SettledPosition =
+    (rate : ℕ) (count z : ℤ) → isRate rate ≡ true
+    → (settled Position (placed rate (held count)) ≡ At (position z rate)) ↔ ((isCount count ≡ true) × OfDay rate count z)
+
+-- made a length it stays as it is
+abbrev pub SettledLength : Type 0
+SettledLength = (rate : ℕ) (counted : Counted) → settled Length (placed rate counted) ≡ placed rate counted
+
+-- and what is made of a length that is within its bounds is of the kind that was asked for, at its rate, and within its bounds
+abbrev pub SettledValid : Type 0
+SettledValid =
+    (kind : Kind) (tc end : Timecode) → Valid tc → tc .kind ≡ Length → settled kind (At tc) ≡ At end
+    → Valid end × (end .kind ≡ kind) × (end .rate ≡ tc .rate)
 
 -- a timecode is a position where that is said, else a length
 abbrev pub KindChosen : Type 0

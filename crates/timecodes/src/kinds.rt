@@ -44,7 +44,7 @@ impl Kind {
     }
 }
 
-// What two timecodes come to: the one place where their kinds are looked at.
+// What two timecodes come to: the one place that decides whether their kinds are taken.
 pub(crate) fn mix(joining: Joining, a: Kind, b: Kind) -> Mixed
     ensures answer { λ r. ⌜ r ≡ mixedKinds joining a b ⌝ }
 {

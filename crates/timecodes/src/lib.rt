@@ -77,7 +77,7 @@ fn is_barred(kind: Kind, lengths: bool) -> bool
     false
 }
 
-// Whether an operation takes a timecode, only lengths or both kinds: the one place where its kind is looked at.
+// Whether an operation takes a timecode, only lengths or both kinds: the one place that decides whether its kind is taken.
 fn judge(tc: Timecode, lengths: bool) -> Verdict
     ensures answer { λ r. ⌜ r ≡ judged (admitsOnly lengths tc) ⌝ }
 {
