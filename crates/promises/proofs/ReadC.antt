@@ -15,7 +15,7 @@ use Rattle.reading.specs.Answer.{timecodeOf}
 use Rattle.exports.specs.declared.handed.TzqCount.{TzqCount}
 use Rattle.exports.specs.declared.handed.TzqRead.{TzqRead}
 use Rattle.exports.specs.Handed.{handedRead, handedAnswer}
-use Rattle.promises.specs.ReadC.{HandedWhole, HandedTimecode, ReadForC}
+use Rattle.promises.specs.ReadC.{HandedWhole, HandedAnswer, ReadForC}
 
 -- a test that is the kind's says so
 position-is : (t : Bool) (kind : Kind) → t ≡ isPosition kind → (t ≡ true) ↔ (kind ≡ Position)
@@ -35,7 +35,7 @@ whole t a e = record {
   position = position-is (t .position) (timecodeOf a .kind) (ap (λ (x : TzqRead). x .position) e);
 }
 
-timecode : (t : TzqCount) (a : Answer) → t ≡ handedAnswer a → HandedTimecode t a
+timecode : (t : TzqCount) (a : Answer) → t ≡ handedAnswer a → HandedAnswer t a
 unfolding handedAnswer
 timecode t a e = record {
   refused = ap (λ (x : TzqCount). x .refused) e;
@@ -50,5 +50,8 @@ read-for-c = record {
   add = λ κs a x p. timecode (x .0) _ p;
   sub = λ κs a x p. timecode (x .0) _ p;
   with-frames = λ κs a x p. timecode (x .0) _ p;
+  with-premiere-ticks = λ κs a x p. timecode (x .0) _ p;
+  with-seconds = λ κs a x p. timecode (x .0) _ p;
+  read-runtime = λ κs a x p. timecode (x .0) _ p;
   handed-over = λ t. record { count = refl; rate = refl; position = kind-is (t .position) };
 }

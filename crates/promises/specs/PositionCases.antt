@@ -60,6 +60,7 @@ readCases =
     ∷ gives 5 "00:00:00;30" 14
     ∷ gives 5 "-00:00:00;01" 14
     ∷ gives 5 "-0" 14
+    ∷ gives 13 "24:00:00;00" 6
     ∷ gives 5 "24:01:00;00" 14
     ∷ gives 5 "00:01:00;00" 3
     ∷ gives 5 "0+20" 13
@@ -92,6 +93,8 @@ mixedCases =
     ∷ comes (addOf (position (pos 0) 13) (position (pos 9999999) 5)) (Refused (refusal 6))
     ∷ comes (addOf (position (pos 0) 5) (position (pos 9999999) 5)) (Refused (refusal 15))
     ∷ comes (addOf (position (pos 2589408) 5) (timecode (pos 0) 5)) (Refused (refusal 5))
+    ∷ comes (addOf (timecode (pos 0) 5) (position (pos 2589408) 5)) (Refused (refusal 5))
+    ∷ comes (negOf (position (pos 0) 13)) (Refused (refusal 6))
     ∷ comes (negOf (position (pos 9999999) 5)) (Refused (refusal 15))
     ∷ comes (rebaseOf (position (pos 0) 5) 13) (Refused (refusal 6))
     ∷ comes (convertOf (position (pos 10) 5) []) (Refused (refusal 15))

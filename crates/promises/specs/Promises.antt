@@ -83,6 +83,9 @@ pub record Promises : Type 1 where
   pub day-one : timecodes.DayOne
   pub position-within : timecodes.PositionWithin
   pub length-within : timecodes.LengthWithin
+  pub settled-position : timecodes.SettledPosition
+  pub settled-length : timecodes.SettledLength
+  pub settled-valid : timecodes.SettledValid
   pub length-read : reading-positions.LengthRead
   pub refused-fourteen : reading-positions.RefusedFourteen
   pub place-fourteen : reading-positions.PlaceFourteen
@@ -98,10 +101,14 @@ pub record Promises : Type 1 where
   pub difference-in-day : arithmetic-positions.DifferenceInDay
   pub sum-exact-as : arithmetic-positions.SumExactAs
   pub difference-exact-as : arithmetic-positions.DifferenceExactAs
+  pub sum-takes : arithmetic-positions.SumTakes
+  pub difference-takes : arithmetic-positions.DifferenceTakes
+  pub compare-takes : arithmetic-positions.CompareTakes
   pub sum-refused : arithmetic-positions.SumRefused
   pub difference-refused : arithmetic-positions.DifferenceRefused
   pub compare-refused : arithmetic-positions.CompareRefused
   pub lengths-only : arithmetic-positions.LengthsOnly
+  pub lengths-answered : arithmetic-positions.LengthsAnswered
   pub midnight : arithmetic-positions.Midnight
   pub there-again : arithmetic-positions.ThereAgain
   pub position-cases : PositionCases

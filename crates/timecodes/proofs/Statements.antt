@@ -59,13 +59,13 @@ length-within rate count h = (
 pub settled-position : SettledPosition
 settled-position rate count z h = (
   λ e.
-    let told = at-told (badCount count ∷ []) (made Position count rate) (position z rate) (sym (settled-held Position rate count) ∙ e) in
-    let is : inDay rate count ≡ z = ap (λ (t : Timecode). t .count) (told .1) in
-    (not-in _ (told .0 .0), subst (OfDay rate count) is (inDay-is rate h count)),
+      let told = at-told (badCount count ∷ []) (made Position count rate) (position z rate) (sym (settled-held Position rate count) ∙ e) in
+      let is : inDay rate count ≡ z = ap (λ (t : Timecode). t .count) (told .1) in
+      (not-in _ (told .0 .0), subst (OfDay rate count) is (inDay-is rate h count)),
   λ x.
-    settled-held Position rate count
-    ∙ unless-clear answer.Refused (badCount count ∷ []) (answer.At (made Position count rate)) (in-not (x .0), tt)
-    ∙ ap (λ (y : ℤ). answer.At (position y rate)) (sym (inDay-one rate h count z (x .1))),
+      settled-held Position rate count
+      ∙ unless-clear answer.Refused (badCount count ∷ []) (answer.At (made Position count rate)) (in-not (x .0), tt)
+      ∙ ap (λ (y : ℤ). answer.At (position y rate)) (sym (inDay-one rate h count z (x .1))),
 )
 
 pub settled-length : SettledLength
