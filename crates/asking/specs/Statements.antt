@@ -2,11 +2,13 @@
 -- Assumes nothing.
 use Prim.Native.Nat.{ℕ, _+_, _<_}
 use mathlib.Core.Path.{_≡_}
-use mathlib.Core.List.{List, [], _∷_}
+use mathlib.Core.List.{List, [], _∷_, map}
+use mathlib.Core.Bool.{cond}
+use lib.Dec.{eqb}
 use lib.ListN.{length, set}
 use Rattle.asking.specs.declared.words.Value.{Value}
 use Rattle.asking.specs.declared.words.Asked.{Asked}
-use Rattle.asking.specs.Table.{rowCount}
+use Rattle.asking.specs.Table.{Row, rows, rowCount}
 use Rattle.asking.specs.Asked.{asked, noValues, askedOf}
 use Rattle.asking.specs.Grammar.{Asks}
 
@@ -32,3 +34,30 @@ pub record IsAsked (line : List ℕ) (a : Asked) : Type 0 where
 -- and what is understood is a line that the grammar has
 abbrev pub OnlyUnderstood : Type 0
 OnlyUnderstood = (line : List ℕ) → askedOf line .row < rowCount → IsAsked line (askedOf line)
+
+-- which of a row's words may have the mark, counted from 0
+unfoldable pub marksFrom : (k : ℕ) (letters : List ℕ) → List ℕ
+marksFrom k [] = []
+marksFrom k (letter ∷ letters) = cond (eqb letter 64) (k ∷ marksFrom (k + 1) letters) (marksFrom (k + 1) letters)
+
+abbrev pub marksOf : Row → List ℕ
+marksOf r = marksFrom 0 (r .letters)
+
+-- the mark belongs before the first RATE of each command that takes or makes a timecode, and before the second of `add`, `sub` and `cmp`: by
+-- row, from `help` on to the last; not before the target of `rebase`
+abbrev pub MarksBelong : Type 0
+MarksBelong =
+    (length rows ≡ rowCount)
+    × (map marksOf rows
+    ≡ []  -- help
+    ∷ (0 ∷ []) ∷ (1 ∷ []) ∷ (0 ∷ [])  -- read, read_as, read_runtime
+    ∷ (0 ∷ []) ∷ (1 ∷ []) ∷ (0 ∷ [])  -- label, footage, runtime
+    ∷ (0 ∷ []) ∷ (0 ∷ []) ∷ (0 ∷ [])  -- count, from_ticks, from_seconds
+    ∷ []  -- minute
+    ∷ (0 ∷ []) ∷ (0 ∷ [])  -- ticks, seconds
+    ∷ (0 ∷ []) ∷ (0 ∷ []) ∷ (0 ∷ [])  -- neg, abs, rebase
+    ∷ (0 ∷ 2 ∷ []) ∷ (0 ∷ 2 ∷ []) ∷ (0 ∷ 2 ∷ [])  -- add, sub, cmp
+    ∷ (0 ∷ []) ∷ (0 ∷ []) ∷ (0 ∷ []) ∷ (0 ∷ []) ∷ (0 ∷ [])  -- mul, div, rem, divq, remq
+    ∷ (0 ∷ [])  -- convert
+    ∷ [] ∷ []  -- read_list, write_list
+    ∷ [])

@@ -298,6 +298,7 @@ promises = record {
   stopped-full = feeding.stopped-full;
   understood = asking.understood;
   only-understood = asking.only-understood;
+  marks-belong = asking.marks-belong;
   records-exactly = asking.records-exactly;
   hex-exactly = hex.hex-exactly;
   hex-one = hex.hex-one;

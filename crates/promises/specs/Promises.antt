@@ -307,6 +307,7 @@ pub record Promises : Type 1 where
   pub stopped-full : feeding.StoppedFull
   pub understood : asking.Understood
   pub only-understood : asking.OnlyUnderstood
+  pub marks-belong : asking.MarksBelong
   pub records-exactly : asking-records.RecordsExactly
   pub hex-exactly : hex.HexExactly
   pub hex-one : hex.HexOne
