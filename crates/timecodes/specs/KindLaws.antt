@@ -4,7 +4,7 @@ use Prim.Native.Nat.{ℕ, _<_}
 use native.Mathlib.Omega.{arith}
 use mathlib.Core.Path.{_≡_, refl, sym, _∙_, ap, subst}
 use mathlib.Core.Logic.{_↔_}
-use mathlib.Core.Bool.{Bool, true, false, cond, _&&_, and-eq-true-iff}
+use mathlib.Core.Bool.{Bool, true, false, cond, not, _&&_, and-eq-true-iff}
 use mathlib.Core.List.{List, [], _∷_, _++_}
 use borrow.Author.Tests.{ltb-true}
 use lib.Dec.{T, ltb}
@@ -14,7 +14,8 @@ use Rattle.answers.specs.declared.Verdict.{Verdict}
 use Rattle.answers.specs.declared.Verdict.the-variants as verdict
 use Rattle.answers.specs.Order.{Condition, when, unless, first, judged, Clear}
 use Rattle.answers.specs.OrderLaws.{unless-map, unless-told, unless-number}
-use Rattle.answers.specs.Refusals.{wrongKind}
+use Rattle.answers.specs.Refusals.{outOfBounds, wrongKind}
+use Rattle.rates.specs.Rates.{isRate}
 use Rattle.rates.specs.Rates.{isRate}
 use Rattle.timecodes.specs.declared.Timecode.{Timecode}
 use Rattle.timecodes.specs.declared.Admitted.{Admitted}
@@ -24,7 +25,7 @@ use Rattle.timecodes.specs.declared.kinds.Kind.the-variants.{Length, Pos
 use Rattle.timecodes.specs.declared.kinds.Joining.{Joining}
 use Rattle.timecodes.specs.declared.kinds.Mixed.{Mixed}
 use Rattle.timecodes.specs.declared.kinds.Mixed.the-variants.{Of, Never}
-use Rattle.timecodes.specs.Kinds.{isPosition, isNever, kindIn}
+use Rattle.timecodes.specs.Kinds.{isPosition, mixedKinds, isNever, kindIn}
 use Rattle.timecodes.specs.Timecode.{timecodeAs, position}
 use Rattle.timecodes.specs.Made.{made}
 use Rattle.timecodes.specs.Admitted.{isWithin, admitsBoth, joinedKind}
@@ -74,6 +75,13 @@ module _ (joining : Joining) (a b : Timecode) where
       → judged (admitsBoth joining a b) ≡ verdict.Refused e
   admitted-refused e h =
       sym (unless-map verdictOf Refused verdict.Refused (λ r. refl) (admitsBoth joining a b) (As (joinedKind joining a b))) ∙ ap verdictOf h
+
+  -- at two rates, mixed, the bounds decide: the left one's first
+  pub both-within : (kind : Kind) → isRate (a .rate) ≡ true → isRate (b .rate) ≡ true → mixedKinds joining (a .kind) (b .kind) ≡ Of kind
+      → (s t : Bool) → isWithin (a .kind) (a .rate) (a .count) ≡ s → isWithin (b .kind) (b .rate) (b .count) ≡ t
+      → unless Refused (admitsBoth joining a b) (As (joinedKind joining a b))
+      ≡ cond (not s) (Refused outOfBounds) (cond (not t) (Refused outOfBounds) (As kind))
+  both-within kind r q m s t e f = simp (r, q, m, e, f)
 
 -- ---- when 15 is given
 

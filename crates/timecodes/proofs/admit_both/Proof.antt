@@ -1,12 +1,13 @@
 -- `timecodes::admit_both` meets its contract: each return is the definition, rewritten by the tests that led there.
 -- Assumes nothing.
 use mathlib.Core.Path.{_≡_, sym, _∙_}
-use mathlib.Core.Bool.{true}
+use mathlib.Core.Bool.{true, false}
 use borrow.Author.Needs.{needs}
 use Rattle.numbers.proofs.Tests.{fails, passes}
 use Rattle.rates.specs.Rates.{isRate}
 use Rattle.timecodes.specs.declared.kinds.Mixed.the-variants.{Of, Never}
 use Rattle.timecodes.specs.Kinds.{mixedKinds}
+use Rattle.timecodes.specs.KindLaws.{both-within}
 use Rattle.timecodes.proofs.admit_both.Statement.{statement}
 use Rattle.timecodes.proofs.admit_both.Tie as tie
 
@@ -48,26 +49,20 @@ returns-5 c =
     let f = c .before .before in
     let k = f .before .before .before in
     let e = k .before .before .before in
-    simp (
-      left-rated (e .before .before),
-      right-rated e,
-      mixed-is k,
-      passes (f .before .is-within .ensures) (f .if3 .left),
-      fails (c .before .is-within2 .ensures) (c .if4 .taken),
-    )
+    let a = e .before .before .before .before .args in
+    sym (both-within (a .joining) (a .a) (a .b) _ (left-rated (e .before .before)) (right-rated e) (mixed-is k) true false
+    (passes (f .before .is-within .ensures) (f .if3 .left))
+    (fails (c .before .is-within2 .ensures) (c .if4 .taken)))
 
 returns-6 : tie.Need-returns-6
 returns-6 c =
     let f = c .before .before in
     let k = f .before .before .before in
     let e = k .before .before .before in
-    simp (
-      left-rated (e .before .before),
-      right-rated e,
-      mixed-is k,
-      passes (f .before .is-within .ensures) (f .if3 .left),
-      passes (c .before .is-within2 .ensures) (c .if4 .left),
-    )
+    let a = e .before .before .before .before .args in
+    sym (both-within (a .joining) (a .a) (a .b) _ (left-rated (e .before .before)) (right-rated e) (mixed-is k) true true
+    (passes (f .before .is-within .ensures) (f .if3 .left))
+    (passes (c .before .is-within2 .ensures) (c .if4 .left)))
 
 pub admit-both-spec : {M : Type 1} → statement M
 admit-both-spec =
