@@ -43,7 +43,7 @@ static void labels_of_a_day(uint64_t rate, unsigned timebase, unsigned d) {
     for (int64_t count = 0; o.hours < 25; count++, o = turned(o, timebase, d)) {
         char expected[ROOM + 1];
         uint8_t line[ROOM];
-        tzq_timecode up = {count, rate}, down = {-count, rate};
+        tzq_timecode up = {count, rate, false}, down = {-count, rate, false};
         size_t place = (size_t)(count % 7);
         memset(expected, '#', ROOM);
         memset(line, '#', ROOM);
