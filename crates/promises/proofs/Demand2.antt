@@ -36,9 +36,10 @@ use Rattle.timecodes.specs.declared.kinds.Kind.{Kind}
 use Rattle.timecodes.specs.declared.kinds.Kind.the-variants as kinds
 use Rattle.timecodes.specs.Timecode.{timecodeAs}
 use Rattle.timecodes.specs.Made.{made}
+use Rattle.timecodes.specs.Statements.{CountUnder}
 use Rattle.timecodes.specs.Admitted.{Valid}
 use Rattle.timecodes.specs.MadeLaws.{inDay-own, under-day}
-use Rattle.promises.specs.Demand2.{twoDigitText, StrictText, readAt, ReadAs, CountUnder, Demand2, FillsEachRate, Demand2At5, Demand2At11}
+use Rattle.promises.specs.Demand2.{twoDigitText, StrictText, readAt, ReadAs, Demand2, FillsEachRate, Demand2At5, Demand2At11}
 use Rattle.promises.proofs.Read.{mark-divides, read-label-for}
 use Rattle.promises.proofs.StrictLabels.{two-digits, two-digit-length, strict-digits, strict-scan}
 

@@ -17,6 +17,7 @@ use Rattle.rates.specs.Day.{dayFrames}
 use Rattle.timecodes.specs.declared.kinds.Kind.{Kind}
 use Rattle.timecodes.specs.declared.kinds.Kind.the-variants.{Position}
 use Rattle.timecodes.specs.Timecode.{timecodeAs}
+use Rattle.timecodes.specs.Statements.{CountUnder}
 use Rattle.labels.specs.Label.{hoursIn, minutesIn, secondsIn, framesIn, droppedIn, Strict}
 use Rattle.labels.specs.Sections.{labelNumber, isAllowed}
 use Rattle.scanner.specs.Scan.{isDivider}
@@ -57,12 +58,6 @@ pub record ReadAs (kind : Kind) (rate timebase n : ℕ) : Type 0 where
   pub text : List ℕ
   pub label : StrictText timebase fields text
   pub read : readAt kind rate text ≡ Label (timecodeAs kind (pos n) rate)
-
--- a number from 0 to whole - 1
-pub record CountUnder (whole : ℕ) (z : ℤ) : Type 0 where
-  pub number : ℕ
-  pub is : z ≡ pos number
-  pub under : number < whole
 
 -- ---- the demand
 -- of timecodes of a kind, at a rate that drops the first D labels of each minute but every tenth, so that `whole` labels of a day are left,

@@ -22,7 +22,7 @@ use Rattle.timecodes.specs.Timecode.{timecode, position, timecodeOf}
 use Rattle.timecodes.specs.Admitted.{admits, Valid}
 use Rattle.timecodes.specs.AdmittedLaws.{admits-valid, valid-admits, valid-count, ofDay-told, at-told}
 use Rattle.timecodes.specs.MadeLaws.{inDay-is, inDay-one, under-day, made-rate, made-kind, made-valid, settled-held}
-use Rattle.timecodes.specs.Statements.{DayIs, DayOne, UnderDay, PositionWithin, LengthWithin, SettledPosition, SettledLength, SettledValid, KindChosen}
+use Rattle.timecodes.specs.Statements.{DayIs, DayOne, CountUnder, PositionWithin, LengthWithin, SettledPosition, SettledLength, SettledValid, KindChosen}
 
 pub day-is : DayIs
 day-is rate count h = inDay-is rate h count
@@ -31,7 +31,7 @@ pub day-one : DayOne
 day-one rate count z h o = inDay-one rate h count z o
 
 -- a number that is not below zero and whose size is below the day
-under : (rate : ℕ) (count : ℤ) → isNeg count ≡ false → natAbs count < dayFrames rate → UnderDay rate count
+under : (rate : ℕ) (count : ℤ) → isNeg count ≡ false → natAbs count < dayFrames rate → CountUnder (dayFrames rate) count
 under rate (pos n) e l = record { number = n; is = refl; under = l }
 under rate (negsuc n) e l = absurd (subst T e tt)
 

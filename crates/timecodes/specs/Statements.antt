@@ -28,15 +28,15 @@ DayIs = (rate : ℕ) (count : ℤ) → isRate rate ≡ true → OfDay rate count
 abbrev pub DayOne : Type 0
 DayOne = (rate : ℕ) (count z : ℤ) → isRate rate ≡ true → OfDay rate count z → z ≡ inDay rate count
 
--- a number from 0 up to the rate's day, which is not included
-pub record UnderDay (rate : ℕ) (count : ℤ) : Type 0 where
+-- a number from 0 up to `whole`, which is not included
+pub record CountUnder (whole : ℕ) (z : ℤ) : Type 0 where
   pub number : ℕ
-  pub is : count ≡ pos number
-  pub under : number < dayFrames rate
+  pub is : z ≡ pos number
+  pub under : number < whole
 
--- what takes both kinds admits a position at a rate exactly when its count is such a number
+-- what takes both kinds admits a position at a rate exactly when its count is a number from 0 up to the rate's day
 abbrev pub PositionWithin : Type 0
-PositionWithin = (rate : ℕ) (count : ℤ) → isRate rate ≡ true → (judged (admits (position count rate)) ≡ Passed) ↔ UnderDay rate count
+PositionWithin = (rate : ℕ) (count : ℤ) → isRate rate ≡ true → (judged (admits (position count rate)) ≡ Passed) ↔ CountUnder (dayFrames rate) count
 
 -- and a length exactly when its count is from -400,000,000 to 400,000,000
 abbrev pub LengthWithin : Type 0
