@@ -74,7 +74,7 @@ notOnFilm = refusal 13
 abbrev pub notStrict : Refusal
 notStrict = refusal 14
 
--- 15: a position where only a length may be, or a length where only a position may
+-- 15: a position where only a length may be, or one of each compared
 abbrev pub wrongKind : Refusal
 wrongKind = refusal 15
 

@@ -95,7 +95,7 @@ pub const NOT_STRICT: Refusal = Refusal {
     place: 0,
 };
 
-// A position where only a length may be, or a length where only a position may.
+// A position where only a length may be, or one of each compared.
 pub const WRONG_KIND: Refusal = Refusal {
     number: 15,
     place: 0,
