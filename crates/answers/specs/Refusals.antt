@@ -82,6 +82,10 @@ wrongKind = refusal 15
 abbrev pub mostCount : ℕ
 mostCount = 400000000
 
+-- a number above every count within its bounds, and one more than nine digits make
+abbrev pub beyond : ℕ
+beyond = 1000000000
+
 abbrev pub isCount : ℤ → Bool
 isCount z = leb (natAbs z) mostCount
 

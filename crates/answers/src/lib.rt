@@ -126,6 +126,9 @@ pub enum Verdict {
 // Counts run from -400,000,000 to this.
 pub const MOST_COUNT: u64 = 400_000_000;
 
+// A number above every count within its bounds, and one more than nine digits make.
+pub const BEYOND: u64 = 1_000_000_000;
+
 // Whether x is within the bounds of a count.
 pub fn is_count(x: i64) -> bool
     ensures answer { λ r. ⌜ r ≡ isCount x ⌝ }

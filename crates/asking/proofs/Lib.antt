@@ -1,6 +1,7 @@
 pub mod Filled
 pub mod Named
 pub mod Numbers
+pub mod Standing
 pub mod Taken
 pub mod Listing
 pub mod RecordSteps

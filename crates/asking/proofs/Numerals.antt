@@ -16,9 +16,10 @@ use Rattle.digits.proofs.Values.{all-head}
 use Rattle.digits.proofs.Runs.{span-run, leading-run, leading-field, leading-length, leading-rest, span-stops}
 use Rattle.asking.specs.declared.values.Word.the-variants.{Number, Nothing}
 use Rattle.asking.specs.Numbers.{isWithin, signedWord, digitsAt, signedAt, numberAt}
-use Rattle.asking.specs.Asked.{isMarked, valueAt}
+use Rattle.asking.specs.Table.{wordFirst, isOver}
+use Rattle.asking.specs.Asked.{isPosition, isUnstated, isMarked, valueAt}
 use Rattle.asking.specs.Grammar.{Numeral, plain, minus}
-use Rattle.asking.proofs.Taken.{and-false}
+use Rattle.asking.proofs.Taken.{and-false, marked-stated, value-plain}
 
 -- ---- a number of the grammar is taken
 digits-taken : (sign : Bool) (at : ℕ) (d l : List ℕ) → IsField d → isWithin sign (valueOf d) ≡ true → digitFirst l ≡ false
@@ -47,19 +48,46 @@ pub number-taken : {d : List ℕ} {z : ℤ} → Numeral d z → (at : ℕ) (l : 
 unfolding numberAt
 number-taken f at l s = signed-taken f (at + 1) l s
 
--- behind its mark, and no mark is a number's first byte
+-- behind its mark
+pub marked-here : (l : List ℕ) → isMarked 64 (32 ∷ 64 ∷ l) ≡ true
+unfolding isMarked isUnstated isPosition wordFirst
+marked-here l = refl
+
 pub marked-taken : {d : List ℕ} {z : ℤ} → Numeral d z → (at : ℕ) (l : List ℕ) → digitFirst l ≡ false
     → valueAt 64 at (32 ∷ 64 ∷ d ++ l) ≡ Number z (at + 2 + length d)
-unfolding valueAt isMarked
+unfolding valueAt isUnstated isPosition wordFirst
 marked-taken f at l s = signed-taken f (at + 2) l s
 
+-- no mark is a number's first byte, and `-` alone is no number
 no-mark : {d : List ℕ} {z : ℤ} → Numeral d z → (l : List ℕ) → firstIs (isByte 64) (d ++ l) ≡ false
 no-mark (plain {d} f w) l = not-first 64 d l f refl
 no-mark (minus f w) l = refl
 
+no-position : {d : List ℕ} {z : ℤ} → Numeral d z → (kind : ℕ) (l : List ℕ) → isPosition kind (32 ∷ d ++ l) ≡ false
+unfolding isPosition wordFirst
+no-position f kind l = rw (no-mark f l) (and-false (eqb kind 64))
+
+not-over : (d l : List ℕ) → IsField d → isOver (d ++ l) ≡ false
+unfolding isOver
+not-over [] l f = absurd (omega (arith, f .some))
+not-over (b ∷ d) l f = not-first 32 (b ∷ d) l f refl
+
+stated : {d : List ℕ} {z : ℤ} → Numeral d z → (kind : ℕ) (l : List ℕ) → isUnstated kind (32 ∷ d ++ l) ≡ false
+unfolding isUnstated wordFirst
+stated (plain {d} f w) kind l = rw (not-first 45 d l f refl) (and-false (eqb kind 102))
+stated (minus {d} f w) kind l = rw (not-over d l f) (and-false (eqb kind 102))
+
 pub number-unmarked : {d : List ℕ} {z : ℤ} → Numeral d z → (kind : ℕ) (l : List ℕ) → isMarked kind (32 ∷ d ++ l) ≡ false
-unfolding isMarked
-number-unmarked f kind l = rw (no-mark f l) (and-false (eqb kind 64))
+number-unmarked f kind l = sym (marked-stated kind _ (stated f kind l)) ∙ no-position f kind l
+
+pub plain-taken : {d : List ℕ} {z : ℤ} → Numeral d z → (kind at : ℕ) (l : List ℕ) → digitFirst l ≡ false
+    → valueAt kind at (32 ∷ d ++ l) ≡ Number z (at + 1 + length d)
+plain-taken f kind at l s = value-plain kind at _ (stated f kind l) (no-position f kind l) ∙ number-taken f at l s
+
+-- `-` alone, of a film format
+pub unstated-here : (l : List ℕ) → isOver l ≡ true → isUnstated 102 (32 ∷ 45 ∷ l) ≡ true
+unfolding isUnstated wordFirst
+unstated-here l e = e
 
 -- ---- what is left behind it
 pub signed-left : (line : List ℕ) (at : ℕ) (d l : List ℕ) → drop at line ≡ d ++ l → drop (at + length d) line ≡ l

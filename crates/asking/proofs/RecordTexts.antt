@@ -1,18 +1,19 @@
 -- The grammar of records by what is due: nothing, a record's word, or one of its numbers; so the reader takes them.
 -- Assumes nothing.
 use Prim.Native.Nat.{ℕ, suc, _+_}
-use mathlib.Core.Path.{_≡_, refl, ap, _∙_}
+use mathlib.Core.Path.{_≡_, refl}
 use mathlib.Core.List.{List, [], _∷_, _++_}
-use mathlib.Core.Bool.{Bool, true, false, cond, and-eq-true-iff}
+use mathlib.Core.Bool.{Bool, true, false, cond}
 use native.Mathlib.Omega.{arith}
 use lib.IntN.{ℤ, pos}
 use lib.ListN.{length, drop}
-use borrow.Author.Tests.{eqb-true}
-use Rattle.digits.specs.Digits.{isByte, firstIs, digitFirst}
+use Rattle.digits.specs.Digits.{digitFirst}
 use Rattle.asking.specs.declared.values.Word.the-variants.{Number, Nothing}
-use Rattle.asking.specs.Table.{spelt}
-use Rattle.asking.specs.RecordWords.{wordFirst, kindAt, dueBehind}
+use Rattle.laws.specs.Spelt.{spelt}
+use Rattle.asking.specs.Table.{wordFirst}
+use Rattle.asking.specs.RecordWords.{kindAt, dueBehind}
 use Rattle.asking.specs.Grammar.{Numeral, RecordWords, none, rate, shot, reel}
+use Rattle.asking.proofs.Standing.{word-front}
 
 -- a record's word, its kind, and how many numbers it has
 pub data Worded : (word : List ℕ) → (kind : ℤ) → (due : ℕ) → Type 0 where
@@ -61,14 +62,6 @@ kind-taken isShot at t = refl
 kind-taken isReel at t = refl
 
 -- ---- and what is taken so is one
-word-front : (w l : List ℕ) → wordFirst w l ≡ true → l ≡ w ++ drop (length w) l
-unfolding wordFirst
-word-front [] l e = refl
-word-front (b ∷ w) [] e = let z : _≡_ {A = ℕ} 0 1 = cc in absurd (omega arith)
-word-front (b ∷ w) (c ∷ l) e =
-    let q = and-eq-true-iff (firstIs (isByte b) (c ∷ l)) (wordFirst w l) .0 e in
-    ap (λ x. x ∷ l) (eqb-true c b (q .0)) ∙ ap (λ x. b ∷ x) (word-front w l (q .1))
-
 pub record KindTold (at : ℕ) (l : List ℕ) (k : ℤ) (next : ℕ) : Type 0 where
   pub word : List ℕ
   pub due : ℕ

@@ -14,7 +14,8 @@ use Rattle.asking.specs.declared.values.Word.{Word}
 use Rattle.asking.specs.declared.values.Word.the-variants.{Number, Nothing}
 use Rattle.asking.specs.Numbers.{numberAt}
 use Rattle.asking.specs.Numbered.{Listing, listThen}
-use Rattle.asking.specs.RecordWords.{wordFirst, kindAt, nextAt, dueBehind, isDone, recordListing, recordsFrom, recordsOf}
+use Rattle.asking.specs.Table.{wordFirst}
+use Rattle.asking.specs.RecordWords.{kindAt, nextAt, dueBehind, isDone, recordListing, recordsFrom, recordsOf}
 use Rattle.asking.specs.Grammar.{RecordWords}
 use Rattle.asking.specs.Statements.{placedFrom}
 use Rattle.asking.specs.RecordStatements.{listedAs, AreListed, RecordsExactly}

@@ -3,23 +3,25 @@
 use Prim.Native.Nat.{ℕ, zero, suc, _+_, _-_, _≤_, _<_}
 use mathlib.Core.Path.{_≡_, refl, sym, ap, _∙_}
 use mathlib.Core.List.{List, [], _∷_}
-use mathlib.Core.Bool.{Bool, true, false, cond, not, _&&_}
+use mathlib.Core.Bool.{Bool, true, false, cond, not, _&&_, and-eq-true-iff}
 use native.Mathlib.Omega.{arith}
 use native.Mathlib.Numerals.{add-one}
 use lib.ListN.{length, take, drop, set, getD, length-drop, drop-of-length-le}
 use lib.Seq.{drop-cons, drop-drop}
 use lib.Dec.{eqb, ltb, leb}
-use lib.IntN.{ℤ, natAbs}
+use lib.IntN.{ℤ, pos, natAbs}
 use borrow.Author.Tests.{lt-ltb, le-ltb, ltb-true, eq-eqb, ne-eqb, eqb-true, not-true}
 use Rattle.numbers.specs.Sign.{isNeg}
-use Rattle.digits.specs.Digits.{isByte, firstIs}
 use Rattle.asking.specs.declared.values.Word.{Word}
 use Rattle.asking.specs.declared.values.Word.the-variants.{Number, Nothing}
 use Rattle.asking.specs.declared.words.Value.{Value}
 use Rattle.asking.specs.declared.words.Rest.the-variants as rest
 use Rattle.asking.specs.Numbers.{signedAt, numberAt}
-use Rattle.asking.specs.Table.{rowCount, wordOf, isPlain, rowNamed, kindOf}
-use Rattle.asking.specs.Asked.{value, isMarked, valueAt, isRoom, isInRange, allowed, isLast, restAt, unknown, noValues, endedAt, wordThen, wordsFrom, askedOf}
+use Rattle.laws.specs.Spelt.{spelt}
+use Rattle.asking.specs.Table.{wordOf, isPlain, wordFirst, isOver, rowCount, rowNamed, kindOf}
+use Rattle.asking.specs.Asked.{value, isPosition, isUnstated, isMarked, valueAt, isRoom, isInRange, allowed, isLast, restAt}
+use Rattle.asking.specs.Asked.{unknown, noValues, endedAt, wordThen, wordsFrom, askedOf}
+use Rattle.asking.proofs.Standing.{word-front}
 
 -- ---- the loop of `word_end`: no space stands before i
 pub record Ending (line : List ℕ) (i : ℕ) : Type 0 where
@@ -97,51 +99,88 @@ pub and-false : (t : Bool) → (t && false) ≡ false
 and-false true = refl
 and-false false = refl
 
-both-left : (x y : Bool) → (x && y) ≡ true → x ≡ true
-both-left true y e = refl
-both-left false y e = e
+-- ---- where a word is over
+pub over-here : (line : List ℕ) (at : ℕ) → at < length line → eqb (getD line at 0) 32 ≡ isOver (drop at line)
+unfolding isOver
+over-here line at h = rw (drop-cons line at 0 h)
 
-both-right : (x y : Bool) → (x && y) ≡ true → y ≡ true
-both-right true y e = e
-both-right false y e = let z : _≡_ {A = ℕ} 0 1 = cc in absurd (omega arith)
+pub over-past : (line : List ℕ) (at : ℕ) → length line ≤ at → true ≡ isOver (drop at line)
+unfolding isOver
+over-past line at h = rw (drop-of-length-le line {i = at} h)
 
 -- ---- the mark of a position
+module _ (kind : ℕ) (l : List ℕ) where
+  pub position-none : (kind ≡ 64 → ⊥) → false ≡ isPosition kind l
+  unfolding isPosition
+  position-none e = rw (ne-eqb kind 64 e)
+
+  pub position-by : kind ≡ 64 → wordFirst (spelt " @") l ≡ isPosition kind l
+  unfolding isPosition
+  position-by e = rw (eq-eqb kind 64 e)
+
+  -- what it tells: the letter, and the line's next two bytes
+  pub position-told : isPosition kind l ≡ true → (kind ≡ 64) × (l ≡ 32 ∷ 64 ∷ drop 2 l)
+  unfolding isPosition
+  position-told e =
+      let q = and-eq-true-iff (eqb kind 64) (wordFirst (spelt " @") l) .0 e in
+      (eqb-true kind 64 (q .0), word-front (spelt " @") l (q .1))
+
+-- ---- a film format that is not stated
+module _ (kind : ℕ) (l : List ℕ) where
+  pub unstated-none : (kind ≡ 102 → ⊥) → false ≡ isUnstated kind l
+  unfolding isUnstated
+  unstated-none e = rw (ne-eqb kind 102 e)
+
+  pub unstated-apart : wordFirst (spelt " -") l ≡ false → false ≡ isUnstated kind l
+  unfolding isUnstated
+  unstated-apart f = rw f (sym (and-false (eqb kind 102)))
+
+  -- what it tells: the letter, the line's next two bytes, and that the word is over behind them
+  pub unstated-told : isUnstated kind l ≡ true → (kind ≡ 102) × ((l ≡ 32 ∷ 45 ∷ drop 2 l) × (isOver (drop 2 l) ≡ true))
+  unfolding isUnstated
+  unstated-told e =
+      let q = and-eq-true-iff (eqb kind 102) (wordFirst (spelt " -") l && isOver (drop 2 l)) .0 e in
+      let s = and-eq-true-iff (wordFirst (spelt " -") l) (isOver (drop 2 l)) .0 (q .1) in
+      (eqb-true kind 102 (q .0), (word-front (spelt " -") l (s .0), s .1))
+
+-- and by the place behind `-`
+pub unstated-by : (kind : ℕ) (line : List ℕ) (at : ℕ) → kind ≡ 102 → wordFirst (spelt " -") (drop at line) ≡ true
+    → isOver (drop (at + 2) line) ≡ isUnstated kind (drop at line)
+unfolding isUnstated
+unstated-by kind line at e f = rw (eq-eqb kind 102 e, f, drop-drop 2 at line)
+
+-- ---- both are within the line
 module _ (kind : ℕ) (line : List ℕ) (at : ℕ) where
-  pub mark-none : (kind ≡ 64 → ⊥) → false ≡ isMarked kind (drop at line)
+  pub position-within : isPosition kind (drop at line) ≡ true → at + 2 ≤ length line
+  position-within e = omega (arith, ap length (position-told kind (drop at line) e .1), length-drop at line)
+
+  pub unstated-within : isUnstated kind (drop at line) ≡ true → at + 2 ≤ length line
+  unstated-within e = omega (arith, ap length (unstated-told kind (drop at line) e .1 .0), length-drop at line)
+
+-- ---- one of the two
+module _ (kind : ℕ) (l : List ℕ) where
+  pub marked-unstated : isUnstated kind l ≡ true → true ≡ isMarked kind l
   unfolding isMarked
-  mark-none e = rw (ne-eqb kind 64 e)
+  marked-unstated e = rw e
 
-  module _ (e : kind ≡ 64) where
-    pub mark-apart : firstIs (isByte 32) (drop at line) ≡ false → false ≡ isMarked kind (drop at line)
-    unfolding isMarked
-    mark-apart f = rw (eq-eqb kind 64 e, f)
+  pub marked-stated : isUnstated kind l ≡ false → isPosition kind l ≡ isMarked kind l
+  unfolding isMarked
+  marked-stated e = rw e
 
-    pub mark-by : firstIs (isByte 32) (drop at line) ≡ true → firstIs (isByte 64) (drop (at + 1) line) ≡ isMarked kind (drop at line)
-    unfolding isMarked
-    mark-by f = rw (eq-eqb kind 64 e, f, drop-drop 1 at line)
+-- ---- the number there
+module _ (kind at : ℕ) (l : List ℕ) where
+  pub value-unstated : isUnstated kind l ≡ true → valueAt kind at l ≡ Number (pos 0) (at + 2)
+  unfolding valueAt
+  value-unstated e = rw e
 
--- the number behind it
-pub value-marked : (kind at : ℕ) (l : List ℕ) → isMarked kind l ≡ true → valueAt kind at l ≡ signedAt (at + 2) (drop 2 l)
-unfolding valueAt
-value-marked kind at l e = rw e
+  module _ (e : isUnstated kind l ≡ false) where
+    pub value-marked : isPosition kind l ≡ true → valueAt kind at l ≡ signedAt (at + 2) (drop 2 l)
+    unfolding valueAt
+    value-marked f = rw (e, f)
 
-pub value-plain : (kind at : ℕ) (l : List ℕ) → isMarked kind l ≡ false → valueAt kind at l ≡ numberAt at l
-unfolding valueAt
-value-plain kind at l e = rw e
-
--- what a mark tells: the letter, and the line's next two bytes
-pub mark-told : (kind : ℕ) (l : List ℕ) → isMarked kind l ≡ true → (kind ≡ 64) × (l ≡ 32 ∷ 64 ∷ drop 2 l)
-unfolding isMarked
-mark-told kind l e = (eqb-true kind 64 (both-left (eqb kind 64) _ e), bytes l (both-right (eqb kind 64) _ e))
-  where
-    bytes : (l : List ℕ) → (firstIs (isByte 32) l && firstIs (isByte 64) (drop 1 l)) ≡ true → l ≡ 32 ∷ 64 ∷ drop 2 l
-    bytes [] f = let z : _≡_ {A = ℕ} 0 1 = cc in absurd (omega arith)
-    bytes (b ∷ []) f = let g = both-right (eqb b 32) false f in let z : _≡_ {A = ℕ} 0 1 = cc in absurd (omega arith)
-    bytes (b ∷ c ∷ l) f =
-        ap (λ x. x ∷ c ∷ l) (eqb-true b 32 (both-left (eqb b 32) (eqb c 64) f)) ∙ ap (λ x. 32 ∷ x ∷ l) (eqb-true c 64 (both-right (eqb b 32) (eqb c 64) f))
-
-pub mark-within : (kind : ℕ) (line : List ℕ) (at : ℕ) → isMarked kind (drop at line) ≡ true → at + 1 < length line
-mark-within kind line at e = omega (arith, ap length (mark-told kind (drop at line) e .1), length-drop at line)
+    pub value-plain : isPosition kind l ≡ false → valueAt kind at l ≡ numberAt at l
+    unfolding valueAt
+    value-plain f = rw (e, f)
 
 -- ---- where the rest begins
 module _ (kind : ℕ) (line : List ℕ) (at : ℕ) where
@@ -193,7 +232,7 @@ going-start row line from = record { n = 5; left = refl; same = refl }
 
 module _ (row : ℕ) (line : List ℕ) (from : ℕ) (values : List Value) (at k : ℕ) (s : Going row line from values at k) where
   pub going-within : (t : Bool) → t ≡ (ltb k 5 && not (isLast (kindOf row k))) → t ≡ true → k < 5
-  going-within t e f = ltb-true k 5 (both-left (ltb k 5) _ (sym e ∙ f))
+  going-within t e f = ltb-true k 5 (and-eq-true-iff (ltb k 5) _ .0 (sym e ∙ f) .0)
 
   module _ (t : Bool) (e : t ≡ (ltb k 5 && not (isLast (kindOf row k)))) (f : t ≡ true) where
     more : (n : ℕ) → k + n ≡ 5
@@ -204,7 +243,7 @@ module _ (row : ℕ) (line : List ℕ) (from : ℕ) (values : List Value) (at k 
     more zero l = absurd (omega (arith, going-within t e f))
     more (suc n) l =
         let m : suc n - 1 ≡ n = omega arith in
-        rw (not-true (isLast (kindOf row k)) (both-right (ltb k 5) _ (sym e ∙ f)), m)
+        rw (not-true (isLast (kindOf row k)) (and-eq-true-iff (ltb k 5) _ .0 (sym e ∙ f) .1), m)
 
     -- by the word there
     module _ (kind : ℕ) (i : kind ≡ kindOf row k) (w : Word) (j : w ≡ allowed kind (valueAt kind at (drop at line))) where

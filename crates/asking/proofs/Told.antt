@@ -6,7 +6,7 @@ use mathlib.Core.List.{List, [], _∷_, _++_}
 use mathlib.Core.Bool.{Bool, true, false, cond, not, _||_, and-eq-true-iff}
 use native.Mathlib.Omega.{arith}
 use lib.Dec.{eqb, ltb}
-use lib.IntN.{ℤ}
+use lib.IntN.{ℤ, pos}
 use lib.ListN.{length, drop, set, getD, length-append, length-drop, take-append-drop}
 use lib.Seq.{drop-drop}
 use borrow.Author.Tests.{eqb-true, ltb-true, not-true}
@@ -17,12 +17,14 @@ use Rattle.asking.specs.declared.words.Asked.{Asked}
 use Rattle.asking.specs.declared.words.Rest.the-variants as rest
 use Rattle.asking.specs.Numbers.{signedAt, numberAt}
 use Rattle.asking.specs.Table.{Row, row, rows, rowCount, rowAt, wordOf, same, rowFrom, rowNamed, kindOf}
-use Rattle.asking.specs.Asked.{value, isMarked, valueAt, isInRange, allowed, isLast, restAt, noValues, unknown, askedRest, endedAt, wordThen, wordsFrom, askedOf}
-use Rattle.asking.specs.Grammar.{Behind, ended, noText, text, own, number, marked, Asks, asks}
+use Rattle.asking.specs.Asked.{value, isPosition, isUnstated, isMarked, valueAt, isInRange, allowed, isLast, restAt}
+use Rattle.asking.specs.Asked.{noValues, unknown, askedRest, endedAt, wordThen, wordsFrom, askedOf}
+use Rattle.asking.specs.Grammar.{Behind, ended, noText, text, own, number, marked, unstated, Asks, asks}
 use Rattle.asking.specs.Statements.{placedFrom, IsAsked}
 use Rattle.asking.proofs.Numerals.{number-told, number-left, signed-told, signed-left}
 use Rattle.asking.proofs.Understanding.{numbers, isFormed, letter-here, letter-none, letters-on, words-last, words-number, row-formed, row-five}
-use Rattle.asking.proofs.Taken.{word-within, word-first, value-plain, value-marked, mark-told}
+use Rattle.asking.proofs.Taken.{word-within, word-first, position-told, unstated-told, marked-unstated, marked-stated}
+use Rattle.asking.proofs.Taken.{value-unstated, value-marked, value-plain}
 
 -- what is told of the words from the k-th on, which begin at a place of the line
 record Told (n : ℕ) (letters t line : List ℕ) (k : ℕ) (values : List Value) (a : Asked) : Type 0 where
@@ -180,10 +182,10 @@ module _ (n : ℕ) (line : List ℕ) where
             (λ vs r b. subst (λ y. Behind (x ∷ l) y (value z false ∷ vs) r) (sym (t .is)) (number i (t .numeral) g (t .stops) b))
             u
 
-        marks : (z : ℤ) (next : ℕ) → mark ≡ true → signedAt (at + 2) (drop 2 (drop at line)) ≡ Number z next → then z next .row < rowCount
-            → Told n (x ∷ l) (drop at line) line k values (then z next)
-        marks z next f q u =
-            let m = mark-told x (drop at line) f in
+        marks : (z : ℤ) (next : ℕ) → mark ≡ true → isPosition x (drop at line) ≡ true → signedAt (at + 2) (drop 2 (drop at line)) ≡ Number z next
+            → then z next .row < rowCount → Told n (x ∷ l) (drop at line) line k values (then z next)
+        marks z next f g q u =
+            let m = position-told x (drop at line) g in
             let t = signed-told (at + 2) (drop 2 (drop at line)) z next q in
             let is : drop at line ≡ 32 ∷ 64 ∷ t .digits ++ t .rest = m .1 ∙ ap (λ y. 32 ∷ 64 ∷ y) (t .is) in
             let long : length (drop at line) ≡ suc (suc (length (t .digits) + length (t .rest))) =
@@ -195,19 +197,37 @@ module _ (n : ℕ) (line : List ℕ) where
             (subst (λ y. Behind (64 ∷ l) y (value z true ∷ vs) r) (sym is) (marked (t .numeral) (t .stops) b)))
             u
 
+        unstates : (z : ℤ) (next : ℕ) → isUnstated x (drop at line) ≡ true → Number (pos 0) (at + 2) ≡ Number z next
+            → then z next .row < rowCount → Told n (x ∷ l) (drop at line) line k values (then z next)
+        unstates z next f q u =
+            let m = unstated-told x (drop at line) f in
+            let is : drop at line ≡ 32 ∷ 45 ∷ drop 2 (drop at line) = m .1 .0 in
+            let none : pos 0 ≡ z = cc in
+            let past : at + 2 ≡ next = cc in
+            one z next true (drop 2 (drop at line)) (sym (marked-unstated x (drop at line) f))
+            (ap (λ y. drop y line) (sym past) ∙ sym (drop-drop 2 at line))
+            (omega (arith, past, ap length is, length-drop at line))
+            (λ vs r b. subst (λ y. Behind (x ∷ l) (drop at line) (value y true ∷ vs) r) none
+            (subst (λ y. Behind (y ∷ l) (drop at line) (value (pos 0) true ∷ vs) r) (sym (m .0))
+            (subst (λ y. Behind (102 ∷ l) y (value (pos 0) true ∷ vs) r) (sym is) (unstated (m .1 .1) b))))
+            u
+
         by : (y : Word) → valueAt x at (drop at line) ≡ y → wordThen (allowed x y) then .row < rowCount
             → Told n (x ∷ l) (drop at line) line k values (wordThen (allowed x y) then)
         by Nothing q u = absurd (past unknown refl u)
         by (Number z next) q u = ranged (isInRange x z) refl u
           where
-            number : (b : Bool) → mark ≡ b → isInRange x z ≡ true → then z next .row < rowCount
-                → Told n (x ∷ l) (drop at line) line k values (then z next)
-            number true f g u = marks z next f (sym (value-marked x at (drop at line) f) ∙ q) u
-            number false f g u = plain z next f (sym (value-plain x at (drop at line) f) ∙ q) g u
+            number : (a : Bool) → isUnstated x (drop at line) ≡ a → (b : Bool) → isPosition x (drop at line) ≡ b → isInRange x z ≡ true
+                → then z next .row < rowCount → Told n (x ∷ l) (drop at line) line k values (then z next)
+            number true e b f g u = unstates z next e (sym (value-unstated x at (drop at line) e) ∙ q) u
+            number false e true f g u =
+                marks z next (sym (marked-stated x (drop at line) e) ∙ f) f (sym (value-marked x at (drop at line) e f) ∙ q) u
+            number false e false f g u =
+                plain z next (sym (marked-stated x (drop at line) e) ∙ f) (sym (value-plain x at (drop at line) e f) ∙ q) g u
 
             ranged : (b : Bool) → isInRange x z ≡ b → wordThen (cond b (Number z next) Nothing) then .row < rowCount
                 → Told n (x ∷ l) (drop at line) line k values (wordThen (cond b (Number z next) Nothing) then)
-            ranged true g u = number mark refl g u
+            ranged true g u = number (isUnstated x (drop at line)) refl (isPosition x (drop at line)) refl g u
             ranged false g u = absurd (past unknown refl u)
 
   -- the last letter is the only one that is no number's

@@ -6,7 +6,7 @@ use mathlib.Core.List.{List, [], _∷_, _++_}
 use mathlib.Core.Bool.{Bool, true, false, cond, not, _&&_, and-eq-true-iff}
 use native.Mathlib.Omega.{arith}
 use lib.Dec.{eqb, leb}
-use lib.IntN.{ℤ}
+use lib.IntN.{ℤ, pos}
 use lib.ListN.{length, drop, set, getD, length-append, length-drop}
 use lib.Seq.{drop-drop, drop-append-seam}
 use borrow.Author.Tests.{eqb-true, eqb-false, lt-ltb, leb-true, not-true}
@@ -14,13 +14,14 @@ use Rattle.laws.specs.Every.{at-every}
 use Rattle.asking.specs.declared.values.Word.the-variants.{Number}
 use Rattle.asking.specs.declared.words.Value.{Value}
 use Rattle.asking.specs.declared.words.Rest.the-variants as rest
-use Rattle.asking.specs.Table.{Row, row, rows, rowCount, rowAt, wordOf, isPlain, same, rowFrom, rowNamed, kindOf}
-use Rattle.asking.specs.Asked.{value, isMarked, valueAt, isInRange, allowed, isLast, restAt, asked, noValues, endedAt, wordThen, wordsFrom, askedOf}
-use Rattle.asking.specs.Grammar.{Behind, ended, noText, text, own, number, marked, Asks, asks}
+use Rattle.asking.specs.Table.{Row, row, rows, rowCount, rowAt, wordOf, isPlain, same, isOver, rowFrom, rowNamed, kindOf}
+use Rattle.asking.specs.Asked.{value, isMarked, valueAt, isInRange, allowed, isLast, restAt}
+use Rattle.asking.specs.Asked.{asked, noValues, endedAt, wordThen, wordsFrom, askedOf}
+use Rattle.asking.specs.Grammar.{Behind, ended, noText, text, own, number, marked, unstated, Asks, asks}
 use Rattle.asking.specs.Statements.{placedFrom}
-use Rattle.asking.proofs.Numerals.{number-taken, number-unmarked, number-left, marked-taken, signed-left}
+use Rattle.asking.proofs.Numerals.{number-unmarked, plain-taken, number-left, marked-here, marked-taken, signed-left, unstated-here}
 use Rattle.asking.proofs.Named.{name-plain}
-use Rattle.asking.proofs.Taken.{value-plain}
+use Rattle.asking.proofs.Taken.{marked-unstated, value-unstated}
 
 -- ---- the letter at a place of a row's letters
 pub letter-here : (l : List ℕ) (k : ℕ) (x : ℕ) (r : List ℕ) → drop k l ≡ x ∷ r → getD l k 32 ≡ x
@@ -84,7 +85,7 @@ module _ (n : ℕ) (line : List ℕ) where
       → (m at k begins : ℕ) (values : List Value) → drop k (rowAt n .letters) ≡ letters → drop at line ≡ t → at ≤ length line → numbers letters ≤ m
       → begins + length r ≡ length line
       → wordsFrom m n line at k values ≡ asked n (placedFrom k values vs) begins
-  unfolding restAt placedFrom numbers isMarked isInRange
+  unfolding restAt placedFrom numbers isInRange
   behind-is ended m at k begins values p q w c b =
       let e : at ≡ begins = omega (arith, place-is at begins [] [] q w b) in
       last-is m at k begins 32 values [] refl (letter-none (rowAt n .letters) k p) q (ap rest.At e)
@@ -104,18 +105,24 @@ module _ (n : ℕ) (line : List ℕ) where
   behind-is (number {kind} {letters} {d} {l} {z} {vs} {r} e f g h i) zero at k begins values p q w c b = absurd (omega (arith, rw e at c))
   behind-is (number {kind} {letters} {d} {l} {z} {vs} {r} e f g h i) (suc m) at k begins values p q w c b =
       let long : length (drop at line) ≡ suc (length d + length l) = ap length q ∙ ap suc (length-append d l) in
-      let plain = number-unmarked f kind l in
-      one-is m at k kind values (32 ∷ d ++ l) false z (at + 1 + length d) (letter-here (rowAt n .letters) k kind letters p) e g q plain
-      (value-plain kind at (32 ∷ d ++ l) plain ∙ number-taken f at l h)
+      one-is m at k kind values (32 ∷ d ++ l) false z (at + 1 + length d) (letter-here (rowAt n .letters) k kind letters p) e g q (number-unmarked f kind l)
+      (plain-taken f kind at l h)
       ∙ behind-is i m (at + 1 + length d) (k + 1) begins (set values k (value z false)) (letters-on (rowAt n .letters) k kind letters p)
       (number-left line at d l q) (omega (arith, long, length-drop at line)) (omega (arith, rw e at c)) b
   behind-is (marked {letters} {d} {l} {z} {vs} {r} f h i) zero at k begins values p q w c b = absurd (omega (arith, c))
   behind-is (marked {letters} {d} {l} {z} {vs} {r} f h i) (suc m) at k begins values p q w c b =
       let long : length (drop at line) ≡ suc (suc (length d + length l)) = ap length q ∙ ap (λ x. suc (suc x)) (length-append d l) in
-      one-is m at k 64 values (32 ∷ 64 ∷ d ++ l) true z (at + 2 + length d) (letter-here (rowAt n .letters) k 64 letters p) refl refl q refl
+      one-is m at k 64 values (32 ∷ 64 ∷ d ++ l) true z (at + 2 + length d) (letter-here (rowAt n .letters) k 64 letters p) refl refl q (marked-here (d ++ l))
       (marked-taken f at l h)
       ∙ behind-is i m (at + 2 + length d) (k + 1) begins (set values k (value z true)) (letters-on (rowAt n .letters) k 64 letters p)
       (signed-left line (at + 2) d l (sym (drop-drop 2 at line) ∙ ap (drop 2) q)) (omega (arith, long, length-drop at line)) (omega (arith, c)) b
+  behind-is (unstated h i) zero at k begins values p q w c b = absurd (omega (arith, c))
+  behind-is (unstated {letters} {l} {vs} {r} h i) (suc m) at k begins values p q w c b =
+      let e = unstated-here l h in
+      one-is m at k 102 values (32 ∷ 45 ∷ l) true (pos 0) (at + 2) (letter-here (rowAt n .letters) k 102 letters p) refl refl q
+      (sym (marked-unstated 102 _ e)) (value-unstated 102 at _ e)
+      ∙ behind-is i m (at + 2) (k + 1) begins (set values k (value (pos 0) true)) (letters-on (rowAt n .letters) k 102 letters p)
+      (sym (drop-drop 2 at line) ∙ ap (drop 2) q) (omega (arith, ap length q, length-drop at line)) (omega (arith, c)) b
 
 -- ---- the rows: the first row with a row's word is that row; a word is followed by a space or the line's end; five numbers at most
 unfoldable pub isFormed : List ℕ → Bool
@@ -159,21 +166,18 @@ module _ (n : ℕ) (h : n < rowCount) where
       eqb-false _ _ (not-true _ (and-eq-true-iff (leb (numbers (rowAt n .letters)) 5) _ .0 (and-eq-true-iff (isFormed (rowAt n .letters)) _ .0 row-is .1) .1))
 
 -- ---- a word and what stands behind it
-opens : List ℕ → Bool
-opens [] = true
-opens (b ∷ l) = eqb b 32
-
-behind-opens : {letters t : List ℕ} {vs : List Value} {r : List ℕ} → Behind letters t vs r → (getD letters 0 32 ≡ 42 → ⊥) → opens t ≡ true
-unfolding opens
+behind-opens : {letters t : List ℕ} {vs : List Value} {r : List ℕ} → Behind letters t vs r → (getD letters 0 32 ≡ 42 → ⊥) → isOver t ≡ true
+unfolding isOver
 behind-opens ended h = refl
 behind-opens noText h = refl
 behind-opens text h = refl
 behind-opens own h = absurd (h refl)
 behind-opens (number e f g i j) h = refl
 behind-opens (marked e f g) h = refl
+behind-opens (unstated e f) h = refl
 
-word-is : (name t : List ℕ) → isPlain name ≡ true → opens t ≡ true → wordOf (name ++ t) ≡ name
-unfolding wordOf isPlain opens
+word-is : (name t : List ℕ) → isPlain name ≡ true → isOver t ≡ true → wordOf (name ++ t) ≡ name
+unfolding wordOf isPlain isOver
 word-is [] [] p o = refl
 word-is [] (b ∷ t) p o = rw o
 word-is (b ∷ name) t p o =

@@ -7,7 +7,6 @@ use lib.Dec.{eqb, ltb, leb}
 use lib.IntN.{ℤ, pos, natAbs}
 use lib.ListN.{length, drop, set}
 use Rattle.numbers.specs.Sign.{isNeg}
-use Rattle.digits.specs.Digits.{isByte, firstIs}
 use Rattle.asking.specs.declared.values.Word.{Word}
 use Rattle.asking.specs.declared.values.Word.the-variants.{Number, Nothing}
 use Rattle.asking.specs.declared.words.Value.{Value}
@@ -15,20 +14,33 @@ use Rattle.asking.specs.declared.words.Asked.{Asked}
 use Rattle.asking.specs.declared.words.Rest.{Rest}
 use Rattle.asking.specs.declared.words.Rest.the-variants as rest
 use Rattle.asking.specs.Numbers.{signedAt, numberAt}
-use Rattle.asking.specs.Table.{rowCount, wordOf, rowNamed, kindOf}
+use Rattle.laws.specs.Spelt.{spelt}
+use Rattle.asking.specs.Table.{wordOf, wordFirst, isOver, rowCount, rowNamed, kindOf}
 
 -- ---- a number and its mark, in a line: l is what is left of it
--- a number, and whether it has the mark of a position
+-- a number, and whether it has the mark of a position; of a film format: none is stated
 abbrev pub value : ℤ → (marked : Bool) → Value
 value z marked = record { number = z; marked = marked }
 
 -- the letter is `@`, a rate's that may have the mark, and `@` stands in front, behind one space
-unfoldable pub isMarked : (kind : ℕ) → List ℕ → Bool
-isMarked kind l = eqb kind 64 && (firstIs (isByte 32) l && firstIs (isByte 64) (drop 1 l))
+unfoldable pub isPosition : (kind : ℕ) → List ℕ → Bool
+isPosition kind l = eqb kind 64 && wordFirst (spelt " @") l
 
--- the number in front, from the place `at` on: behind one space, and behind its mark where it has one
+-- the letter is `f`, a film format's, and `-` alone stands in front, behind one space
+unfoldable pub isUnstated : (kind : ℕ) → List ℕ → Bool
+isUnstated kind l = eqb kind 102 && (wordFirst (spelt " -") l && isOver (drop 2 l))
+
+-- one of the two stands there: the mark of a position, or `-` for no film format
+unfoldable pub isMarked : (kind : ℕ) → List ℕ → Bool
+isMarked kind l = isUnstated kind l || isPosition kind l
+
+-- the number in front, from the place `at` on: behind one space, and behind its mark where it has one; 0 for a film format that is not
+-- stated
 unfoldable pub valueAt : (kind at : ℕ) → List ℕ → Word
-valueAt kind at l = cond (isMarked kind l) (signedAt (at + 2) (drop 2 l)) (numberAt at l)
+valueAt kind at l =
+    cond (isUnstated kind l) (Number (pos 0) (at + 2))
+    (cond (isPosition kind l) (signedAt (at + 2) (drop 2 l))
+    (numberAt at l))
 
 -- ---- a word by its letter
 -- a room is from 0 to the widest

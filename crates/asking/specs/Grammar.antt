@@ -9,7 +9,8 @@ use Rattle.numbers.specs.Sign.{signed}
 use Rattle.digits.specs.Digits.{IsField, valueOf, digitFirst}
 use Rattle.asking.specs.declared.words.Value.{Value}
 use Rattle.asking.specs.Numbers.{isWithin}
-use Rattle.asking.specs.Table.{spelt, rowCount, rowAt}
+use Rattle.laws.specs.Spelt.{spelt}
+use Rattle.asking.specs.Table.{isOver, rowCount, rowAt}
 use Rattle.asking.specs.Asked.{value, isInRange, isLast}
 
 -- a number: an optional `-` and one or more digits, within 64 bits signed; zeros in front are fine
@@ -33,6 +34,9 @@ pub data Behind : (letters text : List ℕ) → (values : List Value) → (rest 
   -- the rate of a timecode behind one space and the mark `@`, which says that the timecode is a position; no digit behind it
   marked : {letters d l : List ℕ} {z : ℤ} {vs : List Value} {r : List ℕ}
       → Numeral d z → digitFirst l ≡ false → Behind letters l vs r → Behind (64 ∷ letters) (32 ∷ 64 ∷ d ++ l) (value z true ∷ vs) r
+  -- a film format's `-` behind one space, for none stated; a space or the line's end behind it
+  unstated : {letters l : List ℕ} {vs : List Value} {r : List ℕ}
+      → isOver l ≡ true → Behind letters l vs r → Behind (102 ∷ letters) (32 ∷ 45 ∷ l) (value (pos 0) true ∷ vs) r
 
 -- a line: the word of a row, and what stands behind it
 pub data Asks : (line : List ℕ) → (row : ℕ) → (values : List Value) → (rest : List ℕ) → Type 0 where

@@ -14,7 +14,7 @@ use Rattle.asking.specs.declared.numbered.Listed.{Listed}
 use Rattle.asking.specs.Numbers.{numberAt}
 use Rattle.asking.specs.Asked.{noValue}
 
--- each of the five as it is given, or as one from 0 on; and whether each of the first three has the mark
+-- each of the five as it is given, or as one from 0 on; and whether each of the first three is marked
 abbrev pub numbersOf : List Value → Numbers
 numbersOf v = record {
   up1 = upFrom (getD v 0 noValue .number);

@@ -2,23 +2,18 @@
 -- Assumes nothing.
 use Prim.Native.Nat.{ℕ, zero, suc, _+_}
 use mathlib.Core.List.{List, [], _∷_}
-use mathlib.Core.Bool.{Bool, true, cond, _&&_}
+use mathlib.Core.Bool.{Bool, cond, _&&_}
 use lib.Dec.{eqb, leb}
 use lib.IntN.{ℤ, pos, natAbs}
 use lib.ListN.{length, drop, set}
-use Rattle.digits.specs.Digits.{isByte, firstIs}
 use Rattle.asking.specs.declared.values.Word.{Word}
 use Rattle.asking.specs.declared.values.Word.the-variants.{Number, Nothing}
 use Rattle.asking.specs.Numbers.{numberAt}
-use Rattle.asking.specs.Table.{spelt}
+use Rattle.laws.specs.Spelt.{spelt}
+use Rattle.asking.specs.Table.{wordFirst}
 use Rattle.asking.specs.Numbered.{Listing, listThen}
 
 -- ---- in a line: l is what is left of it from the place `at` on
--- the word stands in front
-unfoldable pub wordFirst : (word l : List ℕ) → Bool
-wordFirst [] l = true
-wordFirst (b ∷ w) l = firstIs (isByte b) l && wordFirst w (drop 1 l)
-
 -- the kind of a record by its word, behind one space: a rate is 1, a shot 2, a reel 3; and the place past the word
 unfoldable pub kindAt : (at : ℕ) → List ℕ → Word
 kindAt at l =

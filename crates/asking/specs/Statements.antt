@@ -60,4 +60,5 @@ MarksBelong =
     ∷ (0 ∷ []) ∷ (0 ∷ []) ∷ (0 ∷ []) ∷ (0 ∷ []) ∷ (0 ∷ [])  -- mul, div, rem, divq, remq
     ∷ (0 ∷ [])  -- convert
     ∷ [] ∷ []  -- read_list, write_list
+    ∷ (0 ∷ [])  -- why
     ∷ [])

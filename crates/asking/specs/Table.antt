@@ -2,18 +2,14 @@
 -- Assumes nothing.
 use Prim.Native.Nat.{ℕ, zero, suc}
 use Prim.Native.String.{String}
-use Prim.Native.Char.{code}
 use mathlib.Core.List.{List, [], _∷_, _++_}
 use mathlib.Core.Bool.{Bool, true, false, cond, not, _&&_}
 use lib.Dec.{eqb}
-use lib.ListN.{getD}
+use lib.ListN.{drop, getD}
+use Rattle.laws.specs.Spelt.{spelt}
+use Rattle.digits.specs.Digits.{isByte, firstIs}
 
 -- ---- words
--- the bytes of a quoted word
-abbrev pub spelt : String → List ℕ
-spelt String.[] = []
-spelt (String._∷_ c s) = code c ∷ spelt s
-
 -- the word that a line begins with: its bytes before the first space
 unfoldable pub wordOf : List ℕ → List ℕ
 wordOf [] = []
@@ -31,10 +27,20 @@ same [] (b ∷ m) = false
 same (a ∷ l) [] = false
 same (a ∷ l) (b ∷ m) = eqb a b && same l m
 
+-- the word stands in front
+unfoldable pub wordFirst : (word l : List ℕ) → Bool
+wordFirst [] l = true
+wordFirst (b ∷ w) l = firstIs (isByte b) l && wordFirst w (drop 1 l)
+
+-- a word is over here: a space stands in front, or nothing is left
+unfoldable pub isOver : List ℕ → Bool
+isOver [] = true
+isOver (b ∷ l) = eqb b 32
+
 -- ---- the rows
 -- a command's word, and the letters of the words behind it: `@` the rate of a timecode, which may have the mark, `r` a rate that has no
--- mark, `n` any number, `p` a place (from 0 on), `m` a room (0 to 128), `w` a wide room (0 to 1024); last `t` a text, the rest of the
--- line, or `*` a rest that the command takes apart itself
+-- mark, `n` any number, `f` a film format, any number, or `-` where none is stated, `p` a place (from 0 on), `m` a room (0 to 128),
+-- `w` a wide room (0 to 1024); last `t` a text, the rest of the line, or `*` a rest that the command takes apart itself
 pub record Row : Type 0 where
   pub name : List ℕ
   pub letters : List ℕ
@@ -71,11 +77,12 @@ rows =
     ∷ row "convert" "@n*"
     ∷ row "read_list" "t"
     ∷ row "write_list" "pw*"
+    ∷ row "why" "@fpmt"
     ∷ []
 
 -- how many rows there are
 abbrev pub rowCount : ℕ
-rowCount = 27
+rowCount = 28
 
 -- the row of a number, and one of no word for any other number
 abbrev pub rowAt : ℕ → Row

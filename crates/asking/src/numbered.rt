@@ -6,7 +6,7 @@ use crate::values;
 use crate::values::Word;
 use crate::words::Value;
 
-// The five numbers by place: `n` as it is given, where its sign counts, `up` as one from 0 on; `at`, whether it has the mark.
+// The five numbers by place: `n` as it is given, where its sign counts, `up` as one from 0 on; `at`, whether it is marked.
 pub struct Numbers {
     pub up1: u64,
     pub n2: i64,

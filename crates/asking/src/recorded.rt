@@ -2,36 +2,22 @@
 // (1, 2, 3) and its numbers.
 ghost use mathlib.Core.Path.{_≡_};
 ghost use lib.ListN.{drop};
-ghost use Rattle.asking.specs.RecordWords.{wordFirst, kindAt, nextAt, dueBehind, isDone, recordsOf};
+ghost use Rattle.asking.specs.RecordWords.{kindAt, nextAt, dueBehind, isDone, recordsOf};
 use crate::numbered::Listed;
 use crate::values;
 use crate::values::Word;
-
-// Does this word stand at a place of the line?
-fn word_stands(line: &[u8], at: usize, word: &[u8]) -> bool
-    ensures answer { λ r. ⌜ r ≡ wordFirst (now (word .entry)) (drop at (now (line .entry))) ⌝ }
-{
-    let mut i = 0;
-    while i < word.len() {
-        if !values::stands(line, at + i, word[i]) {
-            return false;
-        }
-        i += 1;
-    }
-    true
-}
 
 // The kind of the record whose word stands at a place, behind one space, and the place past the word.
 fn kind_at(line: &[u8], at: usize) -> Word
     ensures answer { λ r. ⌜ r ≡ kindAt at (drop at (now (line .entry))) ⌝ }
 {
-    if word_stands(line, at, b" rate") {
+    if values::word_stands(line, at, b" rate") {
         return Word::Number(1, at + 5);
     }
-    if word_stands(line, at, b" shot") {
+    if values::word_stands(line, at, b" shot") {
         return Word::Number(2, at + 5);
     }
-    if word_stands(line, at, b" reel") {
+    if values::word_stands(line, at, b" reel") {
         return Word::Number(3, at + 5);
     }
     Word::Nothing

@@ -53,5 +53,7 @@ pub const READ_LIST: usize = 25;
 
 pub const WRITE_LIST: usize = 26;
 
+pub const WHY: usize = 27;
+
 // How many rows there are.
-pub(crate) const ROWS: usize = 27;
+pub(crate) const ROWS: usize = 28;

@@ -3,6 +3,7 @@ ghost use mathlib.Core.Path.{_≡_};
 ghost use mathlib.Core.Bool.{true};
 ghost use lib.ListN.{drop};
 ghost use Rattle.digits.specs.Digits.{isByte, allDigits, valueOf, isDigit, firstIs};
+ghost use Rattle.asking.specs.Table.{wordFirst};
 ghost use Rattle.asking.specs.Numbers.{Held, pushed, signedWord, digitsAt, signedAt, numberAt};
 
 // A number and the place past it; or none stands there.
@@ -73,6 +74,20 @@ pub(crate) fn stands(line: &[u8], at: usize, b: u8) -> bool
         return line[at] == b;
     }
     false
+}
+
+// Does this word stand at a place of the line?
+pub(crate) fn word_stands(line: &[u8], at: usize, word: &[u8]) -> bool
+    ensures answer { λ r. ⌜ r ≡ wordFirst (now (word .entry)) (drop at (now (line .entry))) ⌝ }
+{
+    let mut i = 0;
+    while i < word.len() {
+        if !stands(line, at + i, word[i]) {
+            return false;
+        }
+        i += 1;
+    }
+    true
 }
 
 // An optional `-` at a place, and the digits behind it.

@@ -4,15 +4,15 @@ ghost use mathlib.Core.Bool.{not, _&&_};
 ghost use Prim.Native.Nat.{_<_, _≤_};
 ghost use lib.ListN.{length, drop};
 ghost use lib.Dec.{ltb};
-ghost use Rattle.asking.specs.Table.{rowCount, wordOf, kindOf};
-ghost use Rattle.asking.specs.Asked.{isMarked, valueAt, isRoom, isInRange, allowed, isLast, restAt, unknown, endedAt, wordsFrom, noValues};
-ghost use Rattle.asking.specs.Asked.{askedOf};
+ghost use Rattle.asking.specs.Table.{wordOf, isOver, rowCount, kindOf};
+ghost use Rattle.asking.specs.Asked.{isPosition, isUnstated, isMarked, valueAt, isRoom, isInRange, allowed, isLast, restAt};
+ghost use Rattle.asking.specs.Asked.{unknown, endedAt, wordsFrom, noValues, askedOf};
 use crate::rows;
 use crate::table;
 use crate::values;
 use crate::values::Word;
 
-// A number of a command, and whether it has the mark of a position.
+// A number of a command, and whether it has the mark of a position; of a film format: none is stated.
 pub struct Value {
     pub number: i64,
     pub marked: bool,
@@ -90,24 +90,57 @@ fn is_allowed(kind: u8, z: i64) -> bool
     true
 }
 
+// Is a word over at a place of the line? A space stands there, or the line has ended.
+fn is_over(line: &[u8], at: usize) -> bool
+    ensures answer { λ r. ⌜ r ≡ isOver (drop at (now (line .entry))) ⌝ }
+{
+    if at < line.len() {
+        return line[at] == b' ';
+    }
+    true
+}
+
 // Does the mark stand at a place of the line, behind one space, where a row has this letter? Only `@` may have it.
-fn is_marked(line: &[u8], at: usize, kind: u8) -> bool
-    ensures answer { λ r. ⌜ r ≡ isMarked kind (drop at (now (line .entry))) ⌝ }
+fn is_position(line: &[u8], at: usize, kind: u8) -> bool
+    ensures answer { λ r. ⌜ r ≡ isPosition kind (drop at (now (line .entry))) ⌝ }
 {
     if kind != b'@' {
         return false;
     }
-    if !values::stands(line, at, b' ') {
-        return false;
-    }
-    values::stands(line, at + 1, b'@')
+    values::word_stands(line, at, b" @")
 }
 
-// The number at a place of the line, behind one space, and behind its mark where it has one.
+// Does `-` alone stand at a place of the line, behind one space, where a row has this letter? Only a film format may be not stated.
+fn is_unstated(line: &[u8], at: usize, kind: u8) -> bool
+    ensures answer { λ r. ⌜ r ≡ isUnstated kind (drop at (now (line .entry))) ⌝ }
+{
+    if kind != b'f' {
+        return false;
+    }
+    if !values::word_stands(line, at, b" -") {
+        return false;
+    }
+    is_over(line, at + 2)
+}
+
+// Does one of the two stand there: the mark of a position, or `-` for no film format?
+fn is_marked(line: &[u8], at: usize, kind: u8) -> bool
+    ensures answer { λ r. ⌜ r ≡ isMarked kind (drop at (now (line .entry))) ⌝ }
+{
+    if is_unstated(line, at, kind) {
+        return true;
+    }
+    is_position(line, at, kind)
+}
+
+// The number at a place of the line, behind one space, and behind its mark where it has one; 0 for a film format that is not stated.
 fn value_at(line: &[u8], at: usize, kind: u8) -> Word
     ensures answer { λ r. ⌜ r ≡ valueAt kind at (drop at (now (line .entry))) ⌝ }
 {
-    if is_marked(line, at, kind) {
+    if is_unstated(line, at, kind) {
+        return Word::Number(0, at + 2);
+    }
+    if is_position(line, at, kind) {
         return values::signed_at(line, at + 2);
     }
     values::number(line, at)

@@ -12,6 +12,10 @@ use Rattle.film.proofs.FilmFormat.allows_perf_field as allows-perf-fiel
 use Rattle.film.proofs.FilmFormat.allows_perf_field.Reads as allows-perf-field-reads
 use Rattle.film.proofs.format_at as format-at
 use Rattle.film.proofs.format_at.Reads as format-at-reads
+use Rattle.film.proofs.film_fault as film-fault
+use Rattle.film.proofs.film_fault.Reads as film-fault-reads
+use Rattle.film.proofs.footage_frames as footage-frames
+use Rattle.film.proofs.footage_frames.Reads as footage-frames-reads
 use Rattle.film.proofs.on_film as on-film
 use Rattle.film.proofs.on_film.Reads as on-film-reads
 use Rattle.film.proofs.footage_count as footage-count
@@ -42,3 +46,9 @@ footage-count-determined κs a asked x y p q = ap (λ z. (z, x .1)) (p ∙ sym q
 
 pub feet-and-frames-determined : Determined feet-and-frames.ended feet-and-frames-reads.Asked feet-and-frames-reads.Learnt
 feet-and-frames-determined κs a asked x y p q = ap (λ z. (z, x .1)) (p ∙ sym q)
+
+pub film-fault-determined : Determined film-fault.ended film-fault-reads.Asked film-fault-reads.Learnt
+film-fault-determined κs a asked x y p q = ap (λ z. (z, x .1)) (p ∙ sym q)
+
+pub footage-frames-determined : Determined footage-frames.ended footage-frames-reads.Asked footage-frames-reads.Learnt
+footage-frames-determined κs a asked x y p q = ap (λ z. (z, x .1)) (p ∙ sym q)

@@ -2,13 +2,16 @@
 // A number that is no film format is refused 6, a count outside its bounds 5.
 use answers::Counted;
 use answers::Refusal;
+use faults::Field;
+use faults::Found;
 ghost use mathlib.Core.Path.{_≡_};
-ghost use Prim.Native.Nat.{_≤_};
+ghost use Prim.Native.Nat.{_≤_, _<_};
 ghost use Rattle.numbers.specs.Sign.{signed};
-ghost use Rattle.answers.specs.Refusals.{mostCount, held};
+ghost use Rattle.answers.specs.Refusals.{mostCount, beyond, held};
 ghost use Rattle.film.specs.Film.{formatNumber, perfsPerFrame, perfsPerFoot, allowsPerfField, formatAt};
-ghost use Rattle.film.specs.Footage.{footageCount, footageOf, footageIn};
+ghost use Rattle.film.specs.Footage.{footageCount, footageOr, footageOf, footageIn};
 ghost use Rattle.film.specs.OnFilm.{framesInFoot, onFilm};
+ghost use Rattle.film.specs.Faults.{markerFault, filmFault};
 
 // vtc's film formats: 4-perf, 3-perf and 2-perf on 35 mm, and 16 mm.
 pub enum FilmFormat {
@@ -93,17 +96,30 @@ impl FilmFormat {
     }
 }
 
-// Whether a footage can be on the film: its frames number occurs in that foot, and its marker, if it is marked, is feet modulo 3.
+// The marker of a footage, if it is marked: feet modulo 3.
+fn marker_fault(feet: u64, marked: bool, marker: u64) -> Found
+    ensures answer { λ r. ⌜ r ≡ markerFault feet marked marker ⌝ }
+{
+    if !marked {
+        return Found::NoFault;
+    }
+    faults::exactly(Field::Marker, feet % 3, marker)
+}
+
+// The first field from the left that no footage of that foot has: a frames number that does not occur in it, or a marker that is not feet
+// modulo 3.
+pub fn film_fault(format: FilmFormat, feet: u64, frames: u64, marked: bool, marker: u64) -> Found
+    ensures answer { λ r. ⌜ r ≡ filmFault format feet frames marked marker ⌝ }
+{
+    let first = faults::under(Field::Frames, format.frames_in_foot(feet), frames);
+    faults::leftmost(first, marker_fault(feet, marked, marker))
+}
+
+// Whether a footage can be on the film: none of its fields is at fault.
 pub fn on_film(format: FilmFormat, feet: u64, frames: u64, marked: bool, marker: u64) -> bool
     ensures answer { λ r. ⌜ r ≡ onFilm format feet frames marked marker ⌝ }
 {
-    if frames >= format.frames_in_foot(feet) {
-        return false;
-    }
-    if !marked {
-        return true;
-    }
-    marker == feet % 3
+    faults::is_none(film_fault(format, feet, frames, marked, marker))
 }
 
 // The film format of a number. Refuses 6: no such film format.
@@ -120,22 +136,28 @@ pub fn format_at(no: u64) -> Filmed
 }
 
 // The count of feet and frames that were read, with this sign. Refuses 5: it is outside its bounds.
-// A count is no less than its feet or its frames, so these are tested first and nothing wraps.
 pub fn footage_count(format: FilmFormat, minus: bool, feet: u64, frames: u64) -> Counted
     ensures answer { λ r. ⌜ r ≡ held (signed minus (footageCount format feet frames)) ⌝ }
 {
-    if feet > answers::MOST_COUNT {
-        return Counted::Refused(answers::OUT_OF_BOUNDS);
-    }
-    if frames > answers::MOST_COUNT {
-        return Counted::Refused(answers::OUT_OF_BOUNDS);
-    }
-    answers::held(minus, count_of(format, feet, frames))
+    answers::held(minus, footage_frames(format, feet, frames))
 }
 
-// The count of feet and frames. Asks that neither is above the largest count.
+// The exact count of feet and frames, where each has at most 9 digits; a number beyond all bounds for others, whose count is no less.
+pub fn footage_frames(format: FilmFormat, feet: u64, frames: u64) -> u64
+    ensures answer { λ r. ⌜ r ≡ footageOr format feet frames ⌝ }
+{
+    if feet >= answers::BEYOND {
+        return answers::BEYOND;
+    }
+    if frames >= answers::BEYOND {
+        return answers::BEYOND;
+    }
+    count_of(format, feet, frames)
+}
+
+// The count of feet and frames. Asks at most 9 digits of each.
 fn count_of(format: FilmFormat, feet: u64, frames: u64) -> u64
-    requires fields { ⌜ (feet ≤ mostCount) × (frames ≤ mostCount) ⌝ }
+    requires fields { ⌜ (feet < beyond) × (frames < beyond) ⌝ }
     ensures answer { λ r. ⌜ r ≡ footageCount format feet frames ⌝ }
 {
     match format {

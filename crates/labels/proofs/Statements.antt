@@ -19,6 +19,7 @@ use Rattle.labels.specs.BoundLaws.{hours-le}
 use Rattle.labels.specs.Sections.{labelNumber, fieldsAt, isAllowed, sectionsOf}
 use Rattle.labels.specs.Statements.{HasFields, OneNumber, CountsEarlier, HasLabel, OneLabel, SmallFields, FillDay, FillRate, DayEnds, FillInOrder, StrictExactly, FillDay30, FillDay60}
 use Rattle.labels.specs.StrictLaws.{isStrict-told, isStrict-in}
+use Rattle.labels.specs.FaultLaws.{strictFault-none}
 use Rattle.labels.proofs.Fields.{fields-back}
 use Rattle.labels.proofs.Earlier.{before-place, before-minute}
 use Rattle.labels.proofs.Found.{found}
@@ -177,7 +178,9 @@ fill-in-order timebase D m n a b d x y = (
         omega (arith, l, counts-earlier timebase D m a d x, counts-earlier timebase D n b d y, ap (before (isAllowed timebase D)) e)
 
 pub strict-exactly : StrictExactly
-strict-exactly timebase fields four = (isStrict-told timebase fields four, λ h. isStrict-in timebase fields (h .0) (h .1))
+strict-exactly timebase fields four =
+    let is = strictFault-none timebase fields in
+    (λ e. isStrict-told timebase fields four (sym is ∙ e), λ h. is ∙ isStrict-in timebase fields (h .0) (h .1))
 
 pub fill-day30 : FillDay30
 fill-day30 = fill-day 30 2 (omega arith)

@@ -11,14 +11,33 @@ use Rattle.numbers.specs.Sign.{signed}
 use Rattle.answers.specs.declared.Counted.{Counted}
 use Rattle.answers.specs.declared.Counted.the-variants.{Refused}
 use Rattle.answers.specs.Order.{unless}
-use Rattle.answers.specs.Refusals.{mostCount, noSuch, held}
+use Rattle.answers.specs.Refusals.{mostCount, beyond, noSuch, held}
 use Rattle.rates.specs.Rates.{isRate, rateRow, badRate, dropFrames}
-use Rattle.labels.specs.Label.{countIn}
+use Rattle.labels.specs.Label.{countIn, isShort}
 use Rattle.labels.specs.Sections.{sectionsOf}
 
 -- the count of fields at a rate, negated for `-`
 abbrev pub labelFrames : (rate : ℕ) (minus : Bool) (fields : List ℕ) → ℤ
 labelFrames rate minus fields = signed minus (countIn (rateRow rate .timebase) (dropFrames rate) fields)
+
+-- the same without its sign, of fields of at most 9 digits; of others, whose count is no less, and where there is no such rate, a number beyond
+-- all bounds
+unfoldable pub framesOr : (rate : ℕ) (fields : List ℕ) → ℕ
+framesOr rate fields = cond (isRate rate && isShort fields) (countIn (rateRow rate .timebase) (dropFrames rate) fields) beyond
+
+pub framesOr-in :
+    (rate : ℕ) (fields : List ℕ) → isRate rate ≡ true → isShort fields ≡ true
+    → framesOr rate fields ≡ countIn (rateRow rate .timebase) (dropFrames rate) fields
+unfolding framesOr
+framesOr-in rate fields e f = rw (e, f)
+
+pub framesOr-unrated : (rate : ℕ) (fields : List ℕ) → isRate rate ≡ false → framesOr rate fields ≡ beyond
+unfolding framesOr
+framesOr-unrated rate fields e = rw e
+
+pub framesOr-long : (rate : ℕ) (fields : List ℕ) → isRate rate ≡ true → isShort fields ≡ false → framesOr rate fields ≡ beyond
+unfolding framesOr
+framesOr-long rate fields e f = rw (e, f)
 
 -- 6: no such rate; else it, held to its bounds
 unfoldable pub labelCounted : (rate : ℕ) (minus : Bool) (fields : List ℕ) → Counted

@@ -7,9 +7,9 @@ use Prim.Native.Nat.{ℕ, _+_, _*_, _-_, _/_, _%_, _≤_, _<_}
 use native.Mathlib.Nat.{mul-le-mul, mul-le-mul-left, mul-le-mul-right, div-le-self, mod-le}
 use native.Mathlib.Decide.{decLt}
 use native.Mathlib.Omega.{arith}
-use borrow.Author.Tests.{le-leb, leb-true}
-use Rattle.answers.specs.Refusals.{mostCount}
-use Rattle.labels.specs.Label.{hoursIn, minutesIn, secondsIn, framesIn, countIn, isBounded, Short, LabelOf}
+use borrow.Author.Tests.{lt-ltb, ltb-true}
+use Rattle.answers.specs.Refusals.{mostCount, beyond}
+use Rattle.labels.specs.Label.{hoursIn, minutesIn, secondsIn, framesIn, countIn, isShort, Short, LabelOf}
 use Rattle.labels.specs.LabelLaws.{count-by-minutes}
 use Rattle.labels.specs.Sections.{labelNumber, droppedBefore}
 
@@ -47,42 +47,35 @@ fields-le timebase D fields d =
 pub hours-le : (timebase D n : ℕ) (fields : List ℕ) → D < timebase → LabelOf timebase D n fields → hoursIn fields ≤ n
 hours-le timebase D n fields d x = omega (arith, x .count, fields-le timebase D fields d .0)
 
--- ---- fields that are not above the largest count
-
--- they have at most 9 digits
-pub isBounded-in : (fields : List ℕ) → isBounded fields ≡ true → Short fields
-unfolding isBounded
-isBounded-in fields e =
+-- ---- fields of at most 9 digits, by the test
+pub isShort-told : (fields : List ℕ) → isShort fields ≡ true → Short fields
+unfolding isShort
+isShort-told fields e =
     let h = and-eq-true-iff _ _ .0 e in
     let m = and-eq-true-iff _ _ .0 (h .1) in
     let s = and-eq-true-iff _ _ .0 (m .1) in
-    let hours = leb-true (hoursIn fields) mostCount (h .0) in
-    let minutes = leb-true (minutesIn fields) mostCount (m .0) in
-    let seconds = leb-true (secondsIn fields) mostCount (s .0) in
-    let frames = leb-true (framesIn fields) mostCount (s .1) in
-    record { hours = omega arith; minutes = omega arith; seconds = omega arith; frames = omega arith }
+    record { hours = ltb-true _ _ (h .0); minutes = ltb-true _ _ (m .0); seconds = ltb-true _ _ (s .0); frames = ltb-true _ _ (s .1) }
 
--- the fields of a count within its bounds are such
-bounded-by-count :
-    (timebase D : ℕ) (fields : List ℕ) → D < timebase → countIn timebase D fields ≤ mostCount → isBounded fields ≡ true
-unfolding isBounded
-bounded-by-count timebase D fields d h =
-    let l = fields-le timebase D fields d in
+pub isShort-in : (fields : List ℕ) → Short fields → isShort fields ≡ true
+unfolding isShort
+isShort-in fields x =
     rw (
-      le-leb (hoursIn fields) mostCount (omega arith),
-      le-leb (minutesIn fields) mostCount (omega arith),
-      le-leb (secondsIn fields) mostCount (omega arith),
-      le-leb (framesIn fields) mostCount (omega arith),
+      lt-ltb (hoursIn fields) beyond (x .hours),
+      lt-ltb (minutesIn fields) beyond (x .minutes),
+      lt-ltb (secondsIn fields) beyond (x .seconds),
+      lt-ltb (framesIn fields) beyond (x .frames),
     )
 
--- so others have a count above it
-pub isBounded-out :
-    (timebase D : ℕ) (fields : List ℕ) → D < timebase → isBounded fields ≡ false → mostCount < countIn timebase D fields
-isBounded-out timebase D fields d e = by (decLt mostCount (countIn timebase D fields))
+-- others have a count above the largest
+pub isShort-out :
+    (timebase D : ℕ) (fields : List ℕ) → D < timebase → isShort fields ≡ false → mostCount < countIn timebase D fields
+isShort-out timebase D fields d e = by (decLt mostCount (countIn timebase D fields))
   where
     by : Dec (mostCount < countIn timebase D fields) → mostCount < countIn timebase D fields
     by (yes l) = l
     by (no f) =
-        let t : true ≡ false = sym (bounded-by-count timebase D fields d (omega arith)) ∙ e in
+        let x = fields-le timebase D fields d in
+        let small : Short fields = record { hours = omega arith; minutes = omega arith; seconds = omega arith; frames = omega arith } in
+        let t : true ≡ false = sym (isShort-in fields small) ∙ e in
         let z : _≡_ {A = ℕ} 0 1 = cc in
         absurd (omega arith)

@@ -4,9 +4,9 @@ use mathlib.Core.Path.{_≡_}
 use mathlib.Core.Bool.{Bool, false, not, _&&_}
 use mathlib.Core.List.{List}
 use Prim.Native.Nat.{ℕ, _+_, _*_, _-_, _/_, _%_, _<_}
-use lib.Dec.{eqb, ltb, leb}
+use lib.Dec.{eqb, ltb}
 use lib.ListN.{length, getD}
-use Rattle.answers.specs.Refusals.{mostCount}
+use Rattle.answers.specs.Refusals.{beyond}
 
 -- M is 60 x hours + minutes; the count is (60 x M + seconds) x timebase + frames - D x (M - M/10 rounded down)
 unfoldable pub labelCount : (timebase D hours minutes seconds frames : ℕ) → ℕ
@@ -37,11 +37,11 @@ countIn timebase D fields =
 abbrev pub droppedIn : (D : ℕ) (fields : List ℕ) → Bool
 droppedIn D fields = isDropped D (minutesIn fields) (secondsIn fields) (framesIn fields)
 
--- no field is above the largest count
-unfoldable pub isBounded : (fields : List ℕ) → Bool
-isBounded fields =
-    leb (hoursIn fields) mostCount
-    && (leb (minutesIn fields) mostCount && (leb (secondsIn fields) mostCount && leb (framesIn fields) mostCount))
+-- each field has at most 9 digits, as a test
+unfoldable pub isShort : (fields : List ℕ) → Bool
+isShort fields =
+    ltb (hoursIn fields) beyond
+    && (ltb (minutesIn fields) beyond && (ltb (secondsIn fields) beyond && ltb (framesIn fields) beyond))
 
 -- each field has at most 9 digits
 pub record Short (fields : List ℕ) : Type 0 where

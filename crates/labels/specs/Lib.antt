@@ -5,3 +5,5 @@ pub mod LabelLaws
 pub mod BoundLaws
 pub mod StrictLaws
 pub mod Statements
+pub mod Faults
+pub mod FaultLaws

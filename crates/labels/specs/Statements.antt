@@ -9,8 +9,10 @@ use lib.ListN.{length}
 use Rattle.tally.specs.Before.{before}
 use Rattle.rates.specs.Rates.{isRate, rateRow, dropFrames}
 use Rattle.rates.specs.Day.{dayCount, dayFrames}
-use Rattle.labels.specs.Label.{hoursIn, minutesIn, secondsIn, framesIn, isStrict, Strict, LabelOf}
+use Rattle.faults.specs.Faults.{isNone}
+use Rattle.labels.specs.Label.{hoursIn, minutesIn, secondsIn, framesIn, Strict, LabelOf}
 use Rattle.labels.specs.Sections.{labelNumber, fieldsAt, isAllowed, sectionsOf}
+use Rattle.labels.specs.Faults.{strictFault}
 
 -- each number is that of a strict label
 abbrev pub HasFields : Type 0
@@ -86,11 +88,11 @@ DayEnds =
     → (sectionsOf (rateRow rate .timebase) (dropFrames rate) 0 ≡ 0 ∷ 0 ∷ 0 ∷ 0 ∷ [])
     × (sectionsOf (rateRow rate .timebase) (dropFrames rate) (dayFrames rate - 1) ≡ 23 ∷ 59 ∷ 59 ∷ (rateRow rate .timebase - 1) ∷ [])
 
--- exactly the strict labels with hours under 24 pass the test of a position's label
+-- nothing is at fault in the fields of a label exactly when it is strict, with hours under 24
 abbrev pub StrictExactly : Type 0
 StrictExactly =
     (timebase : ℕ) (fields : List ℕ) → length fields ≡ 4
-    → (isStrict timebase fields ≡ true) ↔ ((hoursIn fields < 24) × Strict timebase fields)
+    → (isNone (strictFault timebase fields) ≡ true) ↔ ((hoursIn fields < 24) × Strict timebase fields)
 
 -- at 29.97 drop the allowed labels of a day have the counts 0 to 2,589,407, once each
 abbrev pub FillDay30 : Type 0

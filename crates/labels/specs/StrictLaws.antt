@@ -1,11 +1,10 @@
 -- What the test of a position's label tells, and what makes it (BEHAVIOUR: Positions).
 -- Assumes nothing.
 use mathlib.Core.Path.{_≡_}
-use mathlib.Core.Bool.{true, false, and-eq-true-iff}
+use mathlib.Core.Bool.{true, and-eq-true-iff}
 use mathlib.Core.List.{List}
-use Prim.Native.Nat.{ℕ, _≤_, _<_}
-use borrow.Author.Tests.{lt-ltb, le-ltb, ltb-true}
-use lib.Dec.{ltb}
+use Prim.Native.Nat.{ℕ, _<_}
+use borrow.Author.Tests.{lt-ltb, ltb-true}
 use lib.ListN.{length}
 use Rattle.labels.specs.Label.{hoursIn, minutesIn, secondsIn, framesIn, isStrict, Strict}
 
@@ -29,23 +28,3 @@ isStrict-in timebase fields h s =
       lt-ltb (secondsIn fields) 60 (s .seconds),
       lt-ltb (framesIn fields) timebase (s .frames),
     )
-
--- ---- one test after the other
-module _ (timebase : ℕ) (fields : List ℕ) where
-  pub hours-out : 24 ≤ hoursIn fields → isStrict timebase fields ≡ false
-  unfolding isStrict
-  hours-out h = rw (le-ltb (hoursIn fields) 24 h)
-
-  module _ (h : hoursIn fields < 24) where
-    pub minutes-out : 60 ≤ minutesIn fields → isStrict timebase fields ≡ false
-    unfolding isStrict
-    minutes-out m = rw (lt-ltb (hoursIn fields) 24 h, le-ltb (minutesIn fields) 60 m)
-
-    module _ (m : minutesIn fields < 60) where
-      pub seconds-out : 60 ≤ secondsIn fields → isStrict timebase fields ≡ false
-      unfolding isStrict
-      seconds-out s = rw (lt-ltb (hoursIn fields) 24 h, lt-ltb (minutesIn fields) 60 m, le-ltb (secondsIn fields) 60 s)
-
-      pub by-frames : secondsIn fields < 60 → isStrict timebase fields ≡ ltb (framesIn fields) timebase
-      unfolding isStrict
-      by-frames s = rw (lt-ltb (hoursIn fields) 24 h, lt-ltb (minutesIn fields) 60 m, lt-ltb (secondsIn fields) 60 s)

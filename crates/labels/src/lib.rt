@@ -4,41 +4,54 @@
 ghost use mathlib.Core.Path.{_≡_};
 ghost use Prim.Native.Nat.{_≤_, _<_};
 ghost use Rattle.answers.specs.Refusals.{mostCount};
-ghost use Rattle.labels.specs.Label.{countIn, droppedIn, isStrict, isBounded, Short};
+ghost use Rattle.labels.specs.Label.{countIn, droppedIn, isShort, Short};
 ghost use Rattle.labels.specs.Sections.{fieldsAt, droppedBefore, sectionsOf};
-ghost use Rattle.labels.specs.AtRate.{labelCounted, sectionsAt};
+ghost use Rattle.labels.specs.AtRate.{framesOr, labelCounted, sectionsAt};
+ghost use Rattle.labels.specs.Faults.{strictFault};
 use answers::Counted;
+use faults::Field;
+use faults::Found;
 
 // The count of a label's fields at a rate, with this sign. Refuses 6: no such rate; 5: it is outside its bounds.
-// A count is no less than each of its fields, so these are tested first and nothing wraps.
 pub fn label_count(fields: [u64; 4], rate: u64, minus: bool) -> Counted
     ensures answer { λ r. ⌜ r ≡ labelCounted rate minus fields ⌝ }
 {
     if !rates::is_rate(rate) {
         return Counted::Refused(answers::NO_SUCH);
     }
-    if !is_bounded(fields) {
-        return Counted::Refused(answers::OUT_OF_BOUNDS);
+    answers::held(minus, label_frames(fields, rate))
+}
+
+// The exact count of a label's fields at a rate, where each has at most 9 digits; a number beyond all bounds for others, whose count is no
+// less, and where there is no such rate.
+pub fn label_frames(fields: [u64; 4], rate: u64) -> u64
+    ensures answer { λ r. ⌜ r ≡ framesOr rate fields ⌝ }
+{
+    if !rates::is_rate(rate) {
+        return answers::BEYOND;
+    }
+    if !is_short(fields) {
+        return answers::BEYOND;
     }
     let timebase = rates::row(rate).timebase;
     let d = rates::drop_frames_per_minute(rate);
-    answers::held(minus, count_in(fields, timebase, d))
+    count_in(fields, timebase, d)
 }
 
-// Whether no field is above the largest count.
-fn is_bounded(fields: [u64; 4]) -> bool
-    ensures answer { λ r. ⌜ r ≡ isBounded fields ⌝ }
+// Whether each field has at most 9 digits.
+fn is_short(fields: [u64; 4]) -> bool
+    ensures answer { λ r. ⌜ r ≡ isShort fields ⌝ }
 {
-    if fields[0] > answers::MOST_COUNT {
+    if fields[0] >= answers::BEYOND {
         return false;
     }
-    if fields[1] > answers::MOST_COUNT {
+    if fields[1] >= answers::BEYOND {
         return false;
     }
-    if fields[2] > answers::MOST_COUNT {
+    if fields[2] >= answers::BEYOND {
         return false;
     }
-    fields[3] <= answers::MOST_COUNT
+    fields[3] < answers::BEYOND
 }
 
 // The count of a label's fields. Asks fields of at most 9 digits, a timebase up to 60, and d below it.
@@ -64,20 +77,19 @@ pub fn is_dropped(fields: [u64; 4], d: u64) -> bool
     fields[1] % 10 != 0
 }
 
-// Whether a label's fields are strict, and of the day: hours under 24, minutes and seconds under 60, frames under the timebase.
-pub fn is_strict(fields: [u64; 4], timebase: u64) -> bool
-    ensures answer { λ r. ⌜ r ≡ isStrict timebase fields ⌝ }
+// The first field from the left that a strict label of the day does not have: hours under 24, minutes and seconds under 60, frames under
+// the timebase.
+pub fn strict_fault(fields: [u64; 4], timebase: u64) -> Found
+    ensures answer { λ r. ⌜ r ≡ strictFault timebase fields ⌝ }
 {
-    if fields[0] >= 24 {
-        return false;
-    }
-    if fields[1] >= 60 {
-        return false;
-    }
-    if fields[2] >= 60 {
-        return false;
-    }
-    fields[3] < timebase
+    let hours = faults::under(Field::Hours, 24, fields[0]);
+    let minutes = faults::under(Field::Minutes, 60, fields[1]);
+    let seconds = faults::under(Field::Seconds, 60, fields[2]);
+    let frames = faults::under(Field::Frames, timebase, fields[3]);
+    faults::leftmost(
+        hours,
+        faults::leftmost(minutes, faults::leftmost(seconds, frames)),
+    )
 }
 
 // The fields of the one allowed label whose count is n, at a rate (vtc's `sections`); zeros where there is no such rate or count.

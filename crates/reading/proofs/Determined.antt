@@ -4,6 +4,26 @@ use mathlib.Core.Path.{sym, ap, _∙_}
 use Rattle.outcomes.specs.Outcome.{Determined}
 use Rattle.reading.proofs.read_text as read-text
 use Rattle.reading.proofs.read_text.Reads as read-text-reads
+use Rattle.reading.proofs.taking.take_text as take-text
+use Rattle.reading.proofs.taking.take_text.Reads as take-text-reads
+use Rattle.reading.proofs.read_taken as read-taken
+use Rattle.reading.proofs.read_taken.Reads as read-taken-reads
+use Rattle.reading.proofs.format_for as format-for
+use Rattle.reading.proofs.format_for.Reads as format-for-reads
+use Rattle.reading.proofs.position_fault as position-fault
+use Rattle.reading.proofs.position_fault.Reads as position-fault-reads
 
 pub read-text-determined : Determined read-text.ended read-text-reads.Asked read-text-reads.Learnt
 read-text-determined κs a asked x y p q = ap (λ z. (z, x .1)) (p ∙ sym q)
+
+pub take-text-determined : Determined take-text.ended take-text-reads.Asked take-text-reads.Learnt
+take-text-determined κs a asked x y p q = ap (λ z. (z, x .1)) (p ∙ sym q)
+
+pub read-taken-determined : Determined read-taken.ended read-taken-reads.Asked read-taken-reads.Learnt
+read-taken-determined κs a asked x y p q = ap (λ z. (z, x .1)) (p ∙ sym q)
+
+pub format-for-determined : Determined format-for.ended format-for-reads.Asked format-for-reads.Learnt
+format-for-determined κs a asked x y p q = ap (λ z. (z, x .1)) (p ∙ sym q)
+
+pub position-fault-determined : Determined position-fault.ended position-fault-reads.Asked position-fault-reads.Learnt
+position-fault-determined κs a asked x y p q = ap (λ z. (z, x .1)) (p ∙ sym q)

@@ -9,7 +9,10 @@ use Rattle.rates.specs.Rates.{rateRow}
 use Rattle.timecodes.specs.declared.kinds.Kind.{Kind}
 use Rattle.timecodes.specs.declared.kinds.Kind.the-variants.{Length, Position}
 use Rattle.timecodes.specs.Made.{made}
+use Rattle.faults.specs.declared.Found.{Found}
+use Rattle.faults.specs.Faults.{signFault, leftmost}
 use Rattle.labels.specs.Label.{isStrict}
+use Rattle.labels.specs.Faults.{strictFault}
 use Rattle.reading.specs.declared.Stated.{Stated}
 use Rattle.reading.specs.declared.Read.{Read}
 use Rattle.reading.specs.declared.Read.the-variants.{Label, Footage, Refused}
@@ -27,6 +30,10 @@ abbrev pub isLabelOf : Kind → (rate : ℕ) (minus : Bool) (fields : List ℕ) 
 isLabelOf Length rate minus fields = true
 isLabelOf Position rate minus fields = not minus && isStrict (rateRow rate .timebase) fields
 
+-- what is at fault in it: its sign, or else the leftmost field
+unfoldable pub positionFault : (rate : ℕ) (minus : Bool) (fields : List ℕ) → Found
+positionFault rate minus fields = leftmost (signFault minus) (strictFault (rateRow rate .timebase) fields)
+
 -- 14: a label of a position that is not strict or has a sign; only labels get it
 abbrev pub strictWhen : Kind → (rate : ℕ) → Shaped → List Condition
 strictWhen kind rate (label minus fields) = when notStrict (not (isLabelOf kind rate minus fields)) ∷ []
@@ -36,6 +43,10 @@ strictWhen kind rate (refused e) = []
 -- what was taken by its shape: 14, then what a length's reading gives
 unfoldable pub shapedFor : Kind → (rate : ℕ) → Stated → Shaped → Read
 shapedFor kind rate stated shaped = unless Refused (strictWhen kind rate shaped) (settledRead kind (readShaped rate stated shaped))
+
+-- the same behind 6: no such rate or film format
+unfoldable pub readBy : Kind → Stated → (rate : ℕ) → Shaped → Read
+readBy kind stated rate shaped = unless Refused (readWhen stated rate) (shapedFor kind rate stated shaped)
 
 -- of a text: 6, no such rate or film format; 14, which is after 1, 2 and 4 since only a text that is taken for a label gets it, and before 3; then what
 -- a length's reading gives

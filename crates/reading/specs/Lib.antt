@@ -1,8 +1,10 @@
 pub mod Answer
 pub mod Shaped
+pub mod Taken
 pub mod Reading
 pub mod ReadingLaws
 pub mod For
 pub mod ForLaws
+pub mod TakenLaws
 pub mod Statements
 pub mod Positions

@@ -2,22 +2,26 @@
 // footage. Refuses 6: no such rate or film format; 1: no shape; 2: a field of over 9 digits; 4: a perf field with a stated format that has
 // none; 13: a footage that cannot be on the film; 14: a label of a position that is not strict or has a sign; 3: a dropped label; 5: the
 // count is out of bounds; in this order. The place of 1 and 2 is the one that the scanners say.
-ghost use Prim.Native.Nat.{max};
 ghost use mathlib.Core.Path.{_≡_};
 ghost use mathlib.Core.Bool.{true};
 ghost use Rattle.rates.specs.Rates.{isRate};
-ghost use Rattle.footage_scan.specs.Footage.{footageScan};
-ghost use Rattle.reading.specs.Answer.{asLabel, asFootage};
-ghost use Rattle.reading.specs.Shaped.{isStated, formatFor, footageShaped, shapeOf, label};
-ghost use Rattle.reading.specs.Reading.{takesPerf, labelRead, footageRead, readShaped};
-ghost use Rattle.reading.specs.For.{settledRead, isLabelOf, shapedFor, readFor};
+ghost use Rattle.reading.specs.Answer.{numberOf, asLabel, asFootage};
+ghost use Rattle.reading.specs.Shaped.{isStated, formatFor, label};
+ghost use Rattle.reading.specs.Taken.{shapedIn};
+ghost use Rattle.reading.specs.Reading.{takesPerf, labelRead, footageRead};
+ghost use Rattle.reading.specs.For.{settledRead, positionFault, isLabelOf, shapedFor, readBy, readFor};
 use answers::Counted;
 use answers::Refusal;
+use faults::Found;
 use film::FilmFormat;
 use film::Filmed;
-use scanner::Fit;
 use timecodes::Kind;
 use timecodes::Timecode;
+
+mod taking;
+
+pub use taking::Taken;
+pub use taking::take_text;
 
 // The film format that is stated, by its number, or that none is.
 pub enum Stated {
@@ -30,6 +34,17 @@ pub enum Read {
     Label(Timecode),
     Footage(Timecode, FilmFormat),
     Refused(Refusal),
+}
+
+// The number of an answer; 0: not refused.
+pub fn number(read: Read) -> u8
+    ensures answer { λ r. ⌜ r ≡ numberOf read ⌝ }
+{
+    match read {
+        Read::Label(_) => 0,
+        Read::Footage(_, _) => 0,
+        Read::Refused(e) => e.number,
+    }
 }
 
 // What was read as a length, made a timecode of a kind: a position is reduced by whole days.
@@ -82,7 +97,7 @@ fn is_stated(stated: Stated) -> bool
 }
 
 // The film format of a footage: the stated one, or that which the perf field chooses.
-fn format_for(stated: Stated, perf: bool) -> FilmFormat
+pub fn format_for(stated: Stated, perf: bool) -> FilmFormat
     ensures answer { λ r. ⌜ r ≡ formatFor stated perf ⌝ }
 {
     let Stated::Format(n) = stated else {
@@ -120,18 +135,25 @@ fn read_label(rate: u64, minus: bool, fields: [u64; 4]) -> Read
     as_label(rate, labels::label_count(fields, rate, minus))
 }
 
-// Whether a label's sign and fields may be those of this kind: the label of a position is unsigned and strict.
+// What is at fault in the label of a position: its sign, or else the leftmost field that is not strict.
+pub fn position_fault(rate: u64, minus: bool, fields: [u64; 4]) -> Found
+    ensures answer { λ r. ⌜ r ≡ positionFault rate minus fields ⌝ }
+{
+    let timebase = rates::row(rate).timebase;
+    faults::leftmost(
+        faults::sign_fault(minus),
+        labels::strict_fault(fields, timebase),
+    )
+}
+
+// Whether a label's sign and fields may be those of this kind: in the label of a position nothing is at fault.
 fn is_label_of(kind: Kind, rate: u64, minus: bool, fields: [u64; 4]) -> bool
     ensures answer { λ r. ⌜ r ≡ isLabelOf kind rate minus fields ⌝ }
 {
     if !kind.is_position() {
         return true;
     }
-    if minus {
-        return false;
-    }
-    let timebase = rates::row(rate).timebase;
-    labels::is_strict(fields, timebase)
+    faults::is_none(position_fault(rate, minus, fields))
 }
 
 // The answer to a label's sign and fields, as a timecode of a kind. Asks a rate.
@@ -170,63 +192,9 @@ fn read_footage(
     )
 }
 
-// The farther of two places.
-fn farther(p: usize, q: usize) -> usize
-    ensures answer { λ r. ⌜ r ≡ max p q ⌝ }
-{
-    if p < q {
-        return q;
-    }
-    p
-}
-
-// The answer to a text that can be a footage only, where the scanner of another shape stopped at a place (0, where no other is allowed).
-fn only_footage(text: &[u8], stated: Stated, rate: u64, stopped: usize) -> Read
-    ensures answer { λ r. ⌜ r ≡ readShaped rate stated (footageShaped stopped (footageScan (now (text .entry)))) ⌝ }
-{
-    let scan = footage_scan::scan_footage(text);
-    let fit = scan.fit;
-    match fit {
-        Fit::Fits => {
-            let format = format_for(stated, scan.perf);
-            read_footage(
-                rate,
-                format,
-                scan.minus,
-                scan.feet,
-                scan.frames,
-                scan.perf,
-                scan.marker,
-            )
-        }
-        Fit::TooLong(place) => Read::Refused(answers::at_place(answers::TOO_LONG, place)),
-        Fit::NoShape(stop) => {
-            let place = farther(stopped, stop);
-            Read::Refused(answers::at_place(answers::NO_SHAPE, place))
-        }
-    }
-}
-
-// The answer to a text that is a label, or else can be a footage, as a timecode of a kind. Asks a rate.
-fn label_or_footage(text: &[u8], rate: u64, kind: Kind) -> Read
-    requires rate { ⌜ isRate rate ≡ true ⌝ }
-    ensures answer { λ r. ⌜ r ≡ shapedFor kind rate Stated.Nothing (shapeOf Stated.Nothing (now (text .entry))) ⌝ }
-{
-    let scan = label_scan::scan_label(text);
-    let fit = scan.fit;
-    match fit {
-        Fit::Fits => {
-            let fields = scan.fields;
-            label_for(rate, scan.minus, fields, kind)
-        }
-        Fit::TooLong(place) => Read::Refused(answers::at_place(answers::TOO_LONG, place)),
-        Fit::NoShape(stop) => settled(only_footage(text, Stated::Nothing, rate, stop), kind),
-    }
-}
-
-// What a text reads as at a rate, a length or a position (vtc's `parse_timecode_string` and `parse_feet_and_frames_str`, which read lengths).
-pub fn read_text(text: &[u8], stated: Stated, rate: u64, kind: Kind) -> Read
-    ensures answer { λ r. ⌜ r ≡ readFor kind (now (text .entry)) stated rate ⌝ }
+// What a text that was taken by its shape reads as at a rate, a length or a position.
+pub fn read_taken(taken: Taken, stated: Stated, rate: u64, kind: Kind) -> Read
+    ensures answer { λ r. ⌜ r ≡ readBy kind stated rate (shapedIn taken) ⌝ }
 {
     if !rates::is_rate(rate) {
         return Read::Refused(answers::NO_SUCH);
@@ -234,8 +202,35 @@ pub fn read_text(text: &[u8], stated: Stated, rate: u64, kind: Kind) -> Read
     if !is_stated(stated) {
         return Read::Refused(answers::NO_SUCH);
     }
-    let Stated::Format(_) = stated else {
-        return label_or_footage(text, rate, kind);
-    };
-    settled(only_footage(text, stated, rate, 0), kind)
+    match taken {
+        Taken::Label {
+            minus,
+            hours,
+            minutes,
+            seconds,
+            frames,
+        } => label_for(rate, minus, [hours, minutes, seconds, frames], kind),
+        Taken::Footage {
+            minus,
+            feet,
+            frames,
+            perf,
+            marker,
+        } => {
+            let format = format_for(stated, perf);
+            settled(
+                read_footage(rate, format, minus, feet, frames, perf, marker),
+                kind,
+            )
+        }
+        Taken::Neither(e) => Read::Refused(e),
+    }
+}
+
+// What a text reads as at a rate, a length or a position (vtc's `parse_timecode_string` and `parse_feet_and_frames_str`, which read
+// lengths): it is taken by its shape, and that is read.
+pub fn read_text(text: &[u8], stated: Stated, rate: u64, kind: Kind) -> Read
+    ensures answer { λ r. ⌜ r ≡ readFor kind (now (text .entry)) stated rate ⌝ }
+{
+    read_taken(take_text(text, stated), stated, rate, kind)
 }

@@ -11,7 +11,7 @@ use Rattle.answers.specs.declared.Refusal.{Refusal}
 use Rattle.written.specs.Parts.{signedText}
 use Rattle.streams.specs.Sheet.{Sheet, sheet, putOn}
 use Rattle.streams.proofs.Putting.{put-length}
-use Rattle.asking.specs.Table.{spelt}
+use Rattle.laws.specs.Spelt.{spelt}
 use Rattle.shot_lists.specs.declared.records.Record.{Record}
 use Rattle.shot_lists.specs.declared.records.Record.the-variants.{Rate, Shot, Reel}
 use Rattle.shot_lists.specs.declared.records.Entry.the-variants as entry

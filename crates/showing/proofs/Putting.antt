@@ -8,7 +8,7 @@ use borrow.Author.Tests.{eq-eqb, ne-eqb}
 use Rattle.streams.specs.Sheet.{Sheet, sheet, putOn}
 use Rattle.written.specs.declared.Written.{Written}
 use Rattle.written.specs.Parts.{signedText}
-use Rattle.asking.specs.Table.{spelt}
+use Rattle.laws.specs.Spelt.{spelt}
 use Rattle.showing.specs.declared.Shown.{Shown}
 use Rattle.showing.specs.Shown.{helpText, wordOn, saidOn, secondOn, firstOn, partsOn, shownOn, lengthOn, writtenOn}
 

@@ -16,7 +16,7 @@ use Rattle.shot_lists.specs.declared.records.Record.the-variants.{Rate, Shot, R
 use Rattle.streams.specs.Sheet.{Sheet, textOn, putOn}
 use Rattle.streams.proofs.Putting.{Laid, put-is}
 use Rattle.hex.specs.Hex.{hexText}
-use Rattle.asking.specs.Table.{spelt}
+use Rattle.laws.specs.Spelt.{spelt}
 use Rattle.showing.specs.declared.Shown.{Shown}
 use Rattle.showing.specs.Shown.{countText, wordText, frontText, helpText, saidText, secondText, partsText, shownText, lengthText, writtenText, wordOn, frontOn, saidOn, secondOn, firstOn, partsOn, shownOn, lengthOn, writtenOn}
 use Rattle.showing.specs.Each.{ofRefusal}

@@ -11,7 +11,7 @@ use Rattle.written.specs.declared.Written.the-variants.{Length, Refused}
 use Rattle.written.specs.Parts.{signedText}
 use Rattle.streams.specs.Sheet.{Sheet, putOn}
 use Rattle.hex.specs.Hex.{hexText}
-use Rattle.asking.specs.Table.{spelt}
+use Rattle.laws.specs.Spelt.{spelt}
 use Rattle.showing.specs.declared.Shown.{Shown}
 use Rattle.showing.specs.Each.{ofRefusal}
 

@@ -19,7 +19,7 @@ use Rattle.written.specs.declared.Written.{Written}
 use Rattle.written.specs.Parts.{signedText}
 use Rattle.streams.specs.Sheet.{Sheet, textOn}
 use Rattle.hex.specs.Hex.{hexText}
-use Rattle.asking.specs.Table.{spelt}
+use Rattle.laws.specs.Spelt.{spelt}
 use Rattle.showing.specs.declared.Shown.{Shown}
 use Rattle.showing.specs.Each.{ofAnswer, ofRead}
 use Rattle.showing.specs.Shown.{countText, shownText, writtenText, shownOn, writtenOn, hexWrittenOn}

@@ -20,6 +20,8 @@ use Rattle.written.proofs.clock_length as clock-length
 use Rattle.written.proofs.clock_length.Reads as clock-length-reads
 use Rattle.written.proofs.put_clock as put-clock
 use Rattle.written.proofs.put_clock.Reads as put-clock-reads
+use Rattle.written.proofs.write_text as write-text
+use Rattle.written.proofs.write_text.Reads as write-text-reads
 
 pub number-determined : Determined number.ended number-reads.Asked number-reads.Learnt
 number-determined κs a asked x y p q = ap (λ z. (z, x .1)) (p ∙ sym q)
@@ -47,3 +49,6 @@ clock-length-determined κs a asked x y p q = ap (λ z. (z, x .1)) (p ∙ sym q)
 
 pub put-clock-determined : Determined put-clock.ended put-clock-reads.Asked put-clock-reads.Learnt
 put-clock-determined κs a asked x y p q = ap (λ z. (x .0, (z, x .1 .1))) (p ∙ sym q)
+
+pub write-text-determined : Determined write-text.ended write-text-reads.Asked write-text-reads.Learnt
+write-text-determined κs a asked x y p q = ap (λ z. (z, x .1)) (p .0 ∙ sym (q .0)) ∙ ap (λ z. (y .0, (x .1 .0, (z, x .1 .1 .1)))) (p .1 ∙ sym (q .1))

@@ -6,7 +6,7 @@ ghost use Prim.Native.Nat.{_+_, _≤_};
 ghost use lib.ListN.{length};
 ghost use Rattle.lent.specs.Line.{laid};
 ghost use Rattle.digits.specs.Digits.{digitsOf, decimal};
-ghost use Rattle.written.specs.Written.{numberOf, lengthOf};
+ghost use Rattle.written.specs.Written.{Text, answerTo, lineTo, numberOf, lengthOf};
 ghost use Rattle.written.specs.Parts.{signText, paddedText, signedText, fieldText};
 ghost use Rattle.written.specs.Clock.{clockText};
 use answers::Refusal;
@@ -35,6 +35,18 @@ pub fn length(w: Written) -> usize
         Written::Length(n) => n,
         Written::Refused(_) => 0,
     }
+}
+
+// A text laid down from `place` on, whole. Refuses 8: place plus text length exceeds the line's length.
+pub fn write_text(text: &[u8], line: &mut [u8], place: usize) -> Written
+    ensures answer { λ r. ⌜ r ≡ answerTo (now (line .entry)) place (Text (now (text .entry))) ⌝ }
+    ensures line { λ r. ⌜ now (line .exit) ≡ lineTo (now (line .entry)) place (Text (now (text .entry))) ⌝ }
+{
+    if lent::room(line.len(), place, text.len()) {
+        lent::put_text(&mut line[place..], text);
+        return Written::Length(text.len());
+    }
+    Written::Refused(answers::NO_ROOM)
 }
 
 // How many bytes a sign takes: one for '-', else none.

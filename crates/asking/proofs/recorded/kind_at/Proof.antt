@@ -3,8 +3,9 @@
 use mathlib.Core.Path.{sym, _∙_}
 use native.Mathlib.Omega.{arith}
 use borrow.Author.Needs.{needs}
-use Rattle.asking.specs.Table.{spelt}
-use Rattle.asking.proofs.RecordSteps.{word-ends, kind-rate, kind-shot, kind-reel, kind-none}
+use Rattle.laws.specs.Spelt.{spelt}
+use Rattle.asking.proofs.Standing.{word-ends}
+use Rattle.asking.proofs.RecordSteps.{kind-rate, kind-shot, kind-reel, kind-none}
 use Rattle.asking.proofs.recorded.kind_at.Statement.{statement}
 use Rattle.asking.proofs.recorded.kind_at.Tie as tie
 

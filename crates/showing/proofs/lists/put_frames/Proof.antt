@@ -6,7 +6,7 @@ use mathlib.Core.Path.{_≡_}
 use mathlib.Core.List.{[], _∷_}
 use borrow.Author.Needs.{needs}
 use Rattle.streams.specs.Sheet.{sheet, putOn}
-use Rattle.asking.specs.Table.{spelt}
+use Rattle.laws.specs.Spelt.{spelt}
 use Rattle.showing.specs.Shown.{countText}
 use Rattle.showing.proofs.Putting.{leaves-on, leaves-same}
 use Rattle.showing.proofs.ListPutting.{number-on, frames-is}
