@@ -27,7 +27,11 @@ fn of_a_number(number: u8, line: &mut [u8], place: usize) -> Written
     ensures line { λ r. ⌜ now (line .exit) ≡ lineTo (now (line .entry)) place (Text (phraseOf number)) ⌝ }
 {
     match number {
-        4 => written::write_text(b"a perf field, which this film format does not have", line, place),
+        4 => written::write_text(
+            b"a perf field, which this film format does not have",
+            line,
+            place,
+        ),
         5 => written::write_text(b"the count of frames is out of bounds", line, place),
         6 => written::write_text(b"no such rate or film format", line, place),
         _ => written::write_text(b"a division by zero", line, place),

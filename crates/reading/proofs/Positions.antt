@@ -62,7 +62,7 @@ strict-out rate minus fields never four = by (isLabelOf Position rate minus fiel
 
 -- ---- 14, or what a length's reading gives
 -- settling changes no refusal
-settled-number : (kind : Kind) (r : Read) → numberOf (settledRead kind r) ≡ numberOf r
+pub settled-number : (kind : Kind) (r : Read) → numberOf (settledRead kind r) ≡ numberOf r
 settled-number kind (Label tc) = refl
 settled-number kind (Footage tc format) = refl
 settled-number kind (Refused e) = refl

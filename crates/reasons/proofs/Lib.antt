@@ -1,2 +1,9 @@
 pub mod Facts
 pub mod Told
+pub mod FirstLabel
+pub mod Counts
+pub mod Film
+pub mod Strict
+pub mod Holds
+pub mod Statements
+pub mod Determined

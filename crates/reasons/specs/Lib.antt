@@ -1,2 +1,4 @@
 pub mod Facts
 pub mod Why
+pub mod Holds
+pub mod Statements

@@ -24,10 +24,10 @@ returns c =
     let a = t .before .before .before .args in
     let f = c .fact-by .result in (
       sym (ap (toldAs (r .read-taken .result) f) (c .before .before .length .given .1))
-      ∙ told-is (a .kind) (a .text .now) (a .stated) (a .rate) _ _ _ (t .take-text .ensures) (r .read-taken .ensures) (n .number .ensures)
-      (a .line .now) (a .place) f _ (c .fact-by .ensures) (w .write-phrase .ensures .0),
+          ∙ told-is (a .kind) (a .text .now) (a .stated) (a .rate) _ _ _ (t .take-text .ensures) (r .read-taken .ensures) (n .number .ensures)
+          (a .line .now) (a .place) f _ (c .fact-by .ensures) (w .write-phrase .ensures .0),
       line-is (a .kind) (a .text .now) (a .stated) (a .rate) _ _ _ (t .take-text .ensures) (r .read-taken .ensures) (n .number .ensures)
-      (a .line .now) (a .place) _ (w .write-phrase .ensures .1),
+          (a .line .now) (a .place) _ (w .write-phrase .ensures .1),
     )
 
 returns-2 : tie.Need-returns-2
@@ -39,10 +39,10 @@ returns-2 c =
     let a = t .before .before .before .args in
     let f = factBy (n .number .result) (a .rate) (a .stated) (shapedIn (t .take-text .result)) in (
       sym (ap (toldAs (r .read-taken .result) f) (c .before .e .given .1))
-      ∙ told-is (a .kind) (a .text .now) (a .stated) (a .rate) _ _ _ (t .take-text .ensures) (r .read-taken .ensures) (n .number .ensures)
-      (a .line .now) (a .place) f _ refl (w .write-phrase .ensures .0),
+          ∙ told-is (a .kind) (a .text .now) (a .stated) (a .rate) _ _ _ (t .take-text .ensures) (r .read-taken .ensures) (n .number .ensures)
+          (a .line .now) (a .place) f _ refl (w .write-phrase .ensures .0),
       line-is (a .kind) (a .text .now) (a .stated) (a .rate) _ _ _ (t .take-text .ensures) (r .read-taken .ensures) (n .number .ensures)
-      (a .line .now) (a .place) _ (w .write-phrase .ensures .1),
+          (a .line .now) (a .place) _ (w .write-phrase .ensures .1),
     )
 
 pub why-spec : {M : Type 1} → statement M

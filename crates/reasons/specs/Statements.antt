@@ -1,0 +1,55 @@
+-- What is told of a text (BEHAVIOUR: Why): the reader's own number and place, a fact that holds of the text, and its phrase. Proofs:
+-- proofs/Statements.antt.
+-- Assumes nothing.
+use Prim.Native.Nat.{ℕ, _+_, _<_}
+use mathlib.Core.Path.{_≡_}
+use mathlib.Core.Logic.{_↔_}
+use mathlib.Core.List.{List}
+use lib.ListN.{length}
+use Rattle.lent.specs.Line.{splice}
+use Rattle.answers.specs.declared.Refusal.{Refusal}
+use Rattle.answers.specs.Refusals.{noRoom}
+use Rattle.timecodes.specs.declared.kinds.Kind.{Kind}
+use Rattle.written.specs.Written.{Text, lineTo}
+use Rattle.reading.specs.declared.Stated.{Stated}
+use Rattle.reading.specs.Answer.{numberOf, placeOf}
+use Rattle.reading.specs.For.{readFor}
+use Rattle.reasons.specs.declared.Reason.{Reason}
+use Rattle.reasons.specs.declared.Reasoned.the-variants.{Told, Refused}
+use Rattle.reasons.specs.Why.{factOf, phraseFor, whyOf}
+use Rattle.reasons.specs.Holds.{FactHolds}
+
+-- what is told holds the reader's own answer: so the number and the place are those that it gives, and an accepted text's timecode is that
+-- which it reads
+abbrev pub ReadersOwn : Type 0
+ReadersOwn =
+    (kind : Kind) (l : List ℕ) (stated : Stated) (rate : ℕ) (line : List ℕ) (place : ℕ) (r : Reason)
+    → whyOf kind l stated rate line place ≡ Told r
+    → (r .read ≡ readFor kind l stated rate)
+    × ((numberOf (r .read) ≡ numberOf (readFor kind l stated rate)) × (placeOf (r .read) ≡ placeOf (readFor kind l stated rate)))
+
+-- the fact that is told holds of the text, by the number that the reader gives
+abbrev pub FactTold : Type 0
+FactTold =
+    (kind : Kind) (l : List ℕ) (stated : Stated) (rate : ℕ) (line : List ℕ) (place : ℕ) (r : Reason)
+    → whyOf kind l stated rate line place ≡ Told r → FactHolds l stated rate (numberOf (readFor kind l stated rate)) (r .fact)
+
+-- the phrase of that number stands in the line from its place on, and the length told is its length
+abbrev pub PhraseTold : Type 0
+PhraseTold =
+    (kind : Kind) (l : List ℕ) (stated : Stated) (rate : ℕ) (line : List ℕ) (place : ℕ) (r : Reason)
+    → whyOf kind l stated rate line place ≡ Told r
+    → (r .length ≡ length (phraseFor kind l stated rate))
+    × (lineTo line place (Text (phraseFor kind l stated rate)) ≡ splice line place (phraseFor kind l stated rate))
+
+-- nothing is told, and 8 is given, exactly when place plus the phrase's length exceeds the line's length
+abbrev pub WhyRefused : Type 0
+WhyRefused =
+    (kind : Kind) (l : List ℕ) (stated : Stated) (rate : ℕ) (line : List ℕ) (place : ℕ) (e : Refusal)
+    → (whyOf kind l stated rate line place ≡ Refused e) ↔ ((e ≡ noRoom) × (length line < place + length (phraseFor kind l stated rate)))
+
+-- then no byte of the line changes
+abbrev pub WhyKeeps : Type 0
+WhyKeeps =
+    (kind : Kind) (l : List ℕ) (stated : Stated) (rate : ℕ) (line : List ℕ) (place : ℕ) (e : Refusal)
+    → whyOf kind l stated rate line place ≡ Refused e → lineTo line place (Text (phraseFor kind l stated rate)) ≡ line
