@@ -2,6 +2,8 @@
 -- Assumes nothing.
 use Rattle.promises.specs.Calls.{OneAnswer}
 use Rattle.reading.proofs.Determined as reading-determined
+use Rattle.reasons.proofs.Determined as reasons-determined
+use Rattle.phrases.proofs.Determined as phrases-determined
 use Rattle.runtime_reading.proofs.Determined as runtime-reading-determined
 use Rattle.label_writer.proofs.Determined as label-writer-determined
 use Rattle.footage_writer.proofs.Determined as footage-writer-determined
@@ -22,6 +24,8 @@ pub one-answer : OneAnswer
 one-answer = record {
   read-text = record { asks-nothing = λ κs a. tt; one-outcome = reading-determined.read-text-determined };
   read-runtime = record { asks-nothing = λ κs a. tt; one-outcome = runtime-reading-determined.read-runtime-determined };
+  why = record { asks-nothing = λ κs a. tt; one-outcome = reasons-determined.why-determined };
+  write-phrase = record { asks-nothing = λ κs a. tt; one-outcome = phrases-determined.write-phrase-determined };
   sections = record { asks-nothing = λ κs a. tt; one-outcome = label-writer-determined.sections-determined };
   sections-length = record { asks-nothing = λ κs a. tt; one-outcome = label-writer-determined.sections-length-determined };
   put-sections = record { asks-nothing = λ κs a. tt; one-outcome = label-writer-determined.put-sections-determined };
@@ -52,6 +56,7 @@ one-answer = record {
   write-list = record { asks-nothing = λ κs a. tt; one-outcome = shot-writer-determined.write-list-determined };
   answers-number = record { asks-nothing = λ κs a. tt; one-outcome = answers-determined.number-determined };
   answers-count = record { asks-nothing = λ κs a. tt; one-outcome = answers-determined.count-determined };
+  reading-number = record { asks-nothing = λ κs a. tt; one-outcome = reading-determined.number-determined };
   timecodes-number = record { asks-nothing = λ κs a. tt; one-outcome = timecodes-determined.number-determined };
   timecodes-timecode-of = record { asks-nothing = λ κs a. tt; one-outcome = timecodes-determined.timecode-of-determined };
   written-number = record { asks-nothing = λ κs a. tt; one-outcome = written-determined.number-determined };

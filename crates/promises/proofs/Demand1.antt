@@ -31,7 +31,8 @@ use Rattle.timecodes.specs.Timecode.{timecode}
 use Rattle.timecodes.specs.Timecode as answered
 use Rattle.written.specs.declared.Written.{Written}
 use Rattle.written.specs.declared.Written.the-variants.{Length, Refused}
-use Rattle.written.specs.Written.{Draft, answerTo, lineTo, numberOf, lengthOf}
+use Rattle.written.specs.Written.{Draft, Text, answerTo, lineTo, numberOf, lengthOf}
+use Rattle.phrases.specs.Phrases.{phraseOf}
 use Rattle.written.proofs.Statements.{refused-keeps}
 use Rattle.label_writer.specs.declared.Sectioned.{Sectioned}
 use Rattle.label_writer.specs.declared.Sectioned.the-variants as sectioned
@@ -107,4 +108,5 @@ refused-keeps-line = record {
   footage = λ tc format. keeps-line (footageDraft tc format);
   runtime = λ tc precision. keeps-line (runtimeDraft tc precision);
   list = λ given. keeps-line (listDraft given);
+  phrase = λ number. keeps-line (Text (phraseOf number));
 }

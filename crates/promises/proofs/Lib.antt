@@ -14,4 +14,5 @@ pub mod StrictLabels
 pub mod Demand2
 pub mod Cases
 pub mod PositionCases
+pub mod WhyCases
 pub mod Promises

@@ -23,6 +23,8 @@ use Rattle.label_scan.proofs.Statements as label-scan
 use Rattle.footage_scan.proofs.Statements as footage-scan
 use Rattle.runtime_scan.proofs.Statements as runtime-scan
 use Rattle.reading.proofs.Statements as reading
+use Rattle.phrases.proofs.Statements as phrases
+use Rattle.reasons.proofs.Statements as reasons
 use Rattle.reading.proofs.Positions as reading-positions
 use Rattle.reading.proofs.PositionCounts as reading-counts
 use Rattle.runtime_reading.proofs.Statements as runtime-reading
@@ -52,6 +54,7 @@ use Rattle.promises.proofs.ReadBack.{labels-read-back, footage-read-bac
 use Rattle.promises.proofs.AsWritten.{read-as-written}
 use Rattle.promises.proofs.Cases.{starred-cases}
 use Rattle.promises.proofs.PositionCases.{position-cases}
+use Rattle.promises.proofs.WhyCases.{why-cases}
 
 pub promises : Promises
 promises = record {
@@ -118,6 +121,16 @@ promises = record {
   unstated-read-back = unstated-read-back;
   read-as-written = read-as-written;
   starred-cases = starred-cases;
+  readers-own = reasons.readers-own;
+  fact-told = reasons.fact-told;
+  phrase-told = reasons.phrase-told;
+  why-refused = reasons.why-refused;
+  why-keeps = reasons.why-keeps;
+  accepted-phrase = phrases.accepted-phrase;
+  phrases-apart = phrases.phrases-apart;
+  phrases-plain = phrases.phrases-plain;
+  no-phrase = phrases.no-phrase;
+  why-cases = why-cases;
   nearest-is = numbers.nearest-is;
   nearest-one = numbers.nearest-one;
   within-half = numbers.within-half;

@@ -6,6 +6,8 @@ pub ties : Ties
 ties = record {
   read-text = λ κs a x p. p;
   read-runtime = λ κs a x p. p;
+  why = λ κs a x p. p;
+  write-phrase = λ κs a x p. p;
   sections = λ κs a x p. p;
   sections-length = λ κs a x p. p;
   put-sections = λ κs a x p. p;
@@ -36,6 +38,7 @@ ties = record {
   write-list = λ κs a x p. p;
   answers-number = λ κs a x p. p;
   answers-count = λ κs a x p. p;
+  reading-number = λ κs a x p. p;
   timecodes-number = λ κs a x p. p;
   timecodes-timecode-of = λ κs a x p. p;
   written-number = λ κs a x p. p;

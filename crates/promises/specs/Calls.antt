@@ -3,6 +3,12 @@
 use Rattle.promises.specs.Answers.{Answers}
 use Rattle.reading.proofs.read_text as read-text
 use Rattle.reading.proofs.read_text.Reads as read-text-reads
+use Rattle.reading.proofs.number as reading-number
+use Rattle.reading.proofs.number.Reads as reading-number-reads
+use Rattle.reasons.proofs.why as why
+use Rattle.reasons.proofs.why.Reads as why-reads
+use Rattle.phrases.proofs.write_phrase as write-phrase
+use Rattle.phrases.proofs.write_phrase.Reads as write-phrase-reads
 use Rattle.runtime_reading.proofs.read_runtime as read-runtime
 use Rattle.runtime_reading.proofs.read_runtime.Reads as read-runtime-reads
 use Rattle.label_writer.proofs.sections as sections
@@ -85,7 +91,9 @@ pub record OneAnswer : Type 0 where
   -- reading
   pub read-text : Answers read-text.ended read-text-reads.Asked read-text-reads.Learnt
   pub read-runtime : Answers read-runtime.ended read-runtime-reads.Asked read-runtime-reads.Learnt
+  pub why : Answers why.ended why-reads.Asked why-reads.Learnt
   -- writing
+  pub write-phrase : Answers write-phrase.ended write-phrase-reads.Asked write-phrase-reads.Learnt
   pub sections : Answers sections.ended sections-reads.Asked sections-reads.Learnt
   pub sections-length : Answers sections-length.ended sections-length-reads.Asked sections-length-reads.Learnt
   pub put-sections : Answers put-sections.ended put-sections-reads.Asked put-sections-reads.Learnt
@@ -121,6 +129,7 @@ pub record OneAnswer : Type 0 where
   -- what an answer holds
   pub answers-number : Answers answers-number.ended answers-number-reads.Asked answers-number-reads.Learnt
   pub answers-count : Answers answers-count.ended answers-count-reads.Asked answers-count-reads.Learnt
+  pub reading-number : Answers reading-number.ended reading-number-reads.Asked reading-number-reads.Learnt
   pub timecodes-number : Answers timecodes-number.ended timecodes-number-reads.Asked timecodes-number-reads.Learnt
   pub timecodes-timecode-of : Answers timecodes-timecode-of.ended timecodes-timecode-of-reads.Asked timecodes-timecode-of-reads.Learnt
   pub written-number : Answers written-number.ended written-number-reads.Asked written-number-reads.Learnt

@@ -25,7 +25,8 @@ use Rattle.time.specs.declared.Timed.{Timed}
 use Rattle.time.specs.Seconds as timed
 use Rattle.arithmetic.specs.declared.Compared.{Compared}
 use Rattle.arithmetic.specs.Compare as compared
-use Rattle.written.specs.Written.{Draft, answerTo, lineTo, numberOf, lengthOf}
+use Rattle.written.specs.Written.{Draft, Text, answerTo, lineTo, numberOf, lengthOf}
+use Rattle.phrases.specs.Phrases.{phraseOf}
 use Rattle.label_writer.specs.declared.TimecodeSections.{TimecodeSections}
 use Rattle.label_writer.specs.declared.Sectioned.{Sectioned}
 use Rattle.label_writer.specs.Sections as sectioned
@@ -62,3 +63,4 @@ pub record RefusedKeepsLine : Type 0 where
   pub footage : (tc : Timecode) (format : ℕ) → KeepsLine (footageDraft tc format)
   pub runtime : (tc : Timecode) (precision : ℕ) → KeepsLine (runtimeDraft tc precision)
   pub list : (given : List ℤ) → KeepsLine (listDraft given)
+  pub phrase : (number : ℕ) → KeepsLine (Text (phraseOf number))

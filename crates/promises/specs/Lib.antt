@@ -13,4 +13,5 @@ pub mod ReadBack
 pub mod AsWritten
 pub mod Cases
 pub mod PositionCases
+pub mod WhyCases
 pub mod Promises

@@ -16,6 +16,8 @@ use Rattle.runtime_scan.specs.Statements as runtime-scan
 use Rattle.reading.specs.Statements as reading
 use Rattle.reading.specs.Positions as reading-positions
 use Rattle.runtime_reading.specs.Statements as runtime-reading
+use Rattle.phrases.specs.Statements as phrases
+use Rattle.reasons.specs.Statements as reasons
 use Rattle.written.specs.Statements as written
 use Rattle.label_writer.specs.Statements as label-writer
 use Rattle.footage_writer.specs.Statements as footage-writer
@@ -48,6 +50,7 @@ use Rattle.promises.specs.ReadBack.{LabelsReadBack, FootageReadBack, Uns
 use Rattle.promises.specs.AsWritten.{ReadAsWritten}
 use Rattle.promises.specs.Cases.{StarredCases}
 use Rattle.promises.specs.PositionCases.{PositionCases}
+use Rattle.promises.specs.WhyCases.{WhyCases}
 
 pub record Promises : Type 1 where
   -- demand 1
@@ -120,6 +123,17 @@ pub record Promises : Type 1 where
   pub read-as-written : ReadAsWritten
   -- the cases marked with a star
   pub starred-cases : StarredCases
+  -- why a text was turned down
+  pub readers-own : reasons.ReadersOwn
+  pub fact-told : reasons.FactTold
+  pub phrase-told : reasons.PhraseTold
+  pub why-refused : reasons.WhyRefused
+  pub why-keeps : reasons.WhyKeeps
+  pub accepted-phrase : phrases.AcceptedPhrase
+  pub phrases-apart : phrases.PhrasesApart
+  pub phrases-plain : phrases.PhrasesPlain
+  pub no-phrase : phrases.NoPhrase
+  pub why-cases : WhyCases
   -- numbers and lines
   pub nearest-is : numbers.NearestIs
   pub nearest-one : numbers.NearestOne

@@ -20,13 +20,16 @@ use Rattle.minutes.specs.Minutes.{minuteAt}
 use Rattle.rates.specs.Rates.{rateAt}
 use Rattle.timecodes.specs.Made.{settled}
 use Rattle.reading.specs.For.{readFor}
+use Rattle.reading.specs.Answer as reading
+use Rattle.phrases.specs.Phrases.{phraseOf}
+use Rattle.reasons.specs.Why.{phraseFor, whyOf}
 use Rattle.runtime_reading.specs.Reading.{readRuntime}
 use Rattle.runtime_writer.specs.RuntimeText.{runtimeDraft}
 use Rattle.time.specs.Bounds.{isFraction}
 use Rattle.time.specs.Frames.{framesAt, secondsAt, ticksAt}
 use Rattle.time.specs.Seconds.{SecondsOf}
 use Rattle.time.specs.Ticks.{ticksOf}
-use Rattle.written.specs.Written.{answerTo, lineTo}
+use Rattle.written.specs.Written.{Text, answerTo, lineTo}
 use Rattle.shot_lists.specs.Entries.{onDisk, inNumbers, entryOf}
 use Rattle.shot_lists.specs.Reading.{checkedOf, readOf}
 use Rattle.shot_writer.specs.ListText.{listDraft}
@@ -35,6 +38,12 @@ use Rattle.timecodes.specs.Timecode as timecodes
 use Rattle.written.specs.Written as written
 use Rattle.reading.proofs.read_text as read-text
 use Rattle.reading.proofs.read_text.Reads as read-text-reads
+use Rattle.reading.proofs.number as reading-number
+use Rattle.reading.proofs.number.Reads as reading-number-reads
+use Rattle.reasons.proofs.why as why
+use Rattle.reasons.proofs.why.Reads as why-reads
+use Rattle.phrases.proofs.write_phrase as write-phrase
+use Rattle.phrases.proofs.write_phrase.Reads as write-phrase-reads
 use Rattle.runtime_reading.proofs.read_runtime as read-runtime
 use Rattle.runtime_reading.proofs.read_runtime.Reads as read-runtime-reads
 use Rattle.label_writer.proofs.sections as sections
@@ -117,7 +126,12 @@ pub record Ties : Type 0 where
   -- reading
   pub read-text : Gives read-text.ended read-text-reads.Learnt (λ κs a x. x .0 ≡ readFor (a .1 .1 .1 .0) (a .0 .now) (a .1 .0) (a .1 .1 .0))
   pub read-runtime : Gives read-runtime.ended read-runtime-reads.Learnt (λ κs a x. x .0 ≡ settled (a .1 .1 .0) (readRuntime (a .0 .now) (a .1 .0)))
+  pub why : Gives why.ended why-reads.Learnt (λ κs a x.
+      (x .0 ≡ whyOf (a .1 .1 .1 .0) (a .0 .now) (a .1 .0) (a .1 .1 .0) (a .1 .1 .1 .1 .0 .now) (a .1 .1 .1 .1 .1 .0))
+      × (x .1 .1 .1 .1 .1 .0 ≡ lineTo (a .1 .1 .1 .1 .0 .now) (a .1 .1 .1 .1 .1 .0) (Text (phraseFor (a .1 .1 .1 .0) (a .0 .now) (a .1 .0) (a .1 .1 .0)))))
   -- writing
+  pub write-phrase : Gives write-phrase.ended write-phrase-reads.Learnt (λ κs a x.
+      (x .0 ≡ answerTo (a .1 .0 .now) (a .1 .1 .0) (Text (phraseOf (a .0)))) × (x .1 .1 .0 ≡ lineTo (a .1 .0 .now) (a .1 .1 .0) (Text (phraseOf (a .0)))))
   pub sections : Gives sections.ended sections-reads.Learnt (λ κs a x. x .0 ≡ sectioned (a .0))
   pub sections-length : Gives sections-length.ended sections-length-reads.Learnt (λ κs a x. x .0 ≡ sectionsLength (a .0))
   pub put-sections : Gives put-sections.ended put-sections-reads.Learnt (λ κs a x. x .1 .0 ≡ laid (a .0 .now) (sectionsText (framesMark (a .1 .1 .0)) (a .1 .0)))
@@ -161,6 +175,7 @@ pub record Ties : Type 0 where
   -- what an answer holds
   pub answers-number : Gives answers-number.ended answers-number-reads.Learnt (λ κs a x. x .0 ≡ answers.numberOf (a .0))
   pub answers-count : Gives answers-count.ended answers-count-reads.Learnt (λ κs a x. x .0 ≡ answers.countOf (a .0))
+  pub reading-number : Gives reading-number.ended reading-number-reads.Learnt (λ κs a x. x .0 ≡ reading.numberOf (a .0))
   pub timecodes-number : Gives timecodes-number.ended timecodes-number-reads.Learnt (λ κs a x. x .0 ≡ timecodes.numberOf (a .0))
   pub timecodes-timecode-of : Gives timecodes-timecode-of.ended timecodes-timecode-of-reads.Learnt (λ κs a x. x .0 ≡ timecodes.timecodeOf (a .0))
   pub written-number : Gives written-number.ended written-number-reads.Learnt (λ κs a x. x .0 ≡ written.numberOf (a .0))
