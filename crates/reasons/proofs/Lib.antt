@@ -5,5 +5,6 @@ pub mod Counts
 pub mod Film
 pub mod Strict
 pub mod Holds
+pub mod One
 pub mod Statements
 pub mod Determined

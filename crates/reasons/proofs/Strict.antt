@@ -181,7 +181,7 @@ found-by : (rate : ℕ) (fields : List ℕ) → 0 < rateRow rate .timebase → (
     → (t ≡ false → ¬ ((hoursIn fields < 24) × Strict (rateRow rate .timebase) fields))
     → FoundFact (positionFault rate t fields) (rateRow rate .timebase) t fields
 unfolding positionFault
-found-by rate fields some true four never = record { the = fault Sign false 0 0; is = refl; fact = sign refl refl refl refl }
+found-by rate fields some true four never = record { the = fault Sign false 0 0; is = refl; fact = sign refl refl }
 found-by rate fields some false four never = strict-found (rateRow rate .timebase) fields some four (never refl)
 
 -- ---- of a text

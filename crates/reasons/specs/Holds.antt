@@ -99,7 +99,7 @@ fieldAt (suc (suc (suc i))) = Frames
 
 pub data StrictFact (timebase : ℕ) (minus : Bool) (fields : List ℕ) (f : Fault) : Type 0 where
   -- a sign, before all: both are 0
-  sign : f .field ≡ Sign → minus ≡ true → limitOf f ≡ pos 0 → faults.valueOf f ≡ pos 0 → StrictFact timebase minus fields f
+  sign : minus ≡ true → f ≡ faults.fault Sign false 0 0 → StrictFact timebase minus fields f
   -- no sign, and each field to the left is allowed: the value of this one is not, and the limit is the nearest that is
   field :
       (i : ℕ) → i < 4 → f .field ≡ fieldAt i → minus ≡ false → ((j : ℕ) → j < i → OfDayLabel timebase j (pos (getD fields j 0)))

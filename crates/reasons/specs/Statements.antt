@@ -14,6 +14,7 @@ use Rattle.written.specs.Written.{Text, lineTo}
 use Rattle.reading.specs.declared.Stated.{Stated}
 use Rattle.reading.specs.Answer.{numberOf, placeOf}
 use Rattle.reading.specs.For.{readFor}
+use Rattle.reasons.specs.declared.Fact.{Fact}
 use Rattle.reasons.specs.declared.Reason.{Reason}
 use Rattle.reasons.specs.declared.Reasoned.the-variants.{Told, Refused}
 use Rattle.reasons.specs.Why.{factOf, phraseFor, whyOf}
@@ -33,6 +34,11 @@ abbrev pub FactTold : Type 0
 FactTold =
     (kind : Kind) (l : List ℕ) (stated : Stated) (rate : ℕ) (line : List ℕ) (place : ℕ) (r : Reason)
     → whyOf kind l stated rate line place ≡ Told r → FactHolds l stated rate (numberOf (readFor kind l stated rate)) (r .fact)
+
+-- and of a text that is what holds: any two facts that hold of it by one number are equal
+abbrev pub OneFact : Type 0
+OneFact =
+    (l : List ℕ) (stated : Stated) (rate number : ℕ) (f g : Fact) → FactHolds l stated rate number f → FactHolds l stated rate number g → f ≡ g
 
 -- the phrase of that number stands in the line from its place on, and the length told is its length
 abbrev pub PhraseTold : Type 0
