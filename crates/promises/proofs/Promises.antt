@@ -123,6 +123,7 @@ promises = record {
   starred-cases = starred-cases;
   readers-own = reasons.readers-own;
   fact-told = reasons.fact-told;
+  one-fact = reasons.one-fact;
   phrase-told = reasons.phrase-told;
   why-refused = reasons.why-refused;
   why-keeps = reasons.why-keeps;

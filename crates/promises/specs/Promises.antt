@@ -126,6 +126,7 @@ pub record Promises : Type 1 where
   -- why a text was turned down
   pub readers-own : reasons.ReadersOwn
   pub fact-told : reasons.FactTold
+  pub one-fact : reasons.OneFact
   pub phrase-told : reasons.PhraseTold
   pub why-refused : reasons.WhyRefused
   pub why-keeps : reasons.WhyKeeps

@@ -21,27 +21,16 @@ use Rattle.reasons.specs.Why.{factOf, phraseFor}
 use Rattle.lines.specs.Output.{bytesOf}
 
 -- a row: how a text is read, and the number, place, phrase and fact that it then gets
-pub record Case : Type 0 where
-  pub kind : Kind
-  pub stated : Stated
-  pub rate : ℕ
-  pub text : String
-  pub number : ℕ
-  pub place : ℕ
-  pub phrase : String
-  pub fact : Fact
-
-abbrev row : Kind → Stated → (rate : ℕ) → String → (number place : ℕ) → String → Fact → Case
-row kind stated rate text number place phrase f =
-    record { kind = kind; stated = stated; rate = rate; text = text; number = number; place = place; phrase = phrase; fact = f }
+pub data Case : Type 0 where
+  row : Kind → Stated → (rate : ℕ) (text : String) (number place : ℕ) (phrase : String) → Fact → Case
 
 abbrev pub Holds : Case → Type 0
-Holds c =
-    let l = bytesOf (c .text) in
-    (numberOf (readFor (c .kind) l (c .stated) (c .rate)) ≡ c .number)
-    × (placeOf (readFor (c .kind) l (c .stated) (c .rate)) ≡ c .place)
-    × (phraseFor (c .kind) l (c .stated) (c .rate) ≡ bytesOf (c .phrase))
-    × (factOf (c .kind) l (c .stated) (c .rate) ≡ c .fact)
+Holds (row kind stated rate text number place phrase f) =
+    let l = bytesOf text in
+    (numberOf (readFor kind l stated rate) ≡ number)
+    × (placeOf (readFor kind l stated rate) ≡ place)
+    × (phraseFor kind l stated rate ≡ bytesOf phrase)
+    × (factOf kind l stated rate ≡ f)
 
 abbrev pub All : List Case → Type 0
 All [] = Unit {0}

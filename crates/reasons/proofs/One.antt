@@ -35,7 +35,6 @@ use Rattle.reading.proofs.Shapes.{shapes-apart}
 use Rattle.reasons.specs.declared.Fact.{Fact}
 use Rattle.reasons.specs.declared.Fact.the-variants.{Limit, First}
 use Rattle.reasons.specs.Holds.{fieldsOf, FirstOfMinute, CountOf, CountFact, OfFoot, FilmFact, FootageFact, OfDayLabel, fieldAt, StrictFact, FactHolds}
-use Rattle.reasons.specs.Statements.{OneFact}
 use Rattle.reasons.specs.Holds.{frames, marker, sign, field, none, dropped, out-of-bounds, not-on-film, not-strict}
 
 -- ---- a text has one label, and one footage
@@ -116,7 +115,7 @@ one-footage-fact : (l : List ℕ) (stated : Stated) (f g : Fault) → FootageFac
 one-footage-fact l stated f g a b =
     let same = one-footage-shape l (a .parts) (b .parts) (a .text .shape) (b .text .shape) in
     let format : a .format ≡ b .format =
-        sym (a .in-format .chosen) ∙ ap (λ (p : FootageParts). formatFor stated (hasPerf (p .perf))) same ∙ b .in-format .chosen in
+    sym (a .in-format .chosen) ∙ ap (λ (p : FootageParts). formatFor stated (hasPerf (p .perf))) same ∙ b .in-format .chosen in
     one-film (b .format) (b .parts) f g (subst (λ (x : FilmFormat). FilmFact x (b .parts) f) format (subst (λ (p : FootageParts). FilmFact (a .format) p f) same (a .fact))) (b .fact)
 
 -- ---- 14
@@ -143,22 +142,22 @@ no-fact n h = (apart 3 (omega arith) (λ e. omega (arith, e)) (λ e. omega (arit
     apart : (k : ℕ) → 2 < k → (k ≡ 4 → ⊥) → (k ≡ 6 → ⊥) → n ≡ k → ⊥
     apart k high four six e = ⊎-elim (λ x. omega (arith, x, e, high)) (λ x. ⊎-elim (λ y. four (sym e ∙ y)) (λ y. six (sym e ∙ y)) x) h
 
-pub one-fact : OneFact
-one-fact l stated rate n f g (none h) (none k) = refl
-one-fact l stated rate n f g (none h) (dropped t q) = absurd (no-fact 3 h .0 refl)
-one-fact l stated rate n f g (none h) (out-of-bounds q) = absurd (no-fact 5 h .1 .0 refl)
-one-fact l stated rate n f g (none h) (not-on-film q) = absurd (no-fact 13 h .1 .1 .0 refl)
-one-fact l stated rate n f g (none h) (not-strict t q) = absurd (no-fact 14 h .1 .1 .1 refl)
-one-fact l stated rate n f g (dropped t p) (none h) = absurd (no-fact 3 h .0 refl)
-one-fact l stated rate n f g (out-of-bounds p) (none h) = absurd (no-fact 5 h .1 .0 refl)
-one-fact l stated rate n f g (not-on-film p) (none h) = absurd (no-fact 13 h .1 .1 .0 refl)
-one-fact l stated rate n f g (not-strict t p) (none h) = absurd (no-fact 14 h .1 .1 .1 refl)
-one-fact l stated rate n f g (dropped {minus = a} {fields = x} {s = s} t p) (dropped {minus = b} {fields = y} {s = r} u q) =
+pub same-fact : (l : List ℕ) (stated : Stated) (rate n : ℕ) (f g : Fact) → FactHolds l stated rate n f → FactHolds l stated rate n g → f ≡ g
+same-fact l stated rate n f g (none h) (none k) = refl
+same-fact l stated rate n f g (none h) (dropped t q) = absurd (no-fact 3 h .0 refl)
+same-fact l stated rate n f g (none h) (out-of-bounds q) = absurd (no-fact 5 h .1 .0 refl)
+same-fact l stated rate n f g (none h) (not-on-film q) = absurd (no-fact 13 h .1 .1 .0 refl)
+same-fact l stated rate n f g (none h) (not-strict t q) = absurd (no-fact 14 h .1 .1 .1 refl)
+same-fact l stated rate n f g (dropped t p) (none h) = absurd (no-fact 3 h .0 refl)
+same-fact l stated rate n f g (out-of-bounds p) (none h) = absurd (no-fact 5 h .1 .0 refl)
+same-fact l stated rate n f g (not-on-film p) (none h) = absurd (no-fact 13 h .1 .1 .0 refl)
+same-fact l stated rate n f g (not-strict t p) (none h) = absurd (no-fact 14 h .1 .1 .1 refl)
+same-fact l stated rate n f g (dropped {minus = a} {fields = x} {s = s} t p) (dropped {minus = b} {fields = y} {s = r} u q) =
     let same = one-text l a b x y t u in
     ap First (one-first rate b y s r (subst (λ (z : List ℕ). FirstOfMinute rate b z s) (same .1) (subst (λ (m : Bool). FirstOfMinute rate m x s) (same .0) p)) q)
-one-fact l stated rate n f g (out-of-bounds {f = a} p) (out-of-bounds {f = b} q) = ap Limit (one-count-fact l stated rate a b p q)
-one-fact l stated rate n f g (not-on-film {f = a} p) (not-on-film {f = b} q) = ap Limit (one-footage-fact l stated a b p q)
-one-fact l stated rate n f g (not-strict {minus = a} {fields = x} {f = v} t p) (not-strict {minus = b} {fields = y} {f = w} u q) =
+same-fact l stated rate n f g (out-of-bounds {f = a} p) (out-of-bounds {f = b} q) = ap Limit (one-count-fact l stated rate a b p q)
+same-fact l stated rate n f g (not-on-film {f = a} p) (not-on-film {f = b} q) = ap Limit (one-footage-fact l stated a b p q)
+same-fact l stated rate n f g (not-strict {minus = a} {fields = x} {f = v} t p) (not-strict {minus = b} {fields = y} {f = w} u q) =
     let same = one-text l a b x y t u in
     let timebase = rateRow rate .timebase in
     ap Limit

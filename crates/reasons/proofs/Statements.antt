@@ -24,8 +24,9 @@ use Rattle.reasons.specs.declared.Reasoned.{Reasoned}
 use Rattle.reasons.specs.declared.Reasoned.the-variants.{Told, Refused}
 use Rattle.reasons.specs.Why.{factOf, phraseFor, toldAs, whyOf}
 use Rattle.reasons.specs.Holds.{FactHolds}
-use Rattle.reasons.specs.Statements.{ReadersOwn, FactTold, PhraseTold, WhyRefused, WhyKeeps}
+use Rattle.reasons.specs.Statements.{ReadersOwn, FactTold, OneFact, PhraseTold, WhyRefused, WhyKeeps}
 use Rattle.reasons.proofs.Holds.{number-holds}
+use Rattle.reasons.proofs.One.{same-fact}
 
 -- what stands in an answer, by its parts
 readIn : Read → Reasoned → Read
@@ -82,6 +83,10 @@ unfolding factOf
 fact-told kind l stated rate line place r e =
     subst (FactHolds l stated rate (numberOf (readFor kind l stated rate))) (sym (told-parts kind l stated rate line place r e .fact-is))
     (number-holds l stated rate kind)
+
+pub one-fact : OneFact
+one-fact kind l stated rate line place r f e h =
+    same-fact l stated rate (numberOf (readFor kind l stated rate)) f (r .fact) h (fact-told kind l stated rate line place r e)
 
 pub phrase-told : PhraseTold
 phrase-told kind l stated rate line place r e =

@@ -35,10 +35,11 @@ FactTold =
     (kind : Kind) (l : List ℕ) (stated : Stated) (rate : ℕ) (line : List ℕ) (place : ℕ) (r : Reason)
     → whyOf kind l stated rate line place ≡ Told r → FactHolds l stated rate (numberOf (readFor kind l stated rate)) (r .fact)
 
--- and of a text that is what holds: any two facts that hold of it by one number are equal
+-- and it is the only one: any fact that holds of the text by that number is the one told
 abbrev pub OneFact : Type 0
 OneFact =
-    (l : List ℕ) (stated : Stated) (rate number : ℕ) (f g : Fact) → FactHolds l stated rate number f → FactHolds l stated rate number g → f ≡ g
+    (kind : Kind) (l : List ℕ) (stated : Stated) (rate : ℕ) (line : List ℕ) (place : ℕ) (r : Reason) (f : Fact)
+    → whyOf kind l stated rate line place ≡ Told r → FactHolds l stated rate (numberOf (readFor kind l stated rate)) f → f ≡ r .fact
 
 -- the phrase of that number stands in the line from its place on, and the length told is its length
 abbrev pub PhraseTold : Type 0

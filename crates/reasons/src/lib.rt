@@ -3,12 +3,9 @@
 ghost use mathlib.Core.Path.{_≡_};
 ghost use Rattle.labels.specs.Label.{Short};
 ghost use Rattle.written.specs.Written.{Text, lineTo};
-ghost use Rattle.phrases.specs.Phrases.{phraseOf};
-ghost use Rattle.reading.specs.Answer.{numberOf};
 ghost use Rattle.reading.specs.Taken.{shapedIn};
-ghost use Rattle.reading.specs.For.{readFor};
 ghost use Rattle.reasons.specs.Facts.{limitFrom, firstLabel, labelFact, footageFact, ShortLabel, factBy};
-ghost use Rattle.reasons.specs.Why.{whyOf};
+ghost use Rattle.reasons.specs.Why.{phraseFor, whyOf};
 use answers::Refusal;
 use faults::Fault;
 use faults::Found;
@@ -140,7 +137,7 @@ pub fn why(
     place: usize,
 ) -> Reasoned
     ensures answer { λ r. ⌜ r ≡ whyOf kind (now (text .entry)) stated rate (now (line .entry)) place ⌝ }
-    ensures line { λ r. ⌜ now (line .exit) ≡ lineTo (now (line .entry)) place (Text (phraseOf (numberOf (readFor kind (now (text .entry)) stated rate)))) ⌝ }
+    ensures line { λ r. ⌜ now (line .exit) ≡ lineTo (now (line .entry)) place (Text (phraseFor kind (now (text .entry)) stated rate)) ⌝ }
 {
     let taken = reading::take_text(text, stated);
     let read = reading::read_taken(taken, stated, rate, kind);
