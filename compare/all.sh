@@ -32,6 +32,7 @@ fi
 PYTHONDONTWRITEBYTECODE=1 python3 compare/places.py "${1-full}" "${ask[@]}"
 PYTHONDONTWRITEBYTECODE=1 python3 compare/footages.py "${1-full}" "${ask[@]}"
 PYTHONDONTWRITEBYTECODE=1 python3 compare/positions.py "${1-full}" "${ask[@]}"
+PYTHONDONTWRITEBYTECODE=1 python3 compare/why.py "${1-full}" "${ask[@]}"
 PYTHONDONTWRITEBYTECODE=1 python3 compare/lists.py "${1-full}" "${ask[@]}"
 
 [ -n "${ASK-}" ] || compare/written.sh
