@@ -4,19 +4,18 @@ use Prim.Native.Nat.{ℕ, suc, _-_, _≤_, _<_}
 use mathlib.Core.Path.{_≡_, refl, sym, ap, _∙_, subst}
 use mathlib.Core.Bool.{Bool, true, false, cond, _&&_, not}
 use native.Mathlib.Omega.{arith}
-use borrow.Author.Tests.{ltb-true, ltb-false, leb-true, leb-false, lt-ltb, le-ltb, le-leb, lt-leb}
+use borrow.Author.Tests.{leb-true, lt-ltb, le-ltb, lt-leb}
 use lib.Dec.{T, ltb, leb, eqb}
 use lib.IntN.{ℤ, pos, negsuc, negℤ, natAbs, _-ℤ_, negℤ-negℤ}
 use Rattle.numbers.specs.Sign.{signed}
 use Rattle.numbers.specs.SignLaws.{abs-neg, abs-signed}
-use Rattle.numbers.specs.DistanceLaws.{far, far-across, far-neg, far-none}
+use Rattle.numbers.specs.DistanceLaws.{far, far-across, far-neg}
 use Rattle.answers.specs.Refusals.{mostCount, isCount}
 use Rattle.faults.specs.declared.Field.{Field}
-use Rattle.faults.specs.declared.Field.the-variants.{Count, Sign}
-use Rattle.faults.specs.declared.Fault.{Fault}
+use Rattle.faults.specs.declared.Field.the-variants.{Count}
 use Rattle.faults.specs.declared.Found.{Found}
 use Rattle.faults.specs.declared.Found.the-variants.{NoFault, At}
-use Rattle.faults.specs.Faults.{NearestAllowed, limitOf, valueOf, fault, isNone, under, exactly, signFault, countFault, leftmost}
+use Rattle.faults.specs.Faults.{NearestAllowed, fault, isNone, under, exactly, signFault, countFault, leftmost}
 
 -- ---- when there is none
 pub under-none : (field : Field) (bound value : ℕ) → isNone (under field bound value) ≡ ltb value bound

@@ -6,7 +6,7 @@ use mathlib.Core.Bool.{Bool, true, false}
 use native.Mathlib.Omega.{arith}
 use borrow.Author.Tests.{eqb-true, eqb-false}
 use lib.Dec.{T, eqb}
-use lib.IntN.{ℤ, pos, natAbs, _-ℤ_}
+use lib.IntN.{ℤ, natAbs, _-ℤ_}
 use Rattle.numbers.specs.Sign.{isNeg, signed}
 use Rattle.numbers.specs.SignLaws.{abs-signed, isNeg-neg}
 use Rattle.numbers.specs.DistanceLaws.{far-none, far-self}

@@ -1,15 +1,15 @@
 -- The frames that occur in a foot, by the writing formula, are those below the number of frames that the foot has.
 -- Assumes nothing.
-use Prim.Native.Nat.{ℕ, zero, suc, _+_, _-_, _*_, _/_, _%_, _≤_, _<_}
+use Prim.Native.Nat.{ℕ, zero, suc, _+_, _-_, _*_, _/_, _%_, _<_}
 use native.Mathlib.Omega.{arith}
 use mathlib.Core.Path.{_≡_, refl, subst}
 use mathlib.Core.Bool.{Bool, true, false, cond}
-use borrow.Author.Tests.{lt-ltb, le-ltb, ltb-true, ltb-false, eqb-true, eqb-false}
-use lib.Dec.{eqb, ltb}
+use borrow.Author.Tests.{ltb-true, ltb-false, eqb-true, eqb-false}
+use lib.Dec.{ltb}
 use Rattle.film.specs.declared.FilmFormat.{FilmFormat}
 use Rattle.film.specs.declared.FilmFormat.the-variants.{FF35mm4perf, FF35mm3perf, FF35mm2perf, FF16mm}
 use Rattle.film.specs.Footage.{footageCount, lastPerf, footageOf}
-use Rattle.film.specs.OnFilm.{leavesTwo, framesInFoot, onFilm}
+use Rattle.film.specs.OnFilm.{leavesTwo, framesInFoot}
 use Rattle.film.specs.Statements.{Occurs}
 
 -- ---- 3-perf feet
@@ -82,17 +82,3 @@ pub occurs-below : (format : FilmFormat) (feet frames : ℕ) → Occurs format f
 occurs-below format feet frames o =
     subst (λ (x : ℕ). x < framesInFoot format feet) (o .frames-of)
     (subst (λ (x : ℕ). footageOf format (o .count) .frames < framesInFoot format x) (o .feet-of) (written-below format (o .count)))
-
--- ---- by the tests, one after the other
-module _ (format : FilmFormat) (feet frames : ℕ) (marked : Bool) (marker : ℕ) where
-  pub onFilm-past : framesInFoot format feet ≤ frames → onFilm format feet frames marked marker ≡ false
-  unfolding onFilm
-  onFilm-past h = rw (le-ltb frames (framesInFoot format feet) h)
-
-  pub onFilm-unmarked : frames < framesInFoot format feet → marked ≡ false → onFilm format feet frames marked marker ≡ true
-  unfolding onFilm
-  onFilm-unmarked h e = rw (lt-ltb frames (framesInFoot format feet) h, e)
-
-  pub onFilm-marked : frames < framesInFoot format feet → marked ≡ true → onFilm format feet frames marked marker ≡ eqb marker (feet % 3)
-  unfolding onFilm
-  onFilm-marked h e = rw (lt-ltb frames (framesInFoot format feet) h, e)

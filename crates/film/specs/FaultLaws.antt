@@ -1,11 +1,11 @@
 -- What is told of the leftmost fault of a footage (BEHAVIOUR: Why): there is none just where it can be on the film.
 -- Assumes nothing.
 use Prim.Native.Nat.{ℕ, _%_}
-use mathlib.Core.Path.{_≡_, refl, ap, ap₂, _∙_}
-use mathlib.Core.Bool.{Bool, true, false, not, cond, _&&_, _||_}
-use lib.Dec.{eqb, ltb}
+use mathlib.Core.Path.{_≡_, refl, ap₂, _∙_}
+use mathlib.Core.Bool.{Bool, true, false, not, _&&_, _||_}
+use lib.Dec.{eqb}
 use Rattle.faults.specs.declared.Field.the-variants.{Frames, Marker}
-use Rattle.faults.specs.Faults.{isNone, under, leftmost}
+use Rattle.faults.specs.Faults.{isNone, under}
 use Rattle.faults.specs.FaultLaws.{under-none, exactly-none, leftmost-none}
 use Rattle.film.specs.declared.FilmFormat.{FilmFormat}
 use Rattle.film.specs.OnFilm.{framesInFoot, onFilm}

@@ -1,6 +1,5 @@
 -- `faults::count_fault` meets its contract: each return is the definition by the test that led there.
 -- Assumes nothing.
-use borrow.Author.Needs.{needs}
 use Rattle.numbers.proofs.Tests.{tests}
 use Rattle.faults.specs.Faults.{countFault}
 use Rattle.faults.proofs.count_fault.Statement.{statement}

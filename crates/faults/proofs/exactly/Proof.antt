@@ -1,6 +1,5 @@
 -- `faults::exactly` meets its contract: each return is the definition by the test that led there.
 -- Assumes nothing.
-use borrow.Author.Needs.{needs}
 use Rattle.numbers.proofs.Tests.{tests}
 use Rattle.faults.specs.Faults.{exactly}
 use Rattle.faults.proofs.exactly.Statement.{statement}

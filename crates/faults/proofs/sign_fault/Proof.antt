@@ -3,7 +3,6 @@
 use mathlib.Core.Path.{sym, ap}
 use borrow.Author.Tests.{not-true, not-false}
 use Rattle.faults.specs.Faults.{signFault}
-use borrow.Author.Needs.{needs}
 use Rattle.faults.proofs.sign_fault.Statement.{statement}
 use Rattle.faults.proofs.sign_fault.Tie as tie
 
