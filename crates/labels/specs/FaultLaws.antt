@@ -4,7 +4,6 @@ use Prim.Native.Nat.{ℕ}
 use mathlib.Core.Path.{_≡_, ap₂, _∙_}
 use mathlib.Core.Bool.{Bool, _&&_}
 use mathlib.Core.List.{List}
-use lib.Dec.{ltb}
 use Rattle.faults.specs.declared.Field.the-variants.{Hours, Minutes, Seconds, Frames}
 use Rattle.faults.specs.declared.Found.{Found}
 use Rattle.faults.specs.Faults.{isNone, under, leftmost}

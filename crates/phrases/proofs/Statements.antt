@@ -1,15 +1,14 @@
 -- The statements of specs/Statements.antt.
 -- Assumes nothing.
-use Prim.Native.Nat.{ℕ, zero, suc, _≤_, _<_}
+use Prim.Native.Nat.{ℕ, zero, suc, _≤_}
 use mathlib.Core.Path.{_≡_, refl, sym, ap, _∙_}
 use mathlib.Core.Bool.{Bool, true, false, cond, _&&_}
 use mathlib.Core.List.{List, [], _∷_}
 use native.Mathlib.Omega.{arith}
 use lib.Dec.{eqb}
 use lib.ListN.{length, getD}
-use Rattle.laws.specs.Every.{every}
 use Rattle.phrases.specs.Phrases.{phrases, phraseOf}
-use Rattle.phrases.specs.Statements.{AcceptedPhrase, PhrasesApart, isPlainByte, PhrasesPlain, NoPhrase}
+use Rattle.phrases.specs.Statements.{AcceptedPhrase, PhrasesApart, PhrasesPlain, NoPhrase}
 
 pub accepted-phrase : AcceptedPhrase
 unfolding phraseOf phrases

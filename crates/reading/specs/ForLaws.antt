@@ -25,7 +25,7 @@ use Rattle.reading.specs.declared.Stated.{Stated}
 use Rattle.reading.specs.declared.Read.{Read}
 use Rattle.reading.specs.declared.Read.the-variants.{Label, Footage, Refused}
 use Rattle.reading.specs.Shaped.{isStated, formatFor, Shaped, label, footage, refused, shapeOf}
-use Rattle.reading.specs.Reading.{labelReadWhen, labelRead, footageFrames, footageReadWhen, footageRead, readShaped, readWhen, readText}
+use Rattle.reading.specs.Reading.{labelReadWhen, labelRead, footageFrames, footageReadWhen, footageRead, readShaped, readText}
 use Rattle.reading.specs.ReadingLaws.{no-rate, no-format, read-shaped}
 use Rattle.reading.specs.For.{settledRead, positionFault, isLabelOf, strictWhen, shapedFor, readBy, readFor}
 

@@ -1,7 +1,6 @@
 -- What a text was taken for, as the code hands it on, and the shape that this is (BEHAVIOUR: Text shapes).
 -- Assumes nothing.
-use Prim.Native.Nat.{ℕ}
-use mathlib.Core.List.{List, [], _∷_}
+use mathlib.Core.List.{[], _∷_}
 use Rattle.labels.specs.Label.{hoursIn, minutesIn, secondsIn, framesIn}
 use Rattle.reading.specs.declared.taking.Taken.{Taken}
 use Rattle.reading.specs.declared.taking.Taken.the-variants as taken

@@ -16,7 +16,7 @@ use Rattle.footage_scan.specs.declared.FootageScan.{FootageScan}
 use Rattle.footage_scan.specs.Footage.{footageScan}
 use Rattle.reading.specs.declared.Stated.{Stated}
 use Rattle.reading.specs.declared.Stated.the-variants.{Nothing, Format}
-use Rattle.reading.specs.Shaped.{Shaped, label, footage, refused, byFit, farthest, footageShaped, shapeOf}
+use Rattle.reading.specs.Shaped.{label, footage, byFit, farthest, footageShaped, shapeOf}
 use Rattle.reading.specs.Taken.{takenOf, shapedIn}
 use Rattle.reading.specs.For.{readFor, readBy}
 use Rattle.reading.specs.ForLaws.{read-by-shape}

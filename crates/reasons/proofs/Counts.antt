@@ -17,22 +17,20 @@ use Rattle.faults.specs.Faults.{fault, countFault}
 use Rattle.faults.specs.FaultLaws.{count-at, nearest-count}
 use Rattle.rates.specs.Rates.{isRate, rateRow, dropFrames}
 use Rattle.film.specs.declared.FilmFormat.{FilmFormat}
-use Rattle.film.specs.Footage.{footageCount, footageOr, footageOr-in}
+use Rattle.film.specs.Footage.{footageCount, footageOr-in}
 use Rattle.labels.specs.Label.{countIn, Short}
 use Rattle.labels.specs.BoundLaws.{isShort-in}
-use Rattle.labels.specs.AtRate.{framesOr, framesOr-in}
+use Rattle.labels.specs.AtRate.{framesOr-in}
 use Rattle.footage_scan.specs.declared.FootageScan.{FootageScan}
 use Rattle.footage_scan.specs.Shape.{FootageParts, hasPerf}
 use Rattle.footage_scan.proofs.Statements.{footage-reads, footage-below}
 use Rattle.reading.specs.declared.Stated.{Stated}
-use Rattle.reading.specs.Shaped.{Shaped, label, formatFor, shapeOf}
-use Rattle.reading.specs.Statements.{LabelText, FootageText, LabelCount, FootageCount, CountOut}
-use Rattle.reading.proofs.Shapes.{shape-label, shape-footage}
-use Rattle.reading.proofs.Positions.{label-shape}
-use Rattle.reasons.specs.declared.Fact.{Fact}
+use Rattle.reading.specs.Shaped.{label, formatFor, shapeOf}
+use Rattle.reading.specs.Statements.{FootageText, LabelCount, FootageCount}
+use Rattle.reading.proofs.Shapes.{shape-footage}
 use Rattle.reasons.specs.declared.Fact.the-variants.{Limit}
 use Rattle.reasons.specs.Facts.{limitFrom, ShortLabel, footageFact, factBy}
-use Rattle.reasons.specs.Holds.{CountFact, FactHolds, out-of-bounds}
+use Rattle.reasons.specs.Holds.{FactHolds, out-of-bounds}
 use Rattle.reasons.proofs.Facts.{label-five, footage-five}
 use Rattle.reasons.proofs.Told.{shape-short}
 

@@ -9,7 +9,7 @@ use lib.Dec.{T}
 use mathlib.Core.Path.{subst}
 use Rattle.rates.specs.Rates.{isRate, rateRow, dropFrames}
 use Rattle.rates.specs.Laws.{drop-small}
-use Rattle.labels.specs.Label.{hoursIn, minutesIn, secondsIn, framesIn, droppedIn, Strict}
+use Rattle.labels.specs.Label.{minutesIn, secondsIn, framesIn, droppedIn}
 use Rattle.labels.specs.LabelLaws.{kept-tenth, kept-frame, kept-past}
 use Rattle.labels.specs.Sections.{labelNumber}
 use Rattle.reasons.specs.Facts.{firstLabel}

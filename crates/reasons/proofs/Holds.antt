@@ -10,7 +10,7 @@ use native.Mathlib.Decide.{decLt}
 use borrow.Author.Tests.{eqb-true, eqb-false}
 use lib.Dec.{eqb}
 use Rattle.answers.specs.Refusals.{isCount}
-use Rattle.rates.specs.Rates.{isRate, rateRow}
+use Rattle.rates.specs.Rates.{isRate}
 use Rattle.rates.specs.Rule.{sound}
 use Rattle.timecodes.specs.declared.kinds.Kind.{Kind}
 use Rattle.timecodes.specs.declared.kinds.Kind.the-variants.{Length, Position}
@@ -18,13 +18,13 @@ use Rattle.reading.specs.declared.Stated.{Stated}
 use Rattle.reading.specs.Answer.{numberOf}
 use Rattle.reading.specs.Shaped.{Shaped, label, footage, refused, isStated, shapeOf}
 use Rattle.reading.specs.Reading.{readText}
-use Rattle.reading.specs.For.{settledRead, readFor}
+use Rattle.reading.specs.For.{readFor}
 use Rattle.reading.specs.ForLaws.{read-length}
-use Rattle.reading.specs.Statements.{RateAndFormat, CountOut, DroppedText}
+use Rattle.reading.specs.Statements.{RateAndFormat, CountOut}
 use Rattle.reading.proofs.Statements.{refused-six, refused-three, refused-five, refused-thirteen, numbers-given}
 use Rattle.reading.proofs.Positions.{refused-fourteen, position-else, settled-number, label-shape}
-use Rattle.reasons.specs.declared.Fact.the-variants.{Nothing, First}
-use Rattle.reasons.specs.Facts.{firstLabel, factBy}
+use Rattle.reasons.specs.declared.Fact.the-variants.{Nothing}
+use Rattle.reasons.specs.Facts.{factBy}
 use Rattle.reasons.specs.Holds.{FactHolds, none, dropped}
 use Rattle.reasons.proofs.Facts.{label-three, label-none, footage-none}
 use Rattle.reasons.proofs.FirstLabel.{first-of-minute}

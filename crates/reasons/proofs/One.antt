@@ -5,7 +5,7 @@ use native.Mathlib.Omega.{arith}
 use native.Mathlib.Decide.{decLt}
 use mathlib.Core.Path.{_≡_, refl, sym, ap, _∙_, subst}
 use mathlib.Core.Logic.{_⊎_, ⊎-elim}
-use mathlib.Core.Bool.{Bool, true, false}
+use mathlib.Core.Bool.{Bool, true}
 use mathlib.Core.List.{List, map}
 use lib.Dec.{T}
 use lib.IntN.{ℤ, pos}
@@ -16,7 +16,7 @@ use Rattle.faults.specs.declared.Fault.{Fault}
 use Rattle.faults.specs.Faults as faults
 use Rattle.faults.specs.Faults.{NearestAllowed, limitOf}
 use Rattle.faults.specs.OneLaws.{one-limit, limit-apart, one-fault}
-use Rattle.rates.specs.Rates.{rateRow, dropFrames}
+use Rattle.rates.specs.Rates.{rateRow}
 use Rattle.film.specs.declared.FilmFormat.{FilmFormat}
 use Rattle.labels.specs.Label.{hoursIn, minutesIn, secondsIn, framesIn}
 use Rattle.labels.specs.AtRate.{labelFrames}
@@ -30,7 +30,7 @@ use Rattle.label_writer.specs.declared.TimecodeSections.{TimecodeSections}
 use Rattle.reading.specs.declared.Stated.{Stated}
 use Rattle.reading.specs.Shaped.{formatFor}
 use Rattle.reading.specs.Reading.{footageFrames}
-use Rattle.reading.specs.Statements.{LabelText, FootageText, LabelCount, FootageCount}
+use Rattle.reading.specs.Statements.{LabelText, LabelCount, FootageCount}
 use Rattle.reading.proofs.Shapes.{shapes-apart}
 use Rattle.reasons.specs.declared.Fact.{Fact}
 use Rattle.reasons.specs.declared.Fact.the-variants.{Limit, First}

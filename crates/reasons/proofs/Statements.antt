@@ -1,8 +1,8 @@
 -- The statements of specs/Statements.antt.
 -- Assumes nothing.
-use Prim.Native.Nat.{ℕ, _+_, _<_}
+use Prim.Native.Nat.{ℕ}
 use native.Mathlib.Omega.{arith}
-use mathlib.Core.Path.{_≡_, refl, sym, ap, _∙_, subst}
+use mathlib.Core.Path.{_≡_, sym, ap, _∙_, subst}
 use mathlib.Core.Bool.{Bool, true, false, not, cond}
 use mathlib.Core.List.{List}
 use lib.ListN.{length}
@@ -12,7 +12,7 @@ use Rattle.answers.specs.Refusals.{noRoom}
 use Rattle.timecodes.specs.declared.kinds.Kind.{Kind}
 use Rattle.written.specs.declared.Written.{Written}
 use Rattle.written.specs.declared.Written.the-variants as written
-use Rattle.written.specs.Written.{Text, answerTo, lineTo}
+use Rattle.written.specs.Written.{Text, answerTo}
 use Rattle.written.proofs.Statements.{length-stands, refused-keeps, no-room-exactly}
 use Rattle.reading.specs.declared.Stated.{Stated}
 use Rattle.reading.specs.declared.Read.{Read}

@@ -9,12 +9,11 @@ use mathlib.Core.Bool.{Bool, true, false}
 use mathlib.Core.List.{List, [], _∷_}
 use lib.IntN.{ℤ, pos, natAbs}
 use lib.ListN.{length, getD}
-use Rattle.faults.specs.declared.Field.{Field}
 use Rattle.faults.specs.declared.Field.the-variants.{Sign, Hours, Minutes, Seconds, Frames}
 use Rattle.faults.specs.declared.Fault.{Fault}
 use Rattle.faults.specs.declared.Found.{Found}
 use Rattle.faults.specs.declared.Found.the-variants.{At}
-use Rattle.faults.specs.Faults.{NearestAllowed, fault, under, leftmost}
+use Rattle.faults.specs.Faults.{fault, under, leftmost}
 use Rattle.faults.specs.FaultLaws.{under-at, under-not, nearest-under}
 use Rattle.rates.specs.Rates.{rateRow}
 use Rattle.labels.specs.Label.{hoursIn, minutesIn, secondsIn, framesIn, Strict}
@@ -23,8 +22,7 @@ use Rattle.reading.specs.declared.Stated.{Stated}
 use Rattle.reading.specs.declared.Stated.the-variants.{Nothing}
 use Rattle.reading.specs.Shaped.{shapeOf}
 use Rattle.reading.specs.For.{positionFault}
-use Rattle.reading.specs.Statements.{LabelText}
-use Rattle.reading.specs.Positions.{StrictLabel, NotStrictText}
+use Rattle.reading.specs.Positions.{NotStrictText}
 use Rattle.reading.proofs.Positions.{four-fields, label-shape}
 use Rattle.reasons.specs.Facts.{limitFrom, factBy}
 use Rattle.reasons.specs.Holds.{OfDayLabel, fieldAt, StrictFact, sign, field, FactHolds, not-strict}

@@ -1,7 +1,7 @@
 -- What the reader's two steps come to is its answer, and what is told with it.
 -- Assumes nothing.
 use Prim.Native.Nat.{ℕ}
-use mathlib.Core.Path.{_≡_, refl, sym, ap, _∙_, subst}
+use mathlib.Core.Path.{_≡_, sym, ap, _∙_, subst}
 use mathlib.Core.List.{List}
 use Rattle.scanner.specs.declared.text.Fit.{Fit}
 use Rattle.scanner.specs.declared.text.Fit.the-variants.{Fits, TooLong, NoShape}
@@ -20,7 +20,7 @@ use Rattle.reading.specs.declared.Stated.the-variants.{Nothing, Format}
 use Rattle.reading.specs.declared.Read.{Read}
 use Rattle.reading.specs.declared.taking.Taken.{Taken}
 use Rattle.reading.specs.Answer.{numberOf}
-use Rattle.reading.specs.Shaped.{Shaped, label, footage, byFit, farthest, footageShaped, shapeOf}
+use Rattle.reading.specs.Shaped.{label, footage, byFit, farthest, footageShaped, shapeOf}
 use Rattle.reading.specs.Taken.{takenOf, shapedIn}
 use Rattle.reading.specs.For.{readFor, readBy}
 use Rattle.reading.specs.TakenLaws.{taken-back, read-by-taken}

@@ -17,7 +17,7 @@ use Rattle.reading.specs.For.{readFor}
 use Rattle.reasons.specs.declared.Fact.{Fact}
 use Rattle.reasons.specs.declared.Reason.{Reason}
 use Rattle.reasons.specs.declared.Reasoned.the-variants.{Told, Refused}
-use Rattle.reasons.specs.Why.{factOf, phraseFor, whyOf}
+use Rattle.reasons.specs.Why.{phraseFor, whyOf}
 use Rattle.reasons.specs.Holds.{FactHolds}
 
 -- what is told holds the reader's own answer: so the number and the place are those that it gives, and an accepted text's timecode is that

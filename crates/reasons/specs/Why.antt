@@ -13,7 +13,6 @@ use Rattle.reading.specs.Answer.{numberOf}
 use Rattle.reading.specs.Shaped.{shapeOf}
 use Rattle.reading.specs.For.{readFor}
 use Rattle.reasons.specs.declared.Fact.{Fact}
-use Rattle.reasons.specs.declared.Reason.{Reason}
 use Rattle.reasons.specs.declared.Reasoned.{Reasoned}
 use Rattle.reasons.specs.declared.Reasoned.the-variants.{Told, Refused}
 use Rattle.reasons.specs.Facts.{factBy}

@@ -2,7 +2,6 @@
 -- Assumes nothing.
 use mathlib.Core.Path.{sym, ap, _∙_}
 use borrow.Author.Needs.{needs}
-use Rattle.reading.specs.Shaped.{Shaped}
 use Rattle.reading.specs.Taken.{shapedIn}
 use Rattle.reading.specs.For.{readBy}
 use Rattle.reading.specs.TakenLaws.{read-by-taken}

@@ -1,6 +1,5 @@
 -- `reasons::footage_fact` meets its contract: each arm is the definition by the number that led there.
 -- Assumes nothing.
-use Prim.Native.Nat.{ℕ}
 use native.Mathlib.Omega.{arith}
 use mathlib.Core.Path.{sym, ap, _∙_}
 use borrow.Author.Needs.{needs}
