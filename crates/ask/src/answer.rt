@@ -4,6 +4,7 @@ use crate::convert;
 use crate::lists;
 use crate::read;
 use crate::sheet;
+use crate::why;
 use crate::work;
 use crate::write;
 use asking::Numbers;
@@ -36,6 +37,7 @@ fn to_line(line: &[u8], out: &mut [u8], used: usize) -> usize {
         rows::LABEL..=rows::RUNTIME => write::written(row, tc, n, out, used),
         rows::READ_LIST => lists::read_list(line, a.rest, out, used),
         rows::WRITE_LIST => lists::write_list(n, line, a.rest, out, used),
+        rows::WHY => why::told(n, line, a.rest, out, used),
         _ => showing::show(out, used, shown(row, tc, n, line, a.rest)),
     }
 }

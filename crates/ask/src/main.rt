@@ -10,6 +10,7 @@ mod convert;
 mod lists;
 mod read;
 mod sheet;
+mod why;
 mod work;
 mod write;
 

@@ -26,6 +26,8 @@ use Rattle.showing.proofs.show_written_hex as show-written-hex
 use Rattle.showing.proofs.show_written_hex.Reads as show-written-hex-reads
 use Rattle.showing.proofs.lists.show_list as show-list
 use Rattle.showing.proofs.lists.show_list.Reads as show-list-reads
+use Rattle.showing.proofs.why.show_why as show-why
+use Rattle.showing.proofs.why.show_why.Reads as show-why-reads
 
 pub only-word-determined : Determined only-word.ended only-word-reads.Asked only-word-reads.Learnt
 only-word-determined κs a asked x y p q = ap (λ z. (z, x .1)) (p ∙ sym q)
@@ -62,3 +64,6 @@ show-written-hex-determined κs a asked x y p q = ap (λ z. (z, x .1)) (p .0 ∙
 
 pub show-list-determined : Determined show-list.ended show-list-reads.Asked show-list-reads.Learnt
 show-list-determined κs a asked x y p q = ap (λ z. (z, x .1)) (p .0 ∙ sym (q .0)) ∙ ap (λ z. (y .0, (z, x .1 .1))) (p .1 ∙ sym (q .1))
+
+pub show-why-determined : Determined show-why.ended show-why-reads.Asked show-why-reads.Learnt
+show-why-determined κs a asked x y p q = ap (λ z. (z, x .1)) (p .0 ∙ sym (q .0)) ∙ ap (λ z. (y .0, (z, x .1 .1))) (p .1 ∙ sym (q .1))

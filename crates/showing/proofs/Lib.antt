@@ -1,4 +1,6 @@
 pub mod Putting
 pub mod ListPutting
+pub mod WhyPutting
 pub mod Statements
+pub mod WhyStatements
 pub mod Determined

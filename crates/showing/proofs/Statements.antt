@@ -24,10 +24,10 @@ use Rattle.showing.specs.Lists.{recordText, recordsText, listText, numbe
 use Rattle.showing.specs.Statements.{ShownLine, WrittenLine, HexWrittenLine, TextRefusedShown, PositionShown, ListLine, ListRefusedLine, ListWords}
 
 -- ---- texts one behind the other
-laid-none : (s : Sheet) → Laid s s []
+pub laid-none : (s : Sheet) → Laid s s []
 laid-none s = record { more = omega arith; long = refl; is = sym (append-nil (textOn s)) }
 
-laid-two : (s s′ s″ : Sheet) (t u : List ℕ) → Laid s s′ t → Laid s′ s″ u → Laid s s″ (t ++ u)
+pub laid-two : (s s′ s″ : Sheet) (t u : List ℕ) → Laid s s′ t → Laid s′ s″ u → Laid s s″ (t ++ u)
 laid-two s s′ s″ t u a b = record {
   more = simp length-append (omega (arith, a .more, b .more));
   long = b .long ∙ a .long;

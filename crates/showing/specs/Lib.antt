@@ -1,4 +1,5 @@
 pub mod Each
 pub mod Shown
 pub mod Lists
+pub mod Why
 pub mod Statements

@@ -3,15 +3,25 @@
 use Prim.Native.Nat.{ℕ, _+_, _≤_}
 use mathlib.Core.Path.{_≡_}
 use mathlib.Core.List.{List, [], _∷_, _++_}
-use mathlib.Core.Bool.{false}
+use mathlib.Core.Bool.{true, false}
 use lib.IntN.{ℤ, pos, negsuc}
 use lib.ListN.{length}
 use Rattle.answers.specs.declared.Refusal.{Refusal}
+use Rattle.faults.specs.declared.Field.the-variants.{Count, Hours}
+use Rattle.faults.specs.declared.Fault.{Fault}
+use Rattle.faults.specs.Faults.{fault}
 use Rattle.timecodes.specs.declared.Answer.the-variants.{At}
 use Rattle.timecodes.specs.Timecode.{timecode, position}
 use Rattle.film.specs.declared.FilmFormat.{FilmFormat}
 use Rattle.film.specs.Film.{formatNumber}
+use Rattle.reading.specs.declared.Read.{Read}
 use Rattle.reading.specs.declared.Read.the-variants.{Label, Footage, Refused}
+use Rattle.label_writer.specs.declared.TimecodeSections.{TimecodeSections}
+use Rattle.label_writer.specs.LabelText.{framesMark, sectionsText}
+use Rattle.reasons.specs.declared.Fact.{Fact}
+use Rattle.reasons.specs.declared.Fact.the-variants.{Nothing, Limit, First}
+use Rattle.reasons.specs.declared.Reasoned.{Reasoned}
+use Rattle.reasons.specs.declared.Reasoned.the-variants as reasoned
 use Rattle.shot_lists.specs.declared.records.Record.{Record}
 use Rattle.shot_lists.specs.declared.records.Record.the-variants.{Rate, Shot, Reel}
 use Rattle.shot_lists.specs.Reading.{AllOf, FaultOf}
@@ -24,6 +34,7 @@ use Rattle.showing.specs.declared.Shown.{Shown}
 use Rattle.showing.specs.Each.{ofAnswer, ofRead}
 use Rattle.showing.specs.Shown.{countText, shownText, writtenText, shownOn, writtenOn, hexWrittenOn}
 use Rattle.showing.specs.Lists.{listText, listOn}
+use Rattle.showing.specs.Why.{whyText, whyOn}
 
 -- behind the text that the sheet has stands the answer's, where it has room
 abbrev pub ShownLine : Type 0
@@ -81,3 +92,70 @@ abbrev pub ListWords : Type 0
 ListWords =
     (listText (Rate 5 ∷ Shot (negsuc 9) (pos 100) ∷ Reel 7 ∷ []) ≡ spelt "3 rate 5 shot -10 100 reel 7")
     × (listText [] ≡ spelt "0")
+
+-- ---- why a text is read as it is
+-- behind the text that the sheet has stands what is told, where it has room
+abbrev pub WhyLine : Type 0
+WhyLine =
+    (s : Sheet) (rate : ℕ) (w : Reasoned) (line : List ℕ) → s .used + length (whyText rate w line) ≤ length (s .bytes)
+    → textOn (whyOn s rate w line) ≡ textOn s ++ whyText rate w line
+
+-- the reader's answer, a fact, and the phrase's length
+abbrev pub reason : Read → Fact → (n : ℕ) → Reasoned
+reason read fact n = reasoned.Told (record { read = read; fact = fact; length = n })
+
+-- `LENGTH LINE`, the phrase's length and the whole line
+abbrev pub lengthLine : (n : ℕ) (line : List ℕ) → List ℕ
+lengthLine n line = signedText false n ++ (32 ∷ line ++ (10 ∷ []))
+
+-- an accepted text is shown as `0 0 COUNT 0 0 - LENGTH LINE`, its count with `@` before it where it is a position
+abbrev pub WhyAcceptedShown : Type 0
+WhyAcceptedShown =
+    (z : ℤ) (rate n : ℕ) (line : List ℕ)
+    → (let length = spelt "0 0 " ++ (countText z ++ (spelt " 0 0 - " ++ lengthLine n line)) in
+    let place = spelt "0 0 @" ++ (countText z ++ (spelt " 0 0 - " ++ lengthLine n line)) in
+    (whyText rate (reason (Label (timecode z rate)) Nothing n) line ≡ length)
+    × (whyText rate (reason (Label (position z rate)) Nothing n) line ≡ place)
+    × ((format : FilmFormat) → whyText rate (reason (Footage (timecode z rate) format) Nothing n) line ≡ length)
+    × ((format : FilmFormat) → whyText rate (reason (Footage (position z rate) format) Nothing n) line ≡ place))
+
+-- one that is turned down is shown as `NUMBER PLACE 0`, and behind that the fact, `LENGTH LINE` last
+abbrev pub turnedDown : Refusal → (fact : List ℕ) (n : ℕ) (line : List ℕ) → List ℕ
+turnedDown e fact n line = signedText false (e .number) ++ (32 ∷ signedText false (e .place) ++ (spelt " 0 " ++ (fact ++ (32 ∷ lengthLine n line))))
+
+-- where there is no fact, that is `0 0 -`
+abbrev pub WhyRefusedShown : Type 0
+WhyRefusedShown =
+    (e : Refusal) (rate n : ℕ) (line : List ℕ) → whyText rate (reason (Refused e) Nothing n) line ≡ turnedDown e (spelt "0 0 -") n line
+
+-- where a field is at fault, `LIMIT VALUE -`, both with its sign
+abbrev pub WhyLimitShown : Type 0
+WhyLimitShown =
+    (e : Refusal) (f : Fault) (rate n : ℕ) (line : List ℕ)
+    → whyText rate (reason (Refused e) (Limit f) n) line
+    ≡ turnedDown e (signedText (f .minus) (f .limit) ++ (32 ∷ signedText (f .minus) (f .value) ++ spelt " -")) n line
+
+-- where the label is dropped, `0 0 LABEL`, the text that the label writer has for it at the rate
+abbrev pub WhyFirstShown : Type 0
+WhyFirstShown =
+    (e : Refusal) (s : TimecodeSections) (rate n : ℕ) (line : List ℕ)
+    → whyText rate (reason (Refused e) (First s) n) line ≡ turnedDown e (spelt "0 0 " ++ sectionsText (framesMark rate) s) n line
+
+-- and a phrase that has no room is shown as `refused N LINE`
+abbrev pub WhyNoRoomShown : Type 0
+WhyNoRoomShown =
+    (e : Refusal) (rate : ℕ) (line : List ℕ)
+    → whyText rate (reasoned.Refused e) line ≡ spelt "refused " ++ (signedText false (e .number) ++ (32 ∷ line ++ (10 ∷ [])))
+
+-- a worked case of each: an accepted position, a limit in either sign, a first allowed label, and no room
+abbrev pub WhyWords : Type 0
+WhyWords =
+    (whyText 5 (reason (Label (position (pos 5) 5)) Nothing 8) (spelt "accepted##") ≡ spelt "0 0 @5 0 0 - 8 accepted##" ++ (10 ∷ []))
+    × (whyText 5 (reason (Refused (record { number = 14; place = 0 })) (Limit (fault Hours false 23 24)) 17) (spelt "not a time of day")
+    ≡ spelt "14 0 0 23 24 - 17 not a time of day" ++ (10 ∷ []))
+    × (whyText 2 (reason (Refused (record { number = 5; place = 0 })) (Limit (fault Count true 400000000 400000001)) 3) (spelt "...")
+    ≡ spelt "5 0 0 -400000000 -400000001 - 3 ..." ++ (10 ∷ []))
+    × (whyText 5
+    (reason (Refused (record { number = 3; place = 0 })) (First (record { negative = true; hours = 1; minutes = 2; seconds = 0; frames = 2 })) 3) (spelt "...")
+    ≡ spelt "3 0 0 0 0 -01:02:00;02 3 ..." ++ (10 ∷ []))
+    × (whyText 5 (reasoned.Refused (record { number = 8; place = 0 })) (spelt "##") ≡ spelt "refused 8 ##" ++ (10 ∷ []))

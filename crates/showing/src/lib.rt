@@ -8,6 +8,7 @@ use written::Written;
 
 mod each;
 mod lists;
+mod why;
 
 pub use each::of_answer;
 pub use each::of_compared;
@@ -17,6 +18,7 @@ pub use each::of_read;
 pub use each::of_ticked;
 pub use each::of_timed;
 pub use lists::show_list;
+pub use why::show_why;
 
 // What is shown: a word (`l` label, `f` footage, `r` refused, `h` the commands in short, `?` not understood, 0 none), and behind it so many
 // numbers, two of them with a mark between them; the first with `@` before it where it is the count of a position.
@@ -163,6 +165,8 @@ rebase RATE COUNT RATE: COUNT
 convert RATE COUNT RATE ..: COUNT RATE
 read_list HEX: N RECORDS
 write_list PLACE ROOM RECORDS: LENGTH HEX
+why RATE FORMAT PLACE ROOM TEXT: NUMBER PLACE COUNT LIMIT VALUE LABEL LENGTH LINE
+A FORMAT of why that is - states none
 A refusal is: refused N; of read and read_as: refused N PLACE
 The first RATE of a command, and the second of add, sub and cmp, may have @ before it: a position; a COUNT that is one has it too",
     )

@@ -1,0 +1,53 @@
+-- Why a text is read as it is stands on the sheet, where it has room, in the words that docs/ASK.md gives.
+-- Assumes nothing.
+use Prim.Native.Nat.{ℕ, _+_, _≤_}
+use mathlib.Core.Path.{refl}
+use mathlib.Core.List.{List, [], _∷_, append-assoc}
+use native.Mathlib.Omega.{arith}
+use lib.ListN.{length, length-append}
+use Rattle.digits.specs.Digits.{decimal, digitsOf, width, widthBy}
+use Rattle.rates.specs.Rates.{isDrop}
+use Rattle.written.specs.Clock.{clockText}
+use Rattle.label_writer.specs.LabelText.{sectionsText}
+use Rattle.streams.specs.Sheet.{Sheet, putOn}
+use Rattle.streams.proofs.Putting.{Laid, put-is}
+use Rattle.showing.specs.Why.{joined, putsOn, acceptedParts, turnedDownParts, limitParts, firstParts, toldParts, whyParts, whyText, whyOn}
+use Rattle.showing.specs.Statements.{WhyLine, WhyAcceptedShown, WhyRefusedShown, WhyLimitShown, WhyFirstShown, WhyNoRoomShown, WhyWords}
+use Rattle.showing.proofs.Statements.{laid-none, laid-two}
+
+-- parts that have room lie one behind the other
+puts-laid : (ts : List (List ℕ)) (s : Sheet) → s .used + length (joined ts) ≤ length (s .bytes) → Laid s (putsOn s ts) (joined ts)
+unfolding joined putsOn
+puts-laid [] s h = laid-none s
+puts-laid (t ∷ ts) s h =
+    let rest = joined ts in
+    let one = put-is s t (omega (arith, h, length-append t rest)) in
+    laid-two s (putOn s t) (putsOn (putOn s t) ts) t rest one (puts-laid ts (putOn s t) (omega (arith, h, one .more, one .long, length-append t rest)))
+
+pub why-line : WhyLine
+unfolding whyText whyOn
+why-line s rate w line h = puts-laid (whyParts rate w line) s h .is
+
+pub why-accepted-shown : WhyAcceptedShown
+unfolding whyText toldParts acceptedParts joined
+why-accepted-shown z rate n line = (refl, refl, λ format. refl, λ format. refl)
+
+pub why-refused-shown : WhyRefusedShown
+unfolding whyText toldParts turnedDownParts joined
+why-refused-shown e rate n line = refl
+
+pub why-limit-shown : WhyLimitShown
+unfolding whyText toldParts turnedDownParts limitParts joined
+why-limit-shown e f rate n line = simp append-assoc
+
+pub why-first-shown : WhyFirstShown
+unfolding whyText toldParts turnedDownParts firstParts joined
+why-first-shown e s rate n line = refl
+
+pub why-no-room-shown : WhyNoRoomShown
+unfolding whyText joined
+why-no-room-shown e rate line = refl
+
+pub why-words : WhyWords
+unfolding whyText toldParts acceptedParts turnedDownParts limitParts firstParts joined isDrop sectionsText clockText decimal digitsOf width widthBy
+why-words = (refl, refl, refl, refl, refl)
