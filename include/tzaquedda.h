@@ -29,7 +29,7 @@
  *
  *     operation                                                        takes                   answers
  *     tzq_with_frames, tzq_with_premiere_ticks, tzq_with_seconds,      position true or false  a position or a length, as asked
- *       tzq_read, tzq_read_as, tzq_read_runtime
+ *       tzq_read, tzq_read_as, tzq_read_runtime, tzq_why
  *     tzq_write_label, tzq_write_footage, tzq_write_runtime,           either                  a text, fields, ticks, seconds
  *       tzq_sections, tzq_premiere_ticks, tzq_seconds
  *     tzq_add                                                          length, length          a length
@@ -76,6 +76,27 @@ enum {
     TZQ_WRONG_KIND = 15    /* a position where only a length may be, or one of each compared: see the table above */
 };
 
+/* The phrase of each refusal by its number, 0 being nothing refused: what tzq_why lays down. Plain ASCII, none
+ * longer than 128 bytes; each ends with a 0, which is not laid down. */
+static const char *const tzq_phrases[16] = {
+    "accepted",
+    "not in a form that can be read",
+    "a number has too many digits",
+    "a dropped label, which no frame has",
+    "a perf field, which this film format does not have",
+    "the count of frames is out of bounds",
+    "no such rate or film format",
+    "a division by zero",
+    "no room for what is to be written",
+    "no such kind of record",
+    "a record is cut short",
+    "a shot before any rate",
+    "a shot ends before it begins",
+    "no such place on the film",
+    "not a time of day",
+    "a position where only a length may be"
+};
+
 /* ---- Numbers that are passed and answered ---- */
 
 /* The most that a length's count may be, either side of zero. */
@@ -106,6 +127,33 @@ typedef struct {
     bool negative;
     uint64_t hours, minutes, seconds, frames; /* minutes and seconds under 60, frames under the timebase; a length's hours run on past 23 */
 } tzq_label;
+
+/* What a limit and a value speak of. */
+enum {
+    TZQ_FIELD_NONE = 0,
+    TZQ_FIELD_COUNT = 1,
+    TZQ_FIELD_SIGN = 2,
+    TZQ_FIELD_HOURS = 3,
+    TZQ_FIELD_MINUTES = 4,
+    TZQ_FIELD_SECONDS = 5,
+    TZQ_FIELD_FRAMES = 6,
+    TZQ_FIELD_MARKER = 7
+};
+
+/* Why a text is read as it is: what tzq_read or tzq_read_as answers, its refusal as `number`, and the fact behind that. */
+typedef struct {
+    uint64_t refused;       /* of the tool itself: 8 or 0 */
+    uint64_t number;        /* 0: accepted; else the reader's refusal */
+    size_t place;           /* the reader's */
+    int64_t count;          /* of an accepted text; else 0 */
+    uint64_t format;        /* of an accepted footage, 1 to 4; else 0 */
+    bool position;          /* of an accepted text that is one */
+    uint64_t field;         /* 5, 13 and 14: what is at fault, a TZQ_FIELD_ number; else 0 */
+    int64_t limit, value;   /* 5, 13 and 14: the nearest value that is allowed there, and the value; of a sign both are 0; else 0 */
+    bool negative;          /* 3: the first allowed label of that minute, its minutes and seconds under 60; else 0 */
+    uint64_t hours, minutes, seconds, frames;
+    size_t length;          /* of the phrase */
+} tzq_reason;
 
 typedef struct {
     uint64_t refused;
@@ -157,6 +205,14 @@ tzq_read_count tzq_read_as(const uint8_t *text, size_t length, uint64_t format, 
  * A runtime: optional `-`, one to three fields divided by `:`, optionally `.` and a fraction; the last field is seconds, then leftward
  * minutes, hours. Refuses 6: no such rate; 1; 2: a field of over 9 digits or a fraction of over 6; 5: the resulting count. */
 tzq_count tzq_read_runtime(const uint8_t *text, size_t length, uint64_t rate, bool position);
+
+/* Why a text of `text_length` bytes is read as it is: the very number and place that tzq_read would give, or where `stated` is true and
+ * `format` is the stated film format, tzq_read_as (`format` does not count where `stated` is false); the fact behind it, and the phrase of the
+ * number, tzq_phrases[number], laid down in the line from `place` on, with nothing to end it.
+ * 5 shows the count, or else 14 the sign or the leftmost field that is not a time of day's, or 13 the frames number or else the marker; 3 the
+ * first allowed label of the text's minute, minutes past 59 carried into hours, the text's sign kept. An accepted text has number 0 and its count.
+ * Refuses 8 alone: place plus the phrase's length exceeds `line_length`; room for 50 bytes is enough for any. Then every other number is 0. */
+tzq_reason tzq_why(const uint8_t *text, size_t text_length, bool stated, uint64_t format, uint64_t rate, bool position, uint8_t *line, size_t line_length, size_t place);
 
 /* ---- Writing: each text is laid down in the line from `place` on; only its own bytes change, and nothing ends it ---- */
 

@@ -293,6 +293,64 @@ static void positions(void) {
     lengths_only();
 }
 
+/* ---- why a text was turned down ---- */
+
+/* what is told behind the number: an accepted text's count, a field with its limit and its value, or the first allowed label */
+static void fact(tzq_reason r) {
+    if (r.number == 0)
+        printf(", %s%" PRId64 " in film format %" PRIu64, r.position ? "position " : "", r.count, r.format);
+    if (r.field)
+        printf(", field %" PRIu64 ": limit %" PRId64 ", value %" PRId64, r.field, r.limit, r.value);
+    if (r.number == TZQ_DROPPED_LABEL)
+        printf(", first %s%02" PRIu64 ":%02" PRIu64 ":%02" PRIu64 ";%02" PRIu64, r.negative ? "-" : "", r.hours, r.minutes, r.seconds, r.frames);
+}
+
+/* the phrase as it stands in the line, between two dots, and as the table has it */
+static void why_in(const char *text, bool stated, uint64_t format, uint64_t rate, bool position, size_t room) {
+    uint8_t line[52];
+    tzq_reason r = tzq_why((const uint8_t *)text, strlen(text), stated, format, rate, position, dots(line, sizeof line), room, 1);
+    if (r.refused) {
+        printf("why %s: refused %" PRIu64 ", [%.*s] %s\n", text, r.refused, (int)room, (const char *)line, tzq_phrases[r.refused]);
+        return;
+    }
+    printf("why %s: %" PRIu64 " at %zu", text, r.number, r.place);
+    fact(r);
+    printf(", [%.*s] %s\n", (int)r.length + 2, (const char *)line, tzq_phrases[r.number]);
+}
+
+static void why(const char *text, uint64_t rate, bool position) {
+    why_in(text, false, 9, rate, position, 52); /* no film format is stated: 9 does not count */
+}
+
+static void why_as(const char *text, uint64_t format) {
+    why_in(text, true, format, 2, false, 52);
+}
+
+static void reasons(void) {
+    why("23:59:59;29", 5, true);
+    why("-0:05", 2, false);
+    why("1+00.1", 2, false);
+    why_as("2+00", 4);
+    why("00:01:00;0x", 5, false);
+    why("-0000000001:00", 2, false);
+    why("00:01:00;00", 5, true);
+    why("-1:61:00;03", 11, false);
+    why_as("2+00.0", 4);
+    why("400000001", 2, false);
+    why("-25000000+01", 2, true);
+    why("1:00", 13, false);
+    why_as("2+00", 5);
+    why("0+20", 2, false);
+    why("1+00.2", 2, false);
+    why("-24:60:60;30", 5, true);
+    why("24:60:60;30", 5, true);
+    why("23:60:60;30", 5, true);
+    why("23:59:60;30", 5, true);
+    why("23:59:59;30", 5, true);
+    why_in("1", false, 0, 2, false, 9);
+    why_in("1", false, 0, 2, false, 8); /* one byte short: 8, and nothing is written */
+}
+
 static void tables(void) {
     for (uint64_t no = 0; no <= 13; no++) {
         tzq_rate_row r = tzq_rate(no);
@@ -371,6 +429,7 @@ int main(void) {
     times();
     arithmetic();
     positions();
+    reasons();
     tables();
     lists();
     return 0;

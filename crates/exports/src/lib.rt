@@ -6,4 +6,5 @@ pub mod reads;
 pub mod sums;
 pub mod tables;
 pub mod times;
+pub mod why;
 pub mod writes;
