@@ -9,6 +9,7 @@ one-answer-c = record {
   tzq-read-as = record { asks-nothing = λ κs a. tt; one-outcome = exports-determined.tzq-read-as-determined };
   tzq-read-runtime = record { asks-nothing = λ κs a. tt; one-outcome = exports-determined.tzq-read-runtime-determined };
   tzq-sections = record { asks-nothing = λ κs a. tt; one-outcome = exports-determined.tzq-sections-determined };
+  tzq-why = record { asks-nothing = λ κs a. tt; one-outcome = exports-determined.tzq-why-determined };
   tzq-write-label = record { asks-nothing = λ κs a. tt; one-outcome = exports-determined.tzq-write-label-determined };
   tzq-write-footage = record { asks-nothing = λ κs a. tt; one-outcome = exports-determined.tzq-write-footage-determined };
   tzq-write-runtime = record { asks-nothing = λ κs a. tt; one-outcome = exports-determined.tzq-write-runtime-determined };

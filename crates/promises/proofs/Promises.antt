@@ -41,11 +41,13 @@ use Rattle.lines.proofs.Statements as lines
 use Rattle.feeding.proofs.Statements as feeding
 use Rattle.asking.proofs.Statements as asking
 use Rattle.showing.proofs.Statements as showing
+use Rattle.showing.proofs.WhyStatements as showing-why
 use Rattle.promises.proofs.Calls.{one-answer}
 use Rattle.promises.proofs.CallsC.{one-answer-c}
 use Rattle.promises.proofs.Ties.{ties}
 use Rattle.promises.proofs.TiesC.{ties-c}
 use Rattle.promises.proofs.ReadC.{read-for-c}
+use Rattle.promises.proofs.WhyC.{why-for-c}
 use Rattle.promises.proofs.ListsC.{lists-for-c}
 use Rattle.promises.proofs.When.{refused-when}
 use Rattle.promises.proofs.Demand1.{refused-zero, refused-keeps-line}
@@ -63,6 +65,7 @@ promises = record {
   ties = ties;
   ties-c = ties-c;
   read-for-c = read-for-c;
+  why-for-c = why-for-c;
   refused-when = refused-when;
   refused-zero = refused-zero;
   refused-keeps-line = refused-keeps-line;
@@ -327,4 +330,11 @@ promises = record {
   list-line = showing.list-line;
   list-refused-line = showing.list-refused-line;
   list-words = showing.list-words;
+  why-line = showing-why.why-line;
+  why-accepted-shown = showing-why.why-accepted-shown;
+  why-refused-shown = showing-why.why-refused-shown;
+  why-limit-shown = showing-why.why-limit-shown;
+  why-first-shown = showing-why.why-first-shown;
+  why-no-room-shown = showing-why.why-no-room-shown;
+  why-words = showing-why.why-words;
 }

@@ -8,6 +8,7 @@ ties-c = record {
   tzq-read-as = λ κs a x p. p;
   tzq-read-runtime = λ κs a x p. p;
   tzq-sections = λ κs a x p. p;
+  tzq-why = λ κs a x p. p;
   tzq-write-label = λ κs a x p. p;
   tzq-write-footage = λ κs a x p. p;
   tzq-write-runtime = λ κs a x p. p;

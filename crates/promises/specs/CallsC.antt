@@ -9,6 +9,8 @@ use Rattle.exports.proofs.reads.tzq_read_runtime as tzq-read-runtime
 use Rattle.exports.proofs.reads.tzq_read_runtime.Reads as tzq-read-runtime-reads
 use Rattle.exports.proofs.writes.tzq_sections as tzq-sections
 use Rattle.exports.proofs.writes.tzq_sections.Reads as tzq-sections-reads
+use Rattle.exports.proofs.why.tzq_why as tzq-why
+use Rattle.exports.proofs.why.tzq_why.Reads as tzq-why-reads
 use Rattle.exports.proofs.writes.tzq_write_label as tzq-write-label
 use Rattle.exports.proofs.writes.tzq_write_label.Reads as tzq-write-label-reads
 use Rattle.exports.proofs.writes.tzq_write_footage as tzq-write-footage
@@ -70,6 +72,7 @@ pub record OneAnswerC : Type 0 where
   pub tzq-read : Answers tzq-read.ended tzq-read-reads.Asked tzq-read-reads.Learnt
   pub tzq-read-as : Answers tzq-read-as.ended tzq-read-as-reads.Asked tzq-read-as-reads.Learnt
   pub tzq-read-runtime : Answers tzq-read-runtime.ended tzq-read-runtime-reads.Asked tzq-read-runtime-reads.Learnt
+  pub tzq-why : Answers tzq-why.ended tzq-why-reads.Asked tzq-why-reads.Learnt
   -- texts written
   pub tzq-sections : Answers tzq-sections.ended tzq-sections-reads.Asked tzq-sections-reads.Learnt
   pub tzq-write-label : Answers tzq-write-label.ended tzq-write-label-reads.Asked tzq-write-label-reads.Learnt

@@ -43,6 +43,7 @@ use Rattle.promises.specs.Ties.{Ties}
 use Rattle.promises.specs.TiesC.{TiesC}
 use Rattle.promises.specs.ReadC.{ReadForC}
 use Rattle.promises.specs.ListsC.{ListsForC}
+use Rattle.promises.specs.WhyC.{WhyForC}
 use Rattle.promises.specs.When.{RefusedWhen}
 use Rattle.promises.specs.Demand1.{RefusedZero, RefusedKeepsLine}
 use Rattle.promises.specs.Demand2.{FillsEachRate, Demand2At5, Demand2At11}
@@ -59,6 +60,7 @@ pub record Promises : Type 1 where
   pub ties : Ties
   pub ties-c : TiesC
   pub read-for-c : ReadForC
+  pub why-for-c : WhyForC
   pub refused-when : RefusedWhen
   pub refused-zero : RefusedZero
   pub refused-keeps-line : RefusedKeepsLine
@@ -337,3 +339,10 @@ pub record Promises : Type 1 where
   pub list-line : showing.ListLine
   pub list-refused-line : showing.ListRefusedLine
   pub list-words : showing.ListWords
+  pub why-line : showing.WhyLine
+  pub why-accepted-shown : showing.WhyAcceptedShown
+  pub why-refused-shown : showing.WhyRefusedShown
+  pub why-limit-shown : showing.WhyLimitShown
+  pub why-first-shown : showing.WhyFirstShown
+  pub why-no-room-shown : showing.WhyNoRoomShown
+  pub why-words : showing.WhyWords

@@ -15,6 +15,7 @@ use Rattle.shot_lists.specs.Entries.{onDisk, entryOf}
 use Rattle.shot_lists.specs.Reading.{checkedOf, readOf}
 use Rattle.shot_writer.specs.ListText.{listDraft}
 use Rattle.exports.specs.HandedLists.{handedEntry, handedChecked}
+use Rattle.exports.specs.HandedWhy.{statedFrom, handedReason}
 use Rattle.exports.specs.Handed.{SecondsHanded, handedAnswer, handedCount, handedFormat, handedLength, handedOrder, handedRate, handedRead, handedSections, handedTicks, handedTimecode, timecodeFrom}
 use Rattle.film.specs.Film.{formatAt}
 use Rattle.footage_writer.specs.FootageText.{footageDraft}
@@ -30,7 +31,8 @@ use Rattle.runtime_reading.specs.Reading.{readRuntime}
 use Rattle.runtime_writer.specs.RuntimeText.{runtimeDraft}
 use Rattle.time.specs.Frames.{framesAt, secondsAt, ticksAt}
 use Rattle.time.specs.Ticks.{ticksOf}
-use Rattle.written.specs.Written.{answerTo, lineTo}
+use Rattle.reasons.specs.Why.{phraseFor, whyOf}
+use Rattle.written.specs.Written.{Text, answerTo, lineTo}
 use Rattle.exports.proofs.reads.tzq_read as tzq-read
 use Rattle.exports.proofs.reads.tzq_read.Reads as tzq-read-reads
 use Rattle.exports.proofs.reads.tzq_read_as as tzq-read-as
@@ -39,6 +41,8 @@ use Rattle.exports.proofs.reads.tzq_read_runtime as tzq-read-runtime
 use Rattle.exports.proofs.reads.tzq_read_runtime.Reads as tzq-read-runtime-reads
 use Rattle.exports.proofs.writes.tzq_sections as tzq-sections
 use Rattle.exports.proofs.writes.tzq_sections.Reads as tzq-sections-reads
+use Rattle.exports.proofs.why.tzq_why as tzq-why
+use Rattle.exports.proofs.why.tzq_why.Reads as tzq-why-reads
 use Rattle.exports.proofs.writes.tzq_write_label as tzq-write-label
 use Rattle.exports.proofs.writes.tzq_write_label.Reads as tzq-write-label-reads
 use Rattle.exports.proofs.writes.tzq_write_footage as tzq-write-footage
@@ -102,6 +106,9 @@ pub record TiesC : Type 0 where
       x .0 ≡ handedRead (readFor (kindFrom (a .1 .1 .1 .0)) (a .0 .now) (Format (a .1 .0)) (a .1 .1 .0)))
   pub tzq-read-runtime : Gives tzq-read-runtime.ended tzq-read-runtime-reads.Learnt (λ κs a x.
       x .0 ≡ handedAnswer (settled (kindFrom (a .1 .1 .0)) (readRuntime (a .0 .now) (a .1 .0))))
+  pub tzq-why : Gives tzq-why.ended tzq-why-reads.Learnt (λ κs a x.
+      (x .0 ≡ handedReason (whyOf (kindFrom (a .1 .1 .1 .1 .0)) (a .0 .now) (statedFrom (a .1 .0) (a .1 .1 .0)) (a .1 .1 .1 .0) (a .1 .1 .1 .1 .1 .0 .now) (a .1 .1 .1 .1 .1 .1 .0)))
+      × (x .1 .1 .1 .1 .1 .1 .0 ≡ lineTo (a .1 .1 .1 .1 .1 .0 .now) (a .1 .1 .1 .1 .1 .1 .0) (Text (phraseFor (kindFrom (a .1 .1 .1 .1 .0)) (a .0 .now) (statedFrom (a .1 .0) (a .1 .1 .0)) (a .1 .1 .1 .0)))))
   -- texts written
   pub tzq-sections : Gives tzq-sections.ended tzq-sections-reads.Learnt (λ κs a x. x .0 ≡ handedSections (sectioned (timecodeFrom (a .0))))
   pub tzq-write-label : Gives tzq-write-label.ended tzq-write-label-reads.Learnt (λ κs a x.

@@ -17,12 +17,12 @@ returns c =
     let said = kind .before in
     let a = said .before .before .before .args in (
       c .handed-reason .ensures
-      ∙ ap handedReason
-      (w .why .ensures .0
-      ∙ ap₂ (λ (k : Kind) (s : Stated). whyOf k (a .text .now) s (a .rate) (a .line .now) (a .place)) (kind .from .ensures) (said .stated-from .ensures)),
+          ∙ ap handedReason
+          (w .why .ensures .0
+          ∙ ap₂ (λ (k : Kind) (s : Stated). whyOf k (a .text .now) s (a .rate) (a .line .now) (a .place)) (kind .from .ensures) (said .stated-from .ensures)),
       w .why .ensures .1
-      ∙ ap₂ (λ (k : Kind) (s : Stated). lineTo (a .line .now) (a .place) (Text (phraseFor k (a .text .now) s (a .rate)))) (kind .from .ensures)
-      (said .stated-from .ensures),
+          ∙ ap₂ (λ (k : Kind) (s : Stated). lineTo (a .line .now) (a .place) (Text (phraseFor k (a .text .now) s (a .rate)))) (kind .from .ensures)
+          (said .stated-from .ensures),
     )
 
 pub tzq-why-spec : {M : Type 1} → statement M
