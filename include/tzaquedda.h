@@ -76,8 +76,8 @@ enum {
     TZQ_WRONG_KIND = 15    /* a position where only a length may be, or one of each compared: see the table above */
 };
 
-/* The phrase of each refusal by its number, 0 being nothing refused: what tzq_why lays down. Plain ASCII, none
- * longer than 128 bytes; each ends with a 0, which is not laid down. */
+/* The phrase of each refusal by its number, 0 being nothing refused: what tzq_why lays down. Plain ASCII, none longer than 128 bytes; each
+ * ends with a 0, which is not laid down. */
 static const char *const tzq_phrases[16] = {
     "accepted",
     "not in a form that can be read",
@@ -209,10 +209,12 @@ tzq_count tzq_read_runtime(const uint8_t *text, size_t length, uint64_t rate, bo
 /* Why a text of `text_length` bytes is read as it is: the very number and place that tzq_read would give, or where `stated` is true and
  * `format` is the stated film format, tzq_read_as (`format` does not count where `stated` is false); the fact behind it, and the phrase of the
  * number, tzq_phrases[number], laid down in the line from `place` on, with nothing to end it.
- * 5 shows the count, or else 14 the sign or the leftmost field that is not a time of day's, or 13 the frames number or else the marker; 3 the
- * first allowed label of the text's minute, minutes past 59 carried into hours, the text's sign kept. An accepted text has number 0 and its count.
+ * The fact: for 5 the count; for 13 the frames number, or else the marker; for 14 a sign, or else the leftmost field that no time of day has;
+ * for 3 the first allowed label of the text's minute, minutes past 59 carried into hours, the text's sign kept. An accepted text has number 0
+ * and its count.
  * Refuses 8 alone: place plus the phrase's length exceeds `line_length`; room for 50 bytes is enough for any. Then every other number is 0. */
-tzq_reason tzq_why(const uint8_t *text, size_t text_length, bool stated, uint64_t format, uint64_t rate, bool position, uint8_t *line, size_t line_length, size_t place);
+tzq_reason tzq_why(const uint8_t *text, size_t text_length, bool stated, uint64_t format, uint64_t rate, bool position,
+                   uint8_t *line, size_t line_length, size_t place);
 
 /* ---- Writing: each text is laid down in the line from `place` on; only its own bytes change, and nothing ends it ---- */
 

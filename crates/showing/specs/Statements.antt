@@ -94,7 +94,7 @@ ListWords =
     × (listText [] ≡ spelt "0")
 
 -- ---- why a text is read as it is
--- behind the text that the sheet has stands what is told, where it has room
+-- behind the text that the sheet has stands why a text is read as it is, where that has room
 abbrev pub WhyLine : Type 0
 WhyLine =
     (s : Sheet) (rate : ℕ) (w : Reasoned) (line : List ℕ) → s .used + length (whyText rate w line) ≤ length (s .bytes)
@@ -112,36 +112,36 @@ lengthLine n line = signedText false n ++ (32 ∷ line ++ (10 ∷ []))
 abbrev pub WhyAcceptedShown : Type 0
 WhyAcceptedShown =
     (z : ℤ) (rate n : ℕ) (line : List ℕ)
-    → (let length = spelt "0 0 " ++ (countText z ++ (spelt " 0 0 - " ++ lengthLine n line)) in
-    let place = spelt "0 0 @" ++ (countText z ++ (spelt " 0 0 - " ++ lengthLine n line)) in
-    (whyText rate (reason (Label (timecode z rate)) Nothing n) line ≡ length)
-    × (whyText rate (reason (Label (position z rate)) Nothing n) line ≡ place)
-    × ((format : FilmFormat) → whyText rate (reason (Footage (timecode z rate) format) Nothing n) line ≡ length)
-    × ((format : FilmFormat) → whyText rate (reason (Footage (position z rate) format) Nothing n) line ≡ place))
+    → (let as-length = spelt "0 0 " ++ (countText z ++ (spelt " 0 0 - " ++ lengthLine n line)) in
+    let as-position = spelt "0 0 @" ++ (countText z ++ (spelt " 0 0 - " ++ lengthLine n line)) in
+    (whyText rate (reason (Label (timecode z rate)) Nothing n) line ≡ as-length)
+    × (whyText rate (reason (Label (position z rate)) Nothing n) line ≡ as-position)
+    × ((format : FilmFormat) → whyText rate (reason (Footage (timecode z rate) format) Nothing n) line ≡ as-length)
+    × ((format : FilmFormat) → whyText rate (reason (Footage (position z rate) format) Nothing n) line ≡ as-position))
 
--- one that is turned down is shown as `NUMBER PLACE 0`, and behind that the fact, `LENGTH LINE` last
+-- `NUMBER PLACE 0`, behind that a fact, and `LENGTH LINE` last
 abbrev pub turnedDown : Refusal → (fact : List ℕ) (n : ℕ) (line : List ℕ) → List ℕ
 turnedDown e fact n line = signedText false (e .number) ++ (32 ∷ signedText false (e .place) ++ (spelt " 0 " ++ (fact ++ (32 ∷ lengthLine n line))))
 
--- where there is no fact, that is `0 0 -`
+-- a text that is turned down with no fact behind it is shown as `NUMBER PLACE 0 0 0 - LENGTH LINE`
 abbrev pub WhyRefusedShown : Type 0
 WhyRefusedShown =
     (e : Refusal) (rate n : ℕ) (line : List ℕ) → whyText rate (reason (Refused e) Nothing n) line ≡ turnedDown e (spelt "0 0 -") n line
 
--- where a field is at fault, `LIMIT VALUE -`, both with its sign
+-- one with a field at fault as `NUMBER PLACE 0 LIMIT VALUE - LENGTH LINE`, both by the field's sign
 abbrev pub WhyLimitShown : Type 0
 WhyLimitShown =
     (e : Refusal) (f : Fault) (rate n : ℕ) (line : List ℕ)
     → whyText rate (reason (Refused e) (Limit f) n) line
     ≡ turnedDown e (signedText (f .minus) (f .limit) ++ (32 ∷ signedText (f .minus) (f .value) ++ spelt " -")) n line
 
--- where the label is dropped, `0 0 LABEL`, the text that the label writer has for it at the rate
+-- one that is a dropped label as `NUMBER PLACE 0 0 0 LABEL LENGTH LINE`, the label as the label writer has it at the rate
 abbrev pub WhyFirstShown : Type 0
 WhyFirstShown =
     (e : Refusal) (s : TimecodeSections) (rate n : ℕ) (line : List ℕ)
     → whyText rate (reason (Refused e) (First s) n) line ≡ turnedDown e (spelt "0 0 " ++ sectionsText (framesMark rate) s) n line
 
--- and a phrase that has no room is shown as `refused N LINE`
+-- and where the phrase has no room, `refused N LINE` is shown
 abbrev pub WhyNoRoomShown : Type 0
 WhyNoRoomShown =
     (e : Refusal) (rate : ℕ) (line : List ℕ)
