@@ -1,0 +1,4 @@
+pub mod Putting
+pub mod Lines
+pub mod Cases
+pub mod Telling
