@@ -10,11 +10,21 @@ use Rattle.asking.proofs.recorded.records as records
 use Rattle.asking.proofs.recorded.records.Reads as records-reads
 use Rattle.asking.proofs.values.number as number
 use Rattle.asking.proofs.values.number.Reads as number-reads
+use Rattle.asking.proofs.values.stands as stands
+use Rattle.asking.proofs.values.stands.Reads as stands-reads
+use Rattle.asking.proofs.values.word_stands as word-stands
+use Rattle.asking.proofs.values.word_stands.Reads as word-stands-reads
 use Rattle.asking.proofs.words.understand as understand
 use Rattle.asking.proofs.words.understand.Reads as understand-reads
 
 pub number-determined : Determined number.ended number-reads.Asked number-reads.Learnt
 number-determined κs a asked x y p q = ap (λ z. (z, x .1)) (p ∙ sym q)
+
+pub stands-determined : Determined stands.ended stands-reads.Asked stands-reads.Learnt
+stands-determined κs a asked x y p q = ap (λ z. (z, x .1)) (p ∙ sym q)
+
+pub word-stands-determined : Determined word-stands.ended word-stands-reads.Asked word-stands-reads.Learnt
+word-stands-determined κs a asked x y p q = ap (λ z. (z, x .1)) (p ∙ sym q)
 
 pub understand-determined : Determined understand.ended understand-reads.Asked understand-reads.Learnt
 understand-determined κs a asked x y p q = ap (λ z. (z, x .1)) (p ∙ sym q)

@@ -45,7 +45,7 @@ module _ (line word : List ℕ) (at i : ℕ) (s : Matching line word at i) where
   matching-done h = sym (s .same ∙ rw (drop-of-length-le word {i = i} h))
 
 -- ---- a word that stands there is within the line
-word-length : (word l : List ℕ) → wordFirst word l ≡ true → length word ≤ length l
+pub word-length : (word l : List ℕ) → wordFirst word l ≡ true → length word ≤ length l
 unfolding wordFirst
 word-length [] l e = omega arith
 word-length (b ∷ w) l e =

@@ -14,6 +14,8 @@ pub use numbered::rates;
 pub use recorded::records;
 pub use values::Word;
 pub use values::number;
+pub use values::stands;
+pub use values::word_stands;
 pub use words::Asked;
 pub use words::Value;
 pub use words::understand;

@@ -67,7 +67,7 @@ fn digits_at(line: &[u8], at: usize, minus: bool) -> Word
 }
 
 // Does this byte stand at a place of the line?
-pub(crate) fn stands(line: &[u8], at: usize, b: u8) -> bool
+pub fn stands(line: &[u8], at: usize, b: u8) -> bool
     ensures answer { λ r. ⌜ r ≡ firstIs (isByte b) (drop at (now (line .entry))) ⌝ }
 {
     if at < line.len() {
@@ -77,7 +77,7 @@ pub(crate) fn stands(line: &[u8], at: usize, b: u8) -> bool
 }
 
 // Does this word stand at a place of the line?
-pub(crate) fn word_stands(line: &[u8], at: usize, word: &[u8]) -> bool
+pub fn word_stands(line: &[u8], at: usize, word: &[u8]) -> bool
     ensures answer { λ r. ⌜ r ≡ wordFirst (now (word .entry)) (drop at (now (line .entry))) ⌝ }
 {
     let mut i = 0;

@@ -2,3 +2,4 @@ pub mod Putting
 pub mod Lines
 pub mod Cases
 pub mod Telling
+pub mod Words

@@ -2,3 +2,4 @@ pub mod Pieces
 pub mod Shown
 pub mod Facts
 pub mod Told
+pub mod Question

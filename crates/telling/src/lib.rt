@@ -2,7 +2,10 @@
 // the fact in plain words; and what a question is. Refuses nothing itself: what has no room on the sheet changes nothing.
 mod facts;
 mod pieces;
+mod questions;
 mod told;
 
+pub use questions::Question;
+pub use questions::understand;
 pub use told::Way;
 pub use told::tell;
