@@ -3,7 +3,7 @@
 use Prim.Native.Nat.{ℕ}
 use mathlib.Core.Path.{_≡_, refl, sym}
 use mathlib.Core.List.{List, [], _∷_, _++_}
-use mathlib.Core.Bool.{true, false}
+use mathlib.Core.Bool.{Bool, true, false, cond}
 use borrow.Author.Tests.{eq-eqb, ne-eqb}
 use Rattle.laws.specs.Spelt.{spelt}
 use Rattle.faults.specs.declared.Fault.{Fault}
@@ -13,9 +13,12 @@ use Rattle.label_writer.specs.declared.TimecodeSections.{TimecodeSections}
 use Rattle.label_writer.specs.Sections.{sectioned}
 use Rattle.time.specs.Ticks.{ticksOf}
 use Rattle.telling.specs.Pieces.{lineEnd}
-use Rattle.telling.specs.Shown.{caretPieces, placePieces}
+use Rattle.telling.specs.Shown.{shownPieces, caretPieces, placePieces}
 use Rattle.telling.specs.Facts.{isSign, countText, sectionsAt, labelIn, ticksText, nearestPieces, limitPieces, firstPieces, countedPieces}
-use Rattle.telling.specs.Told.{frontPieces}
+use Rattle.telling.specs.declared.told.Way.{Way}
+use Rattle.telling.specs.Told.{frontPieces, toldPieces}
+use Rattle.telling.specs.Question.{questionOf}
+use Rattle.telling.specs.Answered.{otherPieces, askedPieces, questionPieces, textPieces}
 
 module _ (f : Fault) where
   pub limit-sign : isSign (f .field) ≡ true → (spelt "a time of day has no sign" ++ lineEnd) ∷ [] ≡ limitPieces f
@@ -56,3 +59,17 @@ module _ (number : ℕ) where
   pub front-some : (number ≡ 0 → ⊥) → spelt "refused " ∷ signedText false number ∷ spelt ": " ∷ [] ≡ frontPieces number
   unfolding frontPieces
   front-some e = rw (ne-eqb number 0 e)
+
+-- ---- what is answered to a line
+pub other-is : (line : List ℕ)
+    → shownPieces line ++ ((spelt "not understood: a question is [-p] [-f FORMAT] RATE TEXT" ++ lineEnd) ∷ []) ≡ otherPieces line
+unfolding otherPieces
+other-is line = refl
+
+pub question-answer : (line : List ℕ) (over : Bool) → cond over (otherPieces line) (askedPieces line (questionOf line)) ++ (lineEnd ∷ []) ≡ questionPieces line over
+unfolding questionPieces
+question-answer line over = refl
+
+pub text-answer : (way : Way) (line : List ℕ) (over : Bool) → cond over (otherPieces line) (toldPieces way line) ++ (lineEnd ∷ []) ≡ textPieces way line over
+unfolding textPieces
+text-answer way line over = refl

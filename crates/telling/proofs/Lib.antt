@@ -3,3 +3,4 @@ pub mod Lines
 pub mod Cases
 pub mod Telling
 pub mod Words
+pub mod Asked

@@ -3,3 +3,4 @@ pub mod Shown
 pub mod Facts
 pub mod Told
 pub mod Question
+pub mod Answered
