@@ -1,7 +1,7 @@
 // A calculator over every public operation: reads commands, one a line, and writes an answer for each (docs/ASK.md).
 // What a line is, and what it asks, is decided by streams and asking; here are the commands, the buffers, the reads and the writes.
 ghost use mathlib.Core.Path.{_≡_};
-ghost use Rattle.ask.specs.Turns.{waitingBehind, goneOn};
+ghost use Rattle.streams.specs.Turns.{waitingBehind};
 use streams::Gathered;
 use streams::Step;
 
@@ -18,16 +18,6 @@ mod write;
 struct Turn {
     gathered: Gathered,
     more: bool,
-}
-
-// What is gathered of the next line behind a step: nothing yet where a line has ended there.
-fn gone_on(t: Step) -> Gathered
-    ensures gathered { λ r. ⌜ r ≡ goneOn t ⌝ }
-{
-    if t.ended {
-        return Gathered::new();
-    }
-    t.gathered
 }
 
 // The answer to a line that has ended, behind those that are kept.
@@ -49,7 +39,7 @@ fn feed(chunk: &[u8], buffer: &mut [u8], out: &mut [u8], first: Gathered) -> Gat
     while next < chunk.len() {
         let t = streams::gather(chunk, next, buffer, g);
         used = answered(t, buffer, out, used);
-        g = gone_on(t);
+        g = streams::gone_on(t);
         next = t.next;
     }
     sheet::write(out, used);

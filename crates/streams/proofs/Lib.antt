@@ -1,5 +1,6 @@
 pub mod Parting
 pub mod Gathering
+pub mod Turns
 pub mod Putting
 pub mod Standing
 pub mod Statements

@@ -1,5 +1,6 @@
 pub mod Lines
 pub mod Parting
 pub mod Gathering
+pub mod Turns
 pub mod Sheet
 pub mod Statements

@@ -2,6 +2,7 @@
 ghost use mathlib.Core.Path.{_≡_};
 ghost use lib.ListN.{drop};
 ghost use Rattle.streams.specs.Gathering.{noByte, taken, bufferTaken, isEmpty, gatherFrom};
+ghost use Rattle.streams.specs.Turns.{goneOn};
 
 // How many bytes of the line are kept in the buffer, and whether the line has more than the buffer holds.
 pub struct Gathered {
@@ -77,4 +78,14 @@ pub fn gather(chunk: &[u8], from: usize, buffer: &mut [u8], g: Gathered) -> Step
         next: i,
         ended: false,
     }
+}
+
+// What is gathered of the next line behind a step: nothing yet where a line has ended there.
+pub fn gone_on(t: Step) -> Gathered
+    ensures answer { λ r. ⌜ r ≡ goneOn t ⌝ }
+{
+    if t.ended {
+        return Gathered::new();
+    }
+    t.gathered
 }

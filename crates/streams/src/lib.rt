@@ -6,6 +6,7 @@ mod sheets;
 pub use gathered::Gathered;
 pub use gathered::Step;
 pub use gathered::gather;
+pub use gathered::gone_on;
 pub use sheets::put_byte;
 pub use sheets::put_signed;
 pub use sheets::put_text;

@@ -4,3 +4,4 @@ pub mod Cases
 pub mod Telling
 pub mod Words
 pub mod Asked
+pub mod Determined

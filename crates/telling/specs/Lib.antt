@@ -4,3 +4,4 @@ pub mod Facts
 pub mod Told
 pub mod Question
 pub mod Answered
+pub mod Joined

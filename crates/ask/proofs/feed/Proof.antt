@@ -5,8 +5,8 @@ use mathlib.Core.Path.{_≡_, sym, ap, _∙_}
 use native.Mathlib.Omega.{arith}
 use lib.ListN.{length, drop}
 use borrow.Author.Needs.{needs}
-use Rattle.ask.specs.Turns.{waitingBehind}
-use Rattle.ask.proofs.Steps.{next-more, waiting-turn, waiting-done}
+use Rattle.streams.specs.Turns.{waitingBehind}
+use Rattle.streams.proofs.Turns.{next-more, waiting-turn, waiting-done}
 use Rattle.ask.proofs.feed.Statement.{statement}
 use Rattle.ask.proofs.feed.Tie as tie
 

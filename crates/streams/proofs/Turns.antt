@@ -8,11 +8,11 @@ use native.Mathlib.Omega.{arith}
 use lib.Dec.{eqb}
 use lib.ListN.{length, drop, length-drop}
 use lib.Seq.{drop-nil, drop-drop}
 use Rattle.streams.specs.declared.gathered.Gathered.{Gathered}
 use Rattle.streams.specs.declared.gathered.Step.{Step}
 use Rattle.streams.specs.Gathering.{noByte, taken, bufferTaken, Gathering, gathering, gatherFrom}
 use Rattle.streams.proofs.Gathering.{next-le, next-lt}
-use Rattle.ask.specs.Turns.{Waiting, waiting, waitingBehind, goneOn}
+use Rattle.streams.specs.Turns.{Waiting, waiting, waitingBehind, goneOn}
 
 -- a byte more of the chunk is taken
 pub next-more : (chunk : List ℕ) (i n : ℕ) (buffer : List ℕ) (g : Gathered) → i < length chunk
