@@ -4,4 +4,5 @@ pub mod Cases
 pub mod Telling
 pub mod Words
 pub mod Asked
+pub mod Statements
 pub mod Determined

@@ -5,3 +5,4 @@ pub mod Told
 pub mod Question
 pub mod Answered
 pub mod Joined
+pub mod Statements
