@@ -27,9 +27,6 @@ unfolding ratedIn endedAt
 asked-rated l o way at =
     by (isNumber (runOf l)) (eqb (length (drop (runOf l .count) l)) 0) (firstIs (isByte 32) (drop (runOf l .count) l)) refl refl
   where
-    w : Way
-    w = wayOf o (runOf l .value)
-
     by : (x y z : Bool) → isNumber (runOf l) ≡ x → firstIs (isByte 32) (drop (runOf l .count) l) ≡ z
         → cond x (cond y (NoText (wayOf o (runOf l .value))) (cond z (Asked (wayOf o (runOf l .value)) (o .at + runOf l .count + 1)) NotUnderstood)) NotUnderstood ≡ Asked way at
         → Rated l o way at
@@ -37,6 +34,25 @@ asked-rated l o way at =
     by true true z e f p = let q : _≡_ {A = ℕ} 0 1 = cc in absurd (omega arith)
     by true false false e f p = let q : _≡_ {A = ℕ} 0 1 = cc in absurd (omega arith)
     by true false true e f p = record { number = e; space = f; way-is = cc; at-is = cc }
+
+-- and of options and a rate alone: nothing stands behind the number
+pub record Alone (l : List ℕ) (o : Options) (way : Way) : Type 0 where
+  pub number : isNumber (runOf l) ≡ true
+  pub empty : eqb (length (drop (runOf l .count) l)) 0 ≡ true
+  pub way-is : way ≡ wayOf o (runOf l .value)
+
+pub alone-rated : (l : List ℕ) (o : Options) (way : Way) → ratedIn l o ≡ NoText way → Alone l o way
+unfolding ratedIn endedAt
+alone-rated l o way =
+    by (isNumber (runOf l)) (eqb (length (drop (runOf l .count) l)) 0) (firstIs (isByte 32) (drop (runOf l .count) l)) refl refl
+  where
+    by : (x y z : Bool) → isNumber (runOf l) ≡ x → eqb (length (drop (runOf l .count) l)) 0 ≡ y
+        → cond x (cond y (NoText (wayOf o (runOf l .value))) (cond z (Asked (wayOf o (runOf l .value)) (o .at + runOf l .count + 1)) NotUnderstood)) NotUnderstood ≡ NoText way
+        → Alone l o way
+    by false y z e f p = let q : _≡_ {A = ℕ} 0 1 = cc in absurd (omega arith)
+    by true true z e f p = record { number = e; empty = f; way-is = cc }
+    by true false false e f p = let q : _≡_ {A = ℕ} 0 1 = cc in absurd (omega arith)
+    by true false true e f p = let q : _≡_ {A = ℕ} 0 1 = cc in absurd (omega arith)
 
 -- so the text begins within the line
 pub asked-within : (line : List ℕ) (way : Way) (at : ℕ) → questionOf line ≡ Asked way at → at ≤ length line

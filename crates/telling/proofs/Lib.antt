@@ -4,5 +4,8 @@ pub mod Cases
 pub mod Telling
 pub mod Words
 pub mod Asked
+pub mod Passing
+pub mod Taking
+pub mod Understanding
 pub mod Statements
 pub mod Determined

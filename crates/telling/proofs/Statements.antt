@@ -35,7 +35,8 @@ use Rattle.telling.specs.Facts.{limitPieces, firstPieces, countedPieces,
 use Rattle.telling.specs.Told.{statedIn, readIn, factIn, phraseIn, placeOf, frontPieces, reasonPieces, toldPieces, toldText}
 use Rattle.telling.specs.Answered.{questionPieces, textPieces}
 use Rattle.telling.specs.Joined.{wordPieces}
-use Rattle.telling.specs.Statements.{ToldStands, AnswerStands, WordStands, spaces, caretText, RefusedTold, LabelTold, FootageTold, ShownColumns, CaretUnder, FactsRead}
+use Rattle.telling.specs.Statements.{ToldStands, AnswerStands, WordStands, spaces, caretText, RefusedTold, LabelTold, FootageTold, ShownColumns, CaretUnder, FactsRead, QuestionUnderstood, TextsUnderstood}
+use Rattle.telling.proofs.Understanding.{exactly-asked, exactly-texts}
 
 -- ---- with room, each piece stands behind the one before it
 stand : (s : Sheet) (ps : List (List ℕ)) → s .used + length (together ps) ≤ length (s .bytes) → textOn (allOn s ps) ≡ textOn s ++ together ps
@@ -176,3 +177,10 @@ caret-under place = (caret-spaces place, spaces-length place)
 pub facts-read : FactsRead
 unfolding together firstPieces limitPieces isDrop sectionsText clockText decimal digitsOf width widthBy
 facts-read = record { first = refl; count = refl; sign = refl; hours = refl; minutes = refl; seconds = refl; frames = refl; marker = refl }
+
+-- ---- what a question is
+pub question-understood : QuestionUnderstood
+question-understood = exactly-asked
+
+pub texts-understood : TextsUnderstood
+texts-understood = exactly-texts

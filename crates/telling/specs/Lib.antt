@@ -5,4 +5,5 @@ pub mod Told
 pub mod Question
 pub mod Answered
 pub mod Joined
+pub mod Grammar
 pub mod Statements

@@ -1,10 +1,11 @@
 -- What holds of what is told (docs/WHY.md). Proofs: proofs/Statements.antt.
 -- Assumes nothing.
-use Prim.Native.Nat.{ℕ, zero, suc, _+_, _≤_, _<_}
+use Prim.Native.Nat.{ℕ, zero, suc, _+_, _≤_}
 use mathlib.Core.Path.{_≡_}
+use mathlib.Core.Logic.{_↔_}
 use mathlib.Core.Bool.{Bool, true, false, cond}
 use mathlib.Core.List.{List, [], _∷_, _++_, map}
-use lib.ListN.{length, getD}
+use lib.ListN.{length, drop}
 use Rattle.laws.specs.Spelt.{spelt}
 use Rattle.laws.specs.Every.{every}
 use Rattle.answers.specs.declared.Refusal.{Refusal}
@@ -22,6 +23,9 @@ use Rattle.telling.specs.Pieces.{allOn}
 use Rattle.telling.specs.Shown.{isPrintable, shownByte, shownPieces, hasPlace, caretPieces}
 use Rattle.telling.specs.Facts.{limitPieces, firstPieces, countedPieces, factPieces}
 use Rattle.telling.specs.Told.{readIn, factIn, toldPieces, toldText}
+use Rattle.telling.specs.declared.questions.Question.the-variants.{Asked, NoText}
+use Rattle.telling.specs.Question.{questionOf}
+use Rattle.telling.specs.Grammar.{Asks, AsksTexts}
 use Rattle.telling.specs.Answered.{questionPieces, textPieces}
 use Rattle.telling.specs.Joined.{wordPieces}
 
@@ -106,3 +110,18 @@ pub record FactsRead : Type 0 where
   pub seconds : together (limitPieces (fault field.Seconds false 59 75)) ≡ spelt "seconds: 75, nearest allowed: 59" ++ (10 ∷ [])
   pub frames : together (limitPieces (fault field.Frames false 20 21)) ≡ spelt "frames: 21, nearest allowed: 20" ++ (10 ∷ [])
   pub marker : together (limitPieces (fault field.Marker false 1 2)) ≡ spelt "marker: 2, nearest allowed: 1" ++ (10 ∷ [])
+
+-- ---- what a question is
+-- it is understood, and the text is what stands from its place on
+pub record Understood (line : List ℕ) (way : Way) (text : List ℕ) : Type 0 where
+  pub at : ℕ
+  pub asked : questionOf line ≡ Asked way at
+  pub rest : drop at line ≡ text
+
+-- a line is understood as a question exactly when the grammar has it so
+abbrev pub QuestionUnderstood : Type 0
+QuestionUnderstood = (line : List ℕ) (way : Way) (text : List ℕ) → Asks line way text ↔ Understood line way text
+
+-- and as options and a rate alone exactly when the grammar has it so
+abbrev pub TextsUnderstood : Type 0
+TextsUnderstood = (line : List ℕ) (way : Way) → AsksTexts line way ↔ (questionOf line ≡ NoText way)
