@@ -98,7 +98,8 @@ ShownColumns =
 abbrev pub CaretUnder : Type 0
 CaretUnder = (place : ℕ) → (together (caretPieces place) ≡ spaces place ++ (94 ∷ 10 ∷ [])) × (length (spaces place) ≡ place)
 
--- ---- the facts in plain words, of one case of each
+-- ---- the facts
+-- they read so in plain words, one case of each
 pub record FactsRead : Type 0 where
   pub first : together (firstPieces 5 (record { negative = true; hours = 2; minutes = 15; seconds = 0; frames = 2 }))
       ≡ spelt "first label of this minute: -02:15:00;02" ++ (10 ∷ [])
