@@ -41,6 +41,7 @@ use Rattle.lines.proofs.Statements as lines
 use Rattle.feeding.proofs.Statements as feeding
 use Rattle.asking.proofs.Statements as asking
 use Rattle.showing.proofs.Statements as showing
+use Rattle.telling.proofs.Statements as telling
 use Rattle.showing.proofs.WhyStatements as showing-why
 use Rattle.promises.proofs.Calls.{one-answer}
 use Rattle.promises.proofs.CallsC.{one-answer-c}
@@ -135,6 +136,17 @@ promises = record {
   phrases-plain = phrases.phrases-plain;
   no-phrase = phrases.no-phrase;
   why-cases = why-cases;
+  told-stands = telling.told-stands;
+  answer-stands = telling.answer-stands;
+  word-stands = telling.word-stands;
+  refused-told = telling.refused-told;
+  label-told = telling.label-told;
+  footage-told = telling.footage-told;
+  shown-columns = telling.shown-columns;
+  caret-under = telling.caret-under;
+  facts-read = telling.facts-read;
+  question-understood = telling.question-understood;
+  texts-understood = telling.texts-understood;
   nearest-is = numbers.nearest-is;
   nearest-one = numbers.nearest-one;
   within-half = numbers.within-half;

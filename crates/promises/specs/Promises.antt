@@ -37,6 +37,7 @@ use Rattle.lines.specs.Statements as lines
 use Rattle.feeding.specs.Statements as feeding
 use Rattle.asking.specs.Statements as asking
 use Rattle.showing.specs.Statements as showing
+use Rattle.telling.specs.Statements as telling
 use Rattle.promises.specs.Calls.{OneAnswer}
 use Rattle.promises.specs.CallsC.{OneAnswerC}
 use Rattle.promises.specs.Ties.{Ties}
@@ -137,6 +138,18 @@ pub record Promises : Type 1 where
   pub phrases-plain : phrases.PhrasesPlain
   pub no-phrase : phrases.NoPhrase
   pub why-cases : WhyCases
+  -- told to the desk
+  pub told-stands : telling.ToldStands
+  pub answer-stands : telling.AnswerStands
+  pub word-stands : telling.WordStands
+  pub refused-told : telling.RefusedTold
+  pub label-told : telling.LabelTold
+  pub footage-told : telling.FootageTold
+  pub shown-columns : telling.ShownColumns
+  pub caret-under : telling.CaretUnder
+  pub facts-read : telling.FactsRead
+  pub question-understood : telling.QuestionUnderstood
+  pub texts-understood : telling.TextsUnderstood
   -- numbers and lines
   pub nearest-is : numbers.NearestIs
   pub nearest-one : numbers.NearestOne

@@ -11,7 +11,7 @@ mod sheet;
 fn put_usage() {
     io::write_all(
         2,
-        b"usage: why [-p] [-f FORMAT] RATE TEXT  (RATE 1 to 12, FORMAT 1 to 4, -p: a time of day; with no TEXT, one a line from standard input; with no arguments, a question a line)\n",
+        b"usage: why [-p] [-f FORMAT] RATE 'TEXT'  (RATE 1 to 12, FORMAT 1 to 4, -p: a time of day; in quotes, since a shell takes ; for itself; with no TEXT, one a line from standard input; with no arguments, a question a line)\n",
     );
 }
 
