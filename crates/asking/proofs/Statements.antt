@@ -1,12 +1,15 @@
 -- A line is understood as the grammar has it, and only so; records in words are listed so.
 -- Assumes nothing.
 use mathlib.Core.Path.{refl}
-use Rattle.asking.specs.Table.{rows}
-use Rattle.asking.specs.Statements.{marksFrom, Understood, OnlyUnderstood, MarksBelong}
+use Rattle.asking.specs.Statements.{marksFrom, Understood, OnlyUnderstood, MarksBelong, WhyAsked}
 use Rattle.asking.specs.RecordStatements.{RecordsExactly}
 use Rattle.asking.proofs.Understanding as there
 use Rattle.asking.proofs.Told as back
 use Rattle.asking.proofs.RecordsListed as listed
+use Rattle.digits.specs.Digits.{span, valueFrom}
+use Rattle.asking.specs.Numbers.{numberAt, signedAt, digitsAt, signedWord}
+use Rattle.asking.specs.Table.{wordOf, rows, rowFrom, same, wordFirst, isOver}
+use Rattle.asking.specs.Asked.{askedOf, wordsFrom, endedAt, restAt, isInRange, valueAt, isMarked, isUnstated, isPosition}
 
 pub understood : Understood
 understood = there.understood
@@ -20,3 +23,8 @@ marks-belong = (refl, refl)
 
 pub records-exactly : RecordsExactly
 records-exactly = listed.records-exactly
+
+pub why-asked : WhyAsked
+unfolding askedOf wordOf rows rowFrom same wordsFrom endedAt restAt isInRange valueAt isMarked isUnstated isPosition wordFirst isOver numberAt
+    signedAt digitsAt signedWord span valueFrom
+why-asked = record { unstated = refl; stated = refl; wide = refl; taken = (refl, refl, refl, refl, refl) }

@@ -3,13 +3,16 @@
 use Prim.Native.Nat.{ℕ, _+_, _<_}
 use mathlib.Core.Path.{_≡_}
 use mathlib.Core.List.{List, [], _∷_, map}
-use mathlib.Core.Bool.{cond}
+use mathlib.Core.Bool.{true, false, cond}
 use lib.Dec.{eqb}
+use lib.IntN.{pos}
+use Rattle.laws.specs.Spelt.{spelt}
 use lib.ListN.{length, set}
 use Rattle.asking.specs.declared.words.Value.{Value}
 use Rattle.asking.specs.declared.words.Asked.{Asked}
 use Rattle.asking.specs.Table.{Row, rows, rowCount}
-use Rattle.asking.specs.Asked.{asked, noValues, askedOf}
+use Rattle.asking.specs.Asked.{asked, value, noValue, noValues, askedOf}
+use Rattle.asking.specs.Numbered.{numbersOf}
 use Rattle.asking.specs.Grammar.{Asks}
 
 -- elements in their places of a list from the k-th on
@@ -62,3 +65,17 @@ MarksBelong =
     ∷ [] ∷ []  -- read_list, write_list
     ∷ (0 ∷ [])  -- why
     ∷ [])
+
+-- `why` in plain bytes: the mark of its rate, `-` for no film format, its place and room, and where its text begins; a room of 129 is not
+-- understood
+pub record WhyAsked : Type 0 where
+  pub unstated :
+      askedOf (spelt "why @5 - 2 10 x")
+      ≡ asked 27 (value (pos 5) true ∷ value (pos 0) true ∷ value (pos 2) false ∷ value (pos 10) false ∷ noValue ∷ []) 14
+  pub stated :
+      askedOf (spelt "why 5 4 0 128 1+00")
+      ≡ asked 27 (value (pos 5) false ∷ value (pos 4) false ∷ value (pos 0) false ∷ value (pos 128) false ∷ noValue ∷ []) 14
+  pub wide : askedOf (spelt "why 5 - 0 129 x") .row ≡ rowCount
+  pub taken :
+      let n = numbersOf (value (pos 5) true ∷ value (pos 0) true ∷ value (pos 2) false ∷ value (pos 10) false ∷ noValue ∷ []) in
+      (n .up1 ≡ 5) × (n .at1 ≡ true) × (n .at2 ≡ true) × (n .up3 ≡ 2) × (n .up4 ≡ 10)

@@ -2,7 +2,7 @@
 -- Assumes nothing.
 use Prim.Native.Nat.{ℕ, _+_, _*_, _-_, _≤_, _<_}
 use mathlib.Core.Path.{_≡_, refl, ap, _∙_}
-use mathlib.Core.List.{List, [], _∷_, _++_, append-nil}
+use mathlib.Core.List.{List, [], _∷_, _++_, append-nil, append-assoc}
 use mathlib.Core.Bool.{Bool, true, false, cond}
 use native.Mathlib.Omega.{arith}
 use native.Mathlib.Nat.{mul-le-mul-right}
@@ -27,8 +27,9 @@ use Rattle.written.specs.Parts.{signText}
 use Rattle.written.proofs.Laws.{text-written}
 use Rattle.written.proofs.Parts.{sign-most, padded-length, clock-length}
 use Rattle.label_writer.specs.Sections.{labelFields, labelSections}
-use Rattle.label_writer.specs.LabelText.{framesMark, labelText}
-use Rattle.label_writer.specs.Statements.{MarkAt, LabelIs, LabelLength, LabelBounds, isLabelByte, LabelBytes, LabelWritten}
+use Rattle.label_writer.specs.LabelText.{framesMark, sectionsText, labelText}
+use Rattle.written.specs.Clock.{clockText}
+use Rattle.label_writer.specs.Statements.{MarkAt, LabelIs, LabelLength, LabelBounds, isLabelByte, LabelBytes, LabelWritten, SectionsIs}
 use Rattle.label_writer.proofs.Answers.{label-of, label-small, label-parts, sections-length, draft-text}
 
 -- ---- shape
@@ -137,3 +138,15 @@ label-written tc line place v room =
     let w = text-written line place text (omega (arith, label-bounds (tc .rate) (tc .count) (v .rate) (valid-count tc v))) in
     let d = draft-text tc v in
     (ap (answerTo line place) d ∙ w .0, ap (lineTo line place) d ∙ w .1)
+
+pub sections-is : SectionsIs
+unfolding sectionsText clockText
+sections-is mark s = record {
+  hours = decimal 2 (s .hours);
+  minutes = decimal 2 (s .minutes);
+  seconds = decimal 2 (s .seconds);
+  frames = decimal 2 (s .frames);
+  text = simp append-assoc;
+  padded = (decimal-padded 2 (s .hours), decimal-padded 2 (s .minutes), decimal-padded 2 (s .seconds), decimal-padded 2 (s .frames));
+  values = (decimal-back 2 (s .hours), decimal-back 2 (s .minutes), decimal-back 2 (s .seconds), decimal-back 2 (s .frames));
+}

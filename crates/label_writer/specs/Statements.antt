@@ -22,7 +22,8 @@ use Rattle.written.specs.declared.Written.the-variants.{Length}
 use Rattle.written.specs.Written.{answerTo, lineTo}
 use Rattle.written.specs.Parts.{signText}
 use Rattle.label_writer.specs.Sections.{labelSections}
-use Rattle.label_writer.specs.LabelText.{framesMark, labelText, labelDraft}
+use Rattle.label_writer.specs.LabelText.{framesMark, sectionsText, labelText, labelDraft}
+use Rattle.label_writer.specs.declared.TimecodeSections.{TimecodeSections}
 
 -- `;` stands before frames at rates 5 and 11, and `:` at every other
 pub record MarkAt : Type 0 where
@@ -76,3 +77,18 @@ LabelWritten =
     (tc : Timecode) (line : List ℕ) (place : ℕ) → Valid tc → place + 14 ≤ length line
     → let text = labelText (tc .rate) (tc .count) in
     (answerTo line place (labelDraft tc) ≡ Length (length text)) × (lineTo line place (labelDraft tc) ≡ splice line place text)
+
+-- the text of any sections: a sign where they are negative, four fields of two digits at least with their values, `:` between them but the mark
+-- before frames
+pub record WrittenSections (mark : ℕ) (s : TimecodeSections) : Type 0 where
+  pub hours : List ℕ
+  pub minutes : List ℕ
+  pub seconds : List ℕ
+  pub frames : List ℕ
+  pub text : sectionsText mark s ≡ signText (s .negative) ++ (hours ++ (58 ∷ minutes ++ (58 ∷ seconds ++ (mark ∷ frames))))
+  pub padded : Padded 2 hours × Padded 2 minutes × Padded 2 seconds × Padded 2 frames
+  pub values : (valueOf hours ≡ s .hours) × (valueOf minutes ≡ s .minutes) × (valueOf seconds ≡ s .seconds) × (valueOf frames ≡ s .frames)
+
+-- all sections are written so, those that no timecode has too: hours of any number of digits
+abbrev pub SectionsIs : Type 0
+SectionsIs = (mark : ℕ) (s : TimecodeSections) → WrittenSections mark s

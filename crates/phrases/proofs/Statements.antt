@@ -8,11 +8,28 @@ use native.Mathlib.Omega.{arith}
 use lib.Dec.{eqb}
 use lib.ListN.{length, getD}
 use Rattle.phrases.specs.Phrases.{phrases, phraseOf}
-use Rattle.phrases.specs.Statements.{AcceptedPhrase, PhrasesApart, PhrasesPlain, NoPhrase}
+use Rattle.phrases.specs.Statements.{PhrasesAre, PhrasesApart, PhrasesPlain, NoPhrase}
 
-pub accepted-phrase : AcceptedPhrase
+pub phrases-are : PhrasesAre
 unfolding phraseOf phrases
-accepted-phrase = refl
+phrases-are = record {
+  phrase-0 = refl;
+  phrase-1 = refl;
+  phrase-2 = refl;
+  phrase-3 = refl;
+  phrase-4 = refl;
+  phrase-5 = refl;
+  phrase-6 = refl;
+  phrase-7 = refl;
+  phrase-8 = refl;
+  phrase-9 = refl;
+  phrase-10 = refl;
+  phrase-11 = refl;
+  phrase-12 = refl;
+  phrase-13 = refl;
+  phrase-14 = refl;
+  phrase-15 = refl;
+}
 
 -- past the end of a list there is what stands for none
 past-end : (l : List (List ℕ)) (n : ℕ) → length l ≤ n → getD l n [] ≡ []

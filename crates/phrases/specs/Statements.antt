@@ -10,9 +10,24 @@ use Rattle.laws.specs.Every.{every}
 use Rattle.laws.specs.Spelt.{spelt}
 use Rattle.phrases.specs.Phrases.{phraseOf}
 
--- nothing refused is accepted
-abbrev pub AcceptedPhrase : Type 0
-AcceptedPhrase = phraseOf 0 ≡ spelt "accepted"
+-- the phrases in words: 0, given where nothing is refused, has `accepted`
+pub record PhrasesAre : Type 0 where
+  pub phrase-0 : phraseOf 0 ≡ spelt "accepted"
+  pub phrase-1 : phraseOf 1 ≡ spelt "not in a form that can be read"
+  pub phrase-2 : phraseOf 2 ≡ spelt "a number has too many digits"
+  pub phrase-3 : phraseOf 3 ≡ spelt "a dropped label, which no frame has"
+  pub phrase-4 : phraseOf 4 ≡ spelt "a perf field, which this film format does not have"
+  pub phrase-5 : phraseOf 5 ≡ spelt "the count of frames is out of bounds"
+  pub phrase-6 : phraseOf 6 ≡ spelt "no such rate or film format"
+  pub phrase-7 : phraseOf 7 ≡ spelt "a division by zero"
+  pub phrase-8 : phraseOf 8 ≡ spelt "no room for what is to be written"
+  pub phrase-9 : phraseOf 9 ≡ spelt "no such kind of record"
+  pub phrase-10 : phraseOf 10 ≡ spelt "a record is cut short"
+  pub phrase-11 : phraseOf 11 ≡ spelt "a shot before any rate"
+  pub phrase-12 : phraseOf 12 ≡ spelt "a shot ends before it begins"
+  pub phrase-13 : phraseOf 13 ≡ spelt "no such place on the film"
+  pub phrase-14 : phraseOf 14 ≡ spelt "not a time of day"
+  pub phrase-15 : phraseOf 15 ≡ spelt "a position where only a length may be"
 
 -- no two numbers have the same phrase
 abbrev pub PhrasesApart : Type 0

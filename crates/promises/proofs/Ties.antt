@@ -36,6 +36,7 @@ ties = record {
   check-list = λ κs a x p. p;
   given-at = λ κs a x p. p;
   write-list = λ κs a x p. p;
+  show-why = λ κs a x p. p;
   answers-number = λ κs a x p. p;
   answers-count = λ κs a x p. p;
   reading-number = λ κs a x p. p;

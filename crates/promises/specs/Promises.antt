@@ -133,7 +133,7 @@ pub record Promises : Type 1 where
   pub phrase-told : reasons.PhraseTold
   pub why-refused : reasons.WhyRefused
   pub why-keeps : reasons.WhyKeeps
-  pub accepted-phrase : phrases.AcceptedPhrase
+  pub phrases-are : phrases.PhrasesAre
   pub phrases-apart : phrases.PhrasesApart
   pub phrases-plain : phrases.PhrasesPlain
   pub no-phrase : phrases.NoPhrase
@@ -147,6 +147,9 @@ pub record Promises : Type 1 where
   pub footage-told : telling.FootageTold
   pub shown-columns : telling.ShownColumns
   pub caret-under : telling.CaretUnder
+  pub counted-read : telling.CountedRead
+  pub limit-read : telling.LimitRead
+  pub first-read : telling.FirstRead
   pub facts-read : telling.FactsRead
   pub question-understood : telling.QuestionUnderstood
   pub texts-understood : telling.TextsUnderstood
@@ -270,6 +273,7 @@ pub record Promises : Type 1 where
   pub label-bounds : label-writer.LabelBounds
   pub label-bytes : label-writer.LabelBytes
   pub label-written : label-writer.LabelWritten
+  pub sections-is : label-writer.SectionsIs
   pub footage-is : footage-writer.FootageIs
   pub fourteen-bytes : footage-writer.FourteenBytes
   pub some-digit : runtime-writer.SomeDigit
@@ -338,6 +342,7 @@ pub record Promises : Type 1 where
   pub understood : asking.Understood
   pub only-understood : asking.OnlyUnderstood
   pub marks-belong : asking.MarksBelong
+  pub why-asked : asking.WhyAsked
   pub records-exactly : asking-records.RecordsExactly
   pub hex-exactly : hex.HexExactly
   pub hex-one : hex.HexOne

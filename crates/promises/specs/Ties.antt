@@ -21,6 +21,8 @@ use Rattle.rates.specs.Rates.{rateAt}
 use Rattle.timecodes.specs.Made.{settled}
 use Rattle.reading.specs.For.{readFor}
 use Rattle.reading.specs.Answer as reading
+use Rattle.showing.specs.Why.{whyOn}
+use Rattle.streams.specs.Sheet.{sheet}
 use Rattle.phrases.specs.Phrases.{phraseOf}
 use Rattle.reasons.specs.Why.{phraseFor, whyOf}
 use Rattle.runtime_reading.specs.Reading.{readRuntime}
@@ -41,6 +43,8 @@ use Rattle.reading.proofs.read_text.Reads as read-text-reads
 use Rattle.reading.proofs.number as reading-number
 use Rattle.reading.proofs.number.Reads as reading-number-reads
 use Rattle.reasons.proofs.why as why
+use Rattle.showing.proofs.show_why as show-why
+use Rattle.showing.proofs.show_why.Reads as show-why-reads
 use Rattle.reasons.proofs.why.Reads as why-reads
 use Rattle.phrases.proofs.write_phrase as write-phrase
 use Rattle.phrases.proofs.write_phrase.Reads as write-phrase-reads
@@ -172,6 +176,10 @@ pub record Ties : Type 0 where
   pub write-list : Gives write-list.ended write-list-reads.Learnt (λ κs a x.
       (x .0 ≡ answerTo (a .1 .0 .now) (a .1 .1 .0) (listDraft (a .0 .now)))
       × (x .1 .1 .0 ≡ lineTo (a .1 .0 .now) (a .1 .1 .0) (listDraft (a .0 .now))))
+  -- shown by the calculator
+  pub show-why : Gives show-why.ended show-why-reads.Learnt (λ κs a x.
+      (x .0 ≡ whyOn (sheet (a .0 .now) (a .1 .0)) (a .1 .1 .1 .0) (a .1 .1 .0) (a .1 .1 .1 .1 .0 .now) .used)
+      × (x .1 .0 ≡ whyOn (sheet (a .0 .now) (a .1 .0)) (a .1 .1 .1 .0) (a .1 .1 .0) (a .1 .1 .1 .1 .0 .now) .bytes))
   -- what an answer holds
   pub answers-number : Gives answers-number.ended answers-number-reads.Learnt (λ κs a x. x .0 ≡ answers.numberOf (a .0))
   pub answers-count : Gives answers-count.ended answers-count-reads.Learnt (λ κs a x. x .0 ≡ answers.countOf (a .0))

@@ -110,9 +110,13 @@ pub data StrictFact (timebase : ℕ) (minus : Bool) (fields : List ℕ) (f : Fau
 pub data FactHolds (l : List ℕ) (stated : Stated) (rate : ℕ) : (number : ℕ) → Fact → Type 0 where
   -- 0, accepted; and 1, 2, 4 and 6
   none : {n : ℕ} → (n ≤ 2) ⊎ ((n ≡ 4) ⊎ (n ≡ 6)) → FactHolds l stated rate n Nothing
+  -- 3: the first allowed label of the text's minute
   dropped : {minus : Bool} {fields : List ℕ} {s : TimecodeSections}
       → LabelText l minus fields → FirstOfMinute rate minus fields s → FactHolds l stated rate 3 (First s)
+  -- 5: the count
   out-of-bounds : {f : Fault} → CountFact l stated rate f → FactHolds l stated rate 5 (Limit f)
+  -- 13: a field of a footage
   not-on-film : {f : Fault} → FootageFact l stated f → FactHolds l stated rate 13 (Limit f)
+  -- 14: the sign of a label, or a field
   not-strict : {minus : Bool} {fields : List ℕ} {f : Fault}
       → LabelText l minus fields → StrictFact (rateRow rate .timebase) minus fields f → FactHolds l stated rate 14 (Limit f)

@@ -11,6 +11,7 @@ use Rattle.answers.specs.declared.Refusal.{Refusal}
 use Rattle.answers.specs.Refusals.{noRoom}
 use Rattle.timecodes.specs.declared.kinds.Kind.{Kind}
 use Rattle.written.specs.Written.{Text, lineTo}
+use Rattle.phrases.specs.Phrases.{phraseOf}
 use Rattle.reading.specs.declared.Stated.{Stated}
 use Rattle.reading.specs.Answer.{numberOf, placeOf}
 use Rattle.reading.specs.For.{readFor}
@@ -20,8 +21,7 @@ use Rattle.reasons.specs.declared.Reasoned.the-variants.{Told, Refused}
 use Rattle.reasons.specs.Why.{phraseFor, whyOf}
 use Rattle.reasons.specs.Holds.{FactHolds}
 
--- what is told holds the reader's own answer: so the number and the place are those that it gives, and an accepted text's timecode is that
--- which it reads
+-- what is told holds the reader's own answer, and so its number and its place; of an accepted text its timecode
 abbrev pub ReadersOwn : Type 0
 ReadersOwn =
     (kind : Kind) (l : List ℕ) (stated : Stated) (rate : ℕ) (line : List ℕ) (place : ℕ) (r : Reason)
@@ -41,13 +41,13 @@ OneFact =
     (kind : Kind) (l : List ℕ) (stated : Stated) (rate : ℕ) (line : List ℕ) (place : ℕ) (r : Reason) (f : Fact)
     → whyOf kind l stated rate line place ≡ Told r → FactHolds l stated rate (numberOf (readFor kind l stated rate)) f → f ≡ r .fact
 
--- the phrase of that number stands in the line from its place on, and the length told is its length
+-- the phrase of the reader's number stands in the line from its place on, and the length told is its length
 abbrev pub PhraseTold : Type 0
 PhraseTold =
     (kind : Kind) (l : List ℕ) (stated : Stated) (rate : ℕ) (line : List ℕ) (place : ℕ) (r : Reason)
     → whyOf kind l stated rate line place ≡ Told r
-    → (r .length ≡ length (phraseFor kind l stated rate))
-    × (lineTo line place (Text (phraseFor kind l stated rate)) ≡ splice line place (phraseFor kind l stated rate))
+    → (r .length ≡ length (phraseOf (numberOf (readFor kind l stated rate))))
+    × (lineTo line place (Text (phraseFor kind l stated rate)) ≡ splice line place (phraseOf (numberOf (readFor kind l stated rate))))
 
 -- nothing is told, and 8 is given, exactly when place plus the phrase's length exceeds the line's length
 abbrev pub WhyRefused : Type 0

@@ -35,7 +35,7 @@ use Rattle.telling.specs.Facts.{limitPieces, firstPieces, countedPieces,
 use Rattle.telling.specs.Told.{statedIn, readIn, factIn, phraseIn, placeOf, frontPieces, reasonPieces, toldPieces, toldText}
 use Rattle.telling.specs.Answered.{questionPieces, textPieces}
 use Rattle.telling.specs.Joined.{wordPieces}
-use Rattle.telling.specs.Statements.{ToldStands, AnswerStands, WordStands, spaces, caretText, RefusedTold, LabelTold, FootageTold, ShownColumns, CaretUnder, FactsRead, QuestionUnderstood, TextsUnderstood}
+use Rattle.telling.specs.Statements.{ToldStands, AnswerStands, WordStands, spaces, caretText, RefusedTold, LabelTold, FootageTold, ShownColumns, CaretUnder, CountedRead, LimitRead, FirstRead, FactsRead, QuestionUnderstood, TextsUnderstood}
 use Rattle.telling.proofs.Understanding.{exactly-asked, exactly-texts}
 
 -- ---- with room, each piece stands behind the one before it
@@ -184,3 +184,16 @@ question-understood = exactly-asked
 
 pub texts-understood : TextsUnderstood
 texts-understood = exactly-texts
+
+-- ---- the facts, whole
+pub counted-read : CountedRead
+unfolding together countedPieces
+counted-read tc = refl
+
+pub limit-read : LimitRead
+unfolding together limitPieces
+limit-read f e = rw e
+
+pub first-read : FirstRead
+unfolding together firstPieces
+first-read rate s = refl

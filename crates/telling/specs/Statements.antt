@@ -10,10 +10,15 @@ use Rattle.laws.specs.Spelt.{spelt}
 use Rattle.laws.specs.Every.{every}
 use Rattle.answers.specs.declared.Refusal.{Refusal}
 use Rattle.faults.specs.declared.Field.the-variants as field
+use Rattle.faults.specs.declared.Fault.{Fault}
 use Rattle.faults.specs.Faults.{fault}
 use Rattle.timecodes.specs.declared.Timecode.{Timecode}
 use Rattle.film.specs.declared.FilmFormat.{FilmFormat}
 use Rattle.written.specs.Parts.{signedText}
+use Rattle.label_writer.specs.declared.TimecodeSections.{TimecodeSections}
+use Rattle.label_writer.specs.Sections.{sectioned}
+use Rattle.label_writer.specs.LabelText.{framesMark, sectionsText}
+use Rattle.time.specs.Ticks.{ticksOf}
 use Rattle.phrases.specs.Phrases.{phraseOf}
 use Rattle.reading.specs.declared.Read.the-variants as read
 use Rattle.streams.specs.Sheet.{Sheet, textOn}
@@ -21,7 +26,7 @@ use Rattle.streams.specs.Parting.{together}
 use Rattle.telling.specs.declared.told.Way.{Way}
 use Rattle.telling.specs.Pieces.{allOn}
 use Rattle.telling.specs.Shown.{isPrintable, shownByte, shownPieces, hasPlace, caretPieces}
-use Rattle.telling.specs.Facts.{limitPieces, firstPieces, countedPieces, factPieces}
+use Rattle.telling.specs.Facts.{countText, labelIn, ticksText, fieldWord, isSign, limitPieces, firstPieces, countedPieces, factPieces}
 use Rattle.telling.specs.Told.{readIn, factIn, toldPieces, toldText}
 use Rattle.telling.specs.declared.questions.Question.the-variants.{Asked, NoText}
 use Rattle.telling.specs.Question.{questionOf}
@@ -99,6 +104,28 @@ abbrev pub CaretUnder : Type 0
 CaretUnder = (place : ℕ) → (together (caretPieces place) ≡ spaces place ++ (94 ∷ 10 ∷ [])) × (length (spaces place) ≡ place)
 
 -- ---- the facts
+-- of an accepted text its count, its label and its ticks
+abbrev pub CountedRead : Type 0
+CountedRead =
+    (tc : Timecode)
+    → together (countedPieces tc)
+    ≡ spelt "count "
+    ++ (countText (tc .count)
+    ++ (spelt ", label " ++ (labelIn (tc .rate) (sectioned tc) ++ (spelt ", ticks " ++ (ticksText (ticksOf tc) ++ (10 ∷ []))))))
+
+-- of a field that is no sign its word, its value, and the limit
+abbrev pub LimitRead : Type 0
+LimitRead =
+    (f : Fault) → isSign (f .field) ≡ false
+    → together (limitPieces f)
+    ≡ fieldWord (f .field) ++ (signedText (f .minus) (f .value) ++ (spelt ", nearest allowed: " ++ (signedText (f .minus) (f .limit) ++ (10 ∷ []))))
+
+-- of 3 the label, as it is written at the rate
+abbrev pub FirstRead : Type 0
+FirstRead =
+    (rate : ℕ) (s : TimecodeSections)
+    → together (firstPieces rate s) ≡ spelt "first label of this minute: " ++ (sectionsText (framesMark rate) s ++ (10 ∷ []))
+
 -- they read so in plain words, one case of each
 pub record FactsRead : Type 0 where
   pub first : together (firstPieces 5 (record { negative = true; hours = 2; minutes = 15; seconds = 0; frames = 2 }))
