@@ -128,6 +128,7 @@ promises = record {
   readers-own = reasons.readers-own;
   fact-told = reasons.fact-told;
   one-fact = reasons.one-fact;
+  fact-fits = reasons.fact-fits;
   phrase-told = reasons.phrase-told;
   why-refused = reasons.why-refused;
   why-keeps = reasons.why-keeps;

@@ -130,6 +130,7 @@ pub record Promises : Type 1 where
   pub readers-own : reasons.ReadersOwn
   pub fact-told : reasons.FactTold
   pub one-fact : reasons.OneFact
+  pub fact-fits : reasons.FactFits
   pub phrase-told : reasons.PhraseTold
   pub why-refused : reasons.WhyRefused
   pub why-keeps : reasons.WhyKeeps

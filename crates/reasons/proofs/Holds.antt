@@ -33,7 +33,7 @@ use Rattle.reasons.proofs.Film.{thirteen-holds}
 use Rattle.reasons.proofs.Strict.{fourteen-holds}
 
 -- a number that shows nothing
-nothing-by : (n rate : ℕ) (stated : Stated) (x : Shaped) → ¬ (n ≡ 3) → ¬ (n ≡ 5) → ¬ (n ≡ 13) → ¬ (n ≡ 14) → factBy n rate stated x ≡ Nothing
+pub nothing-by : (n rate : ℕ) (stated : Stated) (x : Shaped) → ¬ (n ≡ 3) → ¬ (n ≡ 5) → ¬ (n ≡ 13) → ¬ (n ≡ 14) → factBy n rate stated x ≡ Nothing
 nothing-by n rate stated (label minus fields) a b c d = label-none n rate minus fields a b d
 nothing-by n rate stated (footage minus feet frames perf marker) a b c d = footage-none n _ minus feet frames perf marker b c
 nothing-by n rate stated (refused e) a b c d = refl

@@ -6,5 +6,6 @@ pub mod Film
 pub mod Strict
 pub mod Holds
 pub mod One
+pub mod Fits
 pub mod Statements
 pub mod Determined

@@ -2,7 +2,7 @@
 -- Assumes nothing.
 use Prim.Native.Nat.{ℕ}
 use native.Mathlib.Omega.{arith}
-use mathlib.Core.Path.{_≡_, sym, ap, _∙_, subst}
+use mathlib.Core.Path.{_≡_, refl, sym, ap, _∙_, subst}
 use mathlib.Core.Bool.{Bool, true, false, not, cond}
 use mathlib.Core.List.{List}
 use lib.ListN.{length}
@@ -24,8 +24,13 @@ use Rattle.reasons.specs.declared.Reasoned.{Reasoned}
 use Rattle.reasons.specs.declared.Reasoned.the-variants.{Told, Refused}
 use Rattle.reasons.specs.Why.{factOf, phraseFor, toldAs, whyOf}
 use Rattle.reasons.specs.Holds.{FactHolds}
-use Rattle.reasons.specs.Statements.{ReadersOwn, FactTold, OneFact, PhraseTold, WhyRefused, WhyKeeps}
-use Rattle.reasons.proofs.Holds.{number-holds}
+use Rattle.reasons.specs.Statements.{ReadersOwn, FactTold, OneFact, FactFits, PhraseTold, WhyRefused, WhyKeeps}
+use Rattle.rates.specs.Rates.{isRate}
+use Rattle.reading.specs.Shaped.{shapeOf}
+use Rattle.reading.specs.ForLaws.{for-no-rate}
+use Rattle.reasons.specs.Facts.{factBy}
+use Rattle.reasons.proofs.Holds.{nothing-by, number-holds}
+use Rattle.reasons.proofs.Fits.{SmallFact, fact-small}
 use Rattle.reasons.proofs.One.{same-fact}
 
 -- what stands in an answer, by its parts
@@ -87,6 +92,24 @@ fact-told kind l stated rate line place r e =
 pub one-fact : OneFact
 one-fact kind l stated rate line place r f e h =
     same-fact l stated rate (numberOf (readFor kind l stated rate)) f (r .fact) h (fact-told kind l stated rate line place r e)
+
+-- at a rate by what was scanned; else 6 shows nothing
+small-fact : (kind : Kind) (l : List ℕ) (stated : Stated) (rate : ℕ) → SmallFact (factOf kind l stated rate)
+unfolding factOf
+small-fact kind l stated rate = by (isRate rate) refl
+  where
+    by : (t : Bool) → isRate rate ≡ t → SmallFact (factBy (numberOf (readFor kind l stated rate)) rate stated (shapeOf stated l))
+    by true e = fact-small (numberOf (readFor kind l stated rate)) rate stated l e
+    by false e =
+        let six = ap numberOf (for-no-rate kind l stated rate e) in
+        subst SmallFact
+        (sym (nothing-by (numberOf (readFor kind l stated rate)) rate stated (shapeOf stated l) (λ x. omega (arith, six, x)) (λ x. omega (arith, six, x))
+        (λ x. omega (arith, six, x)) (λ x. omega (arith, six, x))))
+        tt
+
+pub fact-fits : FactFits
+fact-fits kind l stated rate line place r f e g =
+    subst SmallFact (sym (told-parts kind l stated rate line place r e .fact-is) ∙ g) (small-fact kind l stated rate)
 
 pub phrase-told : PhraseTold
 phrase-told kind l stated rate line place r e =

@@ -1,7 +1,7 @@
 -- What is told of a text (BEHAVIOUR: Why): the reader's own number and place, a fact that holds of the text, and its phrase. Proofs:
 -- proofs/Statements.antt.
 -- Assumes nothing.
-use Prim.Native.Nat.{ℕ, _+_, _<_}
+use Prim.Native.Nat.{ℕ, _+_, _^_, _<_}
 use mathlib.Core.Path.{_≡_}
 use mathlib.Core.Logic.{_↔_}
 use mathlib.Core.List.{List}
@@ -15,7 +15,9 @@ use Rattle.phrases.specs.Phrases.{phraseOf}
 use Rattle.reading.specs.declared.Stated.{Stated}
 use Rattle.reading.specs.Answer.{numberOf, placeOf}
 use Rattle.reading.specs.For.{readFor}
+use Rattle.faults.specs.declared.Fault.{Fault}
 use Rattle.reasons.specs.declared.Fact.{Fact}
+use Rattle.reasons.specs.declared.Fact.the-variants.{Limit}
 use Rattle.reasons.specs.declared.Reason.{Reason}
 use Rattle.reasons.specs.declared.Reasoned.the-variants.{Told, Refused}
 use Rattle.reasons.specs.Why.{phraseFor, whyOf}
@@ -40,6 +42,12 @@ abbrev pub OneFact : Type 0
 OneFact =
     (kind : Kind) (l : List ℕ) (stated : Stated) (rate : ℕ) (line : List ℕ) (place : ℕ) (r : Reason) (f : Fact)
     → whyOf kind l stated rate line place ≡ Told r → FactHolds l stated rate (numberOf (readFor kind l stated rate)) f → f ≡ r .fact
+
+-- a limit and a value that are told fit 64 bits with their sign
+abbrev pub FactFits : Type 0
+FactFits =
+    (kind : Kind) (l : List ℕ) (stated : Stated) (rate : ℕ) (line : List ℕ) (place : ℕ) (r : Reason) (f : Fault)
+    → whyOf kind l stated rate line place ≡ Told r → r .fact ≡ Limit f → (f .limit < 2 ^ 63) × (f .value < 2 ^ 63)
 
 -- the phrase of the reader's number stands in the line from its place on, and the length told is its length
 abbrev pub PhraseTold : Type 0

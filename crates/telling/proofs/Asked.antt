@@ -1,7 +1,7 @@
 -- What a question that is understood has: a number, and a space behind it.
 -- Assumes nothing.
 use Prim.Native.Nat.{ℕ, _+_, _-_, _≤_}
-use mathlib.Core.Path.{_≡_, refl, sym, ap, _∙_}
+use mathlib.Core.Path.{_≡_, refl}
 use mathlib.Core.List.{List}
 use mathlib.Core.Bool.{Bool, true, false, cond}
 use native.Mathlib.Omega.{arith}
@@ -12,7 +12,6 @@ use Rattle.digits.specs.Digits.{isByte, firstIs, runOf}
 use Rattle.asking.proofs.Numbers.{stands-by}
 use Rattle.telling.specs.declared.told.Way.{Way}
 use Rattle.telling.specs.declared.questions.Options.{Options}
-use Rattle.telling.specs.declared.questions.Question.{Question}
 use Rattle.telling.specs.declared.questions.Question.the-variants.{Asked, NoText, NotUnderstood}
 use Rattle.telling.specs.Question.{isNumber, wayOf, endedAt, ratedIn, noOption, optionOf, questionOf}
 

@@ -1,10 +1,10 @@
 -- The cases of a limit, of a caret and of a number before its phrase.
 -- Assumes nothing.
 use Prim.Native.Nat.{ℕ}
-use mathlib.Core.Path.{_≡_, refl, sym}
+use mathlib.Core.Path.{_≡_, refl}
 use mathlib.Core.List.{List, [], _∷_, _++_}
 use mathlib.Core.Bool.{Bool, true, false, cond}
-use borrow.Author.Tests.{eq-eqb, ne-eqb}
+use borrow.Author.Tests.{ne-eqb}
 use Rattle.laws.specs.Spelt.{spelt}
 use Rattle.faults.specs.declared.Fault.{Fault}
 use Rattle.written.specs.Parts.{signedText}

@@ -3,22 +3,19 @@
 use Prim.Native.Nat.{ℕ, suc, _+_, _≤_}
 use mathlib.Core.Path.{_≡_, refl, sym, ap, _∙_}
 use mathlib.Core.List.{List, [], _∷_, _++_, append-nil}
-use mathlib.Core.Bool.{Bool, true, false, cond, _&&_}
+use mathlib.Core.Bool.{Bool, true, false, cond}
 use native.Mathlib.Omega.{arith}
-use lib.Dec.{eqb}
 use lib.ListN.{length, drop}
 use lib.Seq.{drop-drop, drop-at}
-use borrow.Author.Tests.{eq-eqb, ne-eqb, le-leb}
+use borrow.Author.Tests.{ne-eqb, le-leb}
 use Rattle.laws.specs.Spelt.{spelt}
-use Rattle.digits.specs.declared.Run.{Run}
-use Rattle.digits.specs.Digits.{isByte, firstIs, digitFirst, IsField, valueOf, runOf}
+use Rattle.digits.specs.Digits.{digitFirst, IsField, valueOf, runOf}
 use Rattle.digits.proofs.Values.{digit-bounds}
 use Rattle.digits.proofs.Runs.{run-nine, field-first}
 use Rattle.asking.specs.Table.{wordFirst}
 use Rattle.telling.specs.declared.questions.Options.{Options}
-use Rattle.telling.specs.declared.questions.Question.{Question}
-use Rattle.telling.specs.declared.questions.Question.the-variants.{Asked, NoText, NotUnderstood}
-use Rattle.telling.specs.Question.{oneOf, positionWord, formatWord, isNumber, noOption, withPosition, withFormat, formatAt, formatIn, optionIn, optionOf, wayOf, endedAt, ratedIn}
+use Rattle.telling.specs.declared.questions.Question.the-variants.{Asked, NoText}
+use Rattle.telling.specs.Question.{oneOf, isNumber, noOption, withPosition, withFormat, formatAt, formatIn, optionIn, optionOf, wayOf, endedAt, ratedIn}
 use Rattle.telling.specs.Grammar.{Numeral, numeral, PositionWord, short-position, long-position, FormatWord, short-format, long-format, Front, no-option, one-position, one-format, position-format, format-position}
 
 -- ---- numbers

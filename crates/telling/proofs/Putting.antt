@@ -1,7 +1,7 @@
 -- Pieces put on a sheet one behind the other: each goes on from what the one before it left.
 -- Assumes nothing.
 use Prim.Native.Nat.{ℕ}
-use mathlib.Core.Path.{_≡_, refl, sym, ap, subst, _∙_}
+use mathlib.Core.Path.{_≡_, refl, ap, subst, _∙_}
 use mathlib.Core.List.{List, [], _∷_, _++_}
 use Rattle.streams.specs.Sheet.{Sheet, sheet, putOn}
 use Rattle.telling.specs.Pieces.{allOn}

@@ -3,9 +3,8 @@
 use Prim.Native.Nat.{ℕ, zero, suc, _+_, _≤_}
 use mathlib.Core.Path.{_≡_, refl, sym, ap, _∙_}
 use mathlib.Core.List.{List, [], _∷_, _++_, map, append-assoc, append-nil}
-use mathlib.Core.Bool.{Bool, true, false, cond, _&&_, and-eq-true-iff}
+use mathlib.Core.Bool.{Bool, true, false, cond, and-eq-true-iff}
 use native.Mathlib.Omega.{arith}
-use lib.Dec.{eqb, leb}
 use lib.ListN.{length, length-append}
 use borrow.Author.Tests.{ne-eqb}
 use Rattle.laws.specs.Spelt.{spelt}
@@ -27,12 +26,12 @@ use Rattle.reasons.specs.Why.{factOf}
 use Rattle.reading.specs.declared.Stated.{Stated}
 use Rattle.streams.specs.Sheet.{Sheet, textOn, putOn}
 use Rattle.streams.specs.Parting.{together}
-use Rattle.streams.proofs.Putting.{Laid, put-is}
+use Rattle.streams.proofs.Putting.{put-is}
 use Rattle.telling.specs.declared.told.Way.{Way}
 use Rattle.telling.specs.Pieces.{lineEnd, allOn}
 use Rattle.telling.specs.Shown.{isPrintable, shownByte, shownPieces, hasPlace, caretPieces, placePieces}
-use Rattle.telling.specs.Facts.{limitPieces, firstPieces, countedPieces, acceptedPieces, factPieces}
-use Rattle.telling.specs.Told.{statedIn, readIn, factIn, phraseIn, placeOf, frontPieces, reasonPieces, toldPieces, toldText}
+use Rattle.telling.specs.Facts.{limitPieces, firstPieces, countedPieces, factPieces}
+use Rattle.telling.specs.Told.{statedIn, readIn, factIn, phraseIn, placeOf, frontPieces, reasonPieces, toldPieces}
 use Rattle.telling.specs.Answered.{questionPieces, textPieces}
 use Rattle.telling.specs.Joined.{wordPieces}
 use Rattle.telling.specs.Statements.{ToldStands, AnswerStands, WordStands, spaces, caretText, RefusedTold, LabelTold, FootageTold, ShownColumns, CaretUnder, CountedRead, LimitRead, FirstRead, FactsRead, QuestionUnderstood, TextsUnderstood}

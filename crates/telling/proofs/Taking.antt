@@ -2,21 +2,19 @@
 -- Assumes nothing.
 use Prim.Native.Nat.{ℕ, _+_, _≤_}
 use mathlib.Core.Path.{_≡_, refl, sym, ap, _∙_, subst}
-use mathlib.Core.List.{List, [], _∷_, _++_, append-nil}
+use mathlib.Core.List.{List, [], _∷_, _++_}
 use mathlib.Core.Bool.{Bool, true, false, cond, not, _&&_, and-eq-true-iff}
 use native.Mathlib.Omega.{arith}
 use lib.Dec.{eqb, leb}
-use lib.ListN.{length, drop, length-drop}
+use lib.ListN.{length, drop}
 use borrow.Author.Tests.{eqb-true, leb-true}
 use Rattle.laws.specs.Spelt.{spelt}
-use Rattle.digits.specs.declared.Run.{Run}
-use Rattle.digits.specs.Digits.{isByte, firstIs, IsField, valueOf, leading, span, runOf}
+use Rattle.digits.specs.Digits.{isByte, firstIs, leading, runOf}
 use Rattle.digits.proofs.Runs.{field-value, leading-field, leading-length, leading-rest, run-count, run-value}
 use Rattle.asking.specs.Table.{wordFirst}
 use Rattle.asking.proofs.Standing.{word-front}
-use Rattle.telling.specs.declared.told.Way.{Way}
 use Rattle.telling.specs.declared.questions.Options.{Options}
-use Rattle.telling.specs.Question.{oneOf, positionWord, formatWord, isNumber, noOption, withPosition, withFormat, formatAt, formatIn, optionIn, optionOf}
+use Rattle.telling.specs.Question.{oneOf, isNumber, noOption, withPosition, withFormat, formatAt, formatIn, optionIn, optionOf}
 use Rattle.telling.specs.Grammar.{Numeral, numeral, PositionWord, short-position, long-position, FormatWord, short-format, long-format, Front, no-option, one-position, one-format, position-format, format-position}
 use Rattle.telling.proofs.Passing.{behind, number-behind}
 

@@ -1,18 +1,17 @@
 -- The reason behind an answer, with its phrase in a line of 128 bytes.
 -- Assumes nothing.
 use Prim.Native.Nat.{ℕ, _+_, _-_, _≤_}
-use mathlib.Core.Path.{_≡_, refl, sym, ap, _∙_}
-use mathlib.Core.List.{List, [], _∷_, _++_}
+use mathlib.Core.Path.{_≡_, refl, ap, _∙_}
+use mathlib.Core.List.{List, _∷_, _++_}
 use mathlib.Core.Bool.{Bool, true, false}
 use native.Mathlib.Omega.{arith}
 use lib.Dec.{leb}
 use lib.ListN.{length, take, drop}
 use borrow.Author.Tests.{leb-true, leb-false}
-use Rattle.lent.specs.Line.{splice}
 use Rattle.lent.proofs.Laws.{splice-there}
 use Rattle.lent.proofs.Statements.{same-length}
 use Rattle.timecodes.specs.declared.kinds.Kind.{Kind}
-use Rattle.written.specs.Written.{Text, answerTo, lineTo}
+use Rattle.written.specs.Written.{Text, lineTo}
 use Rattle.written.proofs.Laws.{text-written}
 use Rattle.phrases.specs.Phrases.{phraseOf}
 use Rattle.phrases.proofs.Statements.{phrases-plain, no-phrase}
@@ -30,7 +29,7 @@ use Rattle.telling.specs.declared.told.Way.{Way}
 use Rattle.telling.specs.Pieces.{lineEnd}
 use Rattle.telling.specs.Shown.{shownPieces, placePieces}
 use Rattle.telling.specs.Facts.{factPieces}
-use Rattle.telling.specs.Told.{kindIn, statedIn, readIn, factIn, phraseIn, placeOf, frontPieces, reasonPieces, toldPieces}
+use Rattle.telling.specs.Told.{kindIn, statedIn, placeOf, frontPieces, reasonPieces, toldPieces}
 
 -- ---- by its parts
 pub reason-is : (rate : ℕ) (text : List ℕ) (r : Read) (f : Fact) (phrase : List ℕ) (number place : ℕ) → number ≡ numberOf r → place ≡ placeOf r

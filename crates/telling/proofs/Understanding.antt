@@ -2,7 +2,6 @@
 -- Assumes nothing.
 use Prim.Native.Nat.{ℕ, _+_}
 use mathlib.Core.Path.{_≡_, refl, sym, ap, _∙_, subst}
-use mathlib.Core.Logic.{_↔_}
 use mathlib.Core.List.{List, [], _∷_, _++_, append-nil}
 use mathlib.Core.Bool.{Bool, true}
 use native.Mathlib.Omega.{arith}
@@ -10,10 +9,9 @@ use lib.ListN.{length, drop}
 use borrow.Author.Tests.{eqb-true}
 use Rattle.digits.specs.Digits.{digitFirst, leading, runOf}
 use Rattle.telling.specs.declared.told.Way.{Way}
-use Rattle.telling.specs.declared.questions.Options.{Options}
 use Rattle.telling.specs.declared.questions.Question.the-variants.{Asked, NoText}
 use Rattle.telling.specs.Question.{noOption, optionOf, wayOf, ratedIn, ratedOf, questionOf}
-use Rattle.telling.specs.Grammar.{Numeral, Front, wayBy, Asks, asks, AsksTexts, asks-texts}
+use Rattle.telling.specs.Grammar.{Front, Asks, asks, AsksTexts, asks-texts}
 use Rattle.telling.specs.Statements.{Understood, QuestionUnderstood, TextsUnderstood}
 use Rattle.telling.proofs.Asked.{asked-rated, alone-rated}
 use Rattle.telling.proofs.Passing.{behind, Reached, reached, pass-rate, pass-rate-alone, rate-first}

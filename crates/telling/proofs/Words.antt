@@ -3,19 +3,18 @@
 use Prim.Native.Nat.{ℕ, _+_, _≤_, _<_}
 use mathlib.Core.Path.{_≡_, refl, sym, ap, _∙_}
 use mathlib.Core.List.{List}
-use mathlib.Core.Bool.{Bool, true, false, cond, not, _&&_}
+use mathlib.Core.Bool.{Bool, true, false, cond}
 use native.Mathlib.Omega.{arith}
 use lib.Dec.{eqb, leb}
 use lib.ListN.{length, drop, length-drop}
 use lib.Seq.{drop-drop}
 use borrow.Author.Tests.{eq-eqb, ne-eqb}
 use Rattle.digits.specs.declared.Run.{Run}
-use Rattle.digits.specs.Digits.{isByte, firstIs, span, runOf}
+use Rattle.digits.specs.Digits.{isByte, firstIs, runOf}
 use Rattle.digits.proofs.Runs.{span-within, run-count}
 use Rattle.asking.specs.Table.{wordFirst}
 use Rattle.asking.proofs.Standing.{word-length}
 use Rattle.telling.specs.declared.questions.Options.{Options}
-use Rattle.telling.specs.declared.questions.Question.{Question}
 use Rattle.telling.specs.declared.questions.Question.the-variants.{Asked, NoText, NotUnderstood}
 use Rattle.telling.specs.Question.{oneOf, positionWord, formatWord, isNumber, noOption, withPosition, withFormat, formatAt, formatIn, optionIn, optionOf, wayOf, endedAt, ratedIn, ratedOf, questionOf}
 

@@ -1,7 +1,7 @@
 -- What a question is made of (docs/WHY.md), as a grammar: no reader stands in it. Words are divided by one space.
 -- Assumes nothing.
 use Prim.Native.Nat.{ℕ, _≤_}
-use mathlib.Core.List.{List, [], _∷_, _++_}
+use mathlib.Core.List.{List, _∷_, _++_}
 use mathlib.Core.Bool.{Bool, true, false}
 use lib.ListN.{length}
 use Rattle.laws.specs.Spelt.{spelt}

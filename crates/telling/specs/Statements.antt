@@ -25,7 +25,7 @@ use Rattle.streams.specs.Sheet.{Sheet, textOn}
 use Rattle.streams.specs.Parting.{together}
 use Rattle.telling.specs.declared.told.Way.{Way}
 use Rattle.telling.specs.Pieces.{allOn}
-use Rattle.telling.specs.Shown.{isPrintable, shownByte, shownPieces, hasPlace, caretPieces}
+use Rattle.telling.specs.Shown.{isPrintable, shownByte, hasPlace, caretPieces}
 use Rattle.telling.specs.Facts.{countText, labelIn, ticksText, fieldWord, isSign, limitPieces, firstPieces, countedPieces, factPieces}
 use Rattle.telling.specs.Told.{readIn, factIn, toldPieces, toldText}
 use Rattle.telling.specs.declared.questions.Question.the-variants.{Asked, NoText}

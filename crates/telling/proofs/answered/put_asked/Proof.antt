@@ -1,7 +1,7 @@
 -- `telling::answered::put_asked` meets its contract: case by case; the text begins within the line.
 -- Assumes nothing.
 use Prim.Native.Nat.{_≤_}
-use mathlib.Core.Path.{_≡_, sym, ap, _∙_}
+use mathlib.Core.Path.{sym, ap, _∙_}
 use native.Mathlib.Omega.{arith}
 use lib.ListN.{length}
 use Rattle.streams.specs.Sheet.{sheet}

@@ -1,6 +1,6 @@
 -- `telling::facts::put_accepted` meets its contract: case by case.
 -- Assumes nothing.
-use mathlib.Core.Path.{refl, sym, ap}
+use mathlib.Core.Path.{sym, ap}
 use Rattle.streams.specs.Sheet.{sheet}
 use Rattle.telling.specs.Facts.{acceptedPieces}
 use Rattle.telling.proofs.Putting.{pieces-same}

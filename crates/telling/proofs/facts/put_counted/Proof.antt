@@ -2,8 +2,7 @@
 -- Assumes nothing.
 use mir.Syntax.{w64}
 use mir.Val.{toZ, ofZ}
-use mathlib.Core.Path.{_≡_, refl, ap}
-use mathlib.Core.List.{[]}
+use mathlib.Core.Path.{_≡_, ap}
 use Rattle.streams.specs.Sheet.{sheet, putOn}
 use Rattle.telling.specs.Facts.{countText}
 use Rattle.telling.proofs.Putting.{leaves-same, puts-same, no-more, on-piece}

@@ -1,7 +1,5 @@
 -- `telling::facts::put_first` meets its contract: each part behind the one before it.
 -- Assumes nothing.
-use mathlib.Core.Path.{refl}
-use mathlib.Core.List.{[]}
 use Rattle.streams.specs.Sheet.{sheet}
 use Rattle.telling.proofs.Putting.{puts-same, no-more, on-piece}
 use Rattle.telling.proofs.Cases.{first-is}

@@ -1,7 +1,6 @@
 -- `telling::facts::put_limit` meets its contract: that there is no sign, or each part behind the one before it.
 -- Assumes nothing.
-use mathlib.Core.Path.{refl, sym, _∙_}
-use mathlib.Core.List.{[]}
+use mathlib.Core.Path.{sym, _∙_}
 use Rattle.streams.specs.Sheet.{sheet}
 use Rattle.telling.proofs.Putting.{pieces-same, puts-same, no-more, on-piece}
 use Rattle.telling.proofs.Cases.{limit-sign, limit-nearest}

@@ -1,7 +1,6 @@
 -- `telling::pieces::shown` meets its contract: printable ASCII is kept.
 -- Assumes nothing.
 use Rattle.telling.proofs.Lines.{shown-control, shown-past, shown-plain}
-use borrow.Author.Needs.{needs}
 use Rattle.telling.proofs.pieces.shown.Statement.{statement}
 use Rattle.telling.proofs.pieces.shown.Tie as tie
 

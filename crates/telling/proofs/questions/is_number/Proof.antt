@@ -1,7 +1,6 @@
 -- `telling::questions::is_number` meets its contract: by the test.
 -- Assumes nothing.
 use Rattle.telling.proofs.Words.{number-empty, number-nine}
-use borrow.Author.Needs.{needs}
 use Rattle.telling.proofs.questions.is_number.Statement.{statement}
 use Rattle.telling.proofs.questions.is_number.Tie as tie
 

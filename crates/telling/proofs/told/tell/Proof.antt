@@ -1,6 +1,6 @@
 -- `telling::told::tell` meets its contract: the phrase has room, and is told with the reader's answer.
 -- Assumes nothing.
-use mathlib.Core.Path.{refl, sym, _∙_}
+use mathlib.Core.Path.{refl, _∙_}
 use Rattle.streams.specs.Sheet.{sheet}
 use Rattle.telling.proofs.Putting.{pieces-same}
 use Rattle.telling.proofs.Telling.{never-refused, told-within, told-pieces, told-so}
