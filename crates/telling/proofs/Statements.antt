@@ -17,7 +17,7 @@ use Rattle.written.specs.Parts.{signedText}
 use Rattle.phrases.specs.Phrases.{phrases, phraseOf}
 use Rattle.reading.specs.declared.Read.{Read}
 use Rattle.reading.specs.declared.Read.the-variants as read
-use Rattle.reading.specs.Answer.{numberOf}
+use Rattle.reading.specs.Answer.{numberOf, placeOf}
 use Rattle.reading.specs.Shaped.{Shaped, label, footage, refused, shapeOf}
 use Rattle.reasons.specs.declared.Fact.{Fact}
 use Rattle.reasons.specs.declared.Fact.the-variants.{Nothing}
@@ -31,7 +31,7 @@ use Rattle.telling.specs.declared.told.Way.{Way}
 use Rattle.telling.specs.Pieces.{lineEnd, allOn}
 use Rattle.telling.specs.Shown.{isPrintable, shownByte, shownPieces, hasPlace, caretPieces, placePieces}
 use Rattle.telling.specs.Facts.{limitPieces, firstPieces, countedPieces, factPieces}
-use Rattle.telling.specs.Told.{statedIn, readIn, factIn, phraseIn, placeOf, frontPieces, reasonPieces, toldPieces}
+use Rattle.telling.specs.Told.{statedIn, readIn, factIn, phraseIn, frontPieces, reasonPieces, toldPieces}
 use Rattle.telling.specs.Answered.{questionPieces, textPieces}
 use Rattle.telling.specs.Joined.{wordPieces}
 use Rattle.telling.specs.Statements.{ToldStands, AnswerStands, WordStands, spaces, caretText, RefusedTold, LabelTold, FootageTold, ShownColumns, CaretUnder, CountedRead, LimitRead, FirstRead, FactsRead, QuestionUnderstood, TextsUnderstood}

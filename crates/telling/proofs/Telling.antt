@@ -18,7 +18,7 @@ use Rattle.phrases.proofs.Statements.{phrases-plain, no-phrase}
 use Rattle.answers.specs.declared.Refusal.{Refusal}
 use Rattle.reading.specs.declared.Stated.{Stated}
 use Rattle.reading.specs.declared.Read.{Read}
-use Rattle.reading.specs.Answer.{numberOf}
+use Rattle.reading.specs.Answer.{numberOf, placeOf}
 use Rattle.reading.specs.For.{readFor}
 use Rattle.reasons.specs.declared.Fact.{Fact}
 use Rattle.reasons.specs.declared.Reason.{Reason}
@@ -29,7 +29,7 @@ use Rattle.telling.specs.declared.told.Way.{Way}
 use Rattle.telling.specs.Pieces.{lineEnd}
 use Rattle.telling.specs.Shown.{shownPieces, placePieces}
 use Rattle.telling.specs.Facts.{factPieces}
-use Rattle.telling.specs.Told.{kindIn, statedIn, placeOf, frontPieces, reasonPieces, toldPieces}
+use Rattle.telling.specs.Told.{kindIn, statedIn, frontPieces, reasonPieces, toldPieces}
 
 -- ---- by its parts
 pub reason-is : (rate : ℕ) (text : List ℕ) (r : Read) (f : Fact) (phrase : List ℕ) (number place : ℕ) → number ≡ numberOf r → place ≡ placeOf r

@@ -12,7 +12,7 @@ use Rattle.reading.specs.declared.Stated.{Stated}
 use Rattle.reading.specs.declared.Stated.the-variants as stated
 use Rattle.reading.specs.declared.Read.{Read}
 use Rattle.reading.specs.declared.Read.the-variants as read
-use Rattle.reading.specs.Answer.{numberOf}
+use Rattle.reading.specs.Answer.{numberOf, placeOf}
 use Rattle.reading.specs.For.{readFor}
 use Rattle.reasons.specs.declared.Fact.{Fact}
 use Rattle.reasons.specs.Why.{factOf, phraseFor}
@@ -42,12 +42,6 @@ factIn way text = factOf (kindIn way) text (statedIn way) (way .rate)
 
 abbrev pub phraseIn : Way → (text : List ℕ) → List ℕ
 phraseIn way text = phraseFor (kindIn way) text (statedIn way) (way .rate)
-
--- the place of a refusal; 0 of what is accepted
-abbrev pub placeOf : Read → ℕ
-placeOf (read.Label tc) = 0
-placeOf (read.Footage tc format) = 0
-placeOf (read.Refused e) = e .place
 
 -- ---- what is told
 -- before the phrase of a refusal its number

@@ -1,9 +1,10 @@
 // What is told of a text that is read in a way: the text, a caret where it has a place, the number with its phrase, and the fact.
 ghost use mathlib.Core.Path.{_≡_};
 ghost use Rattle.streams.specs.Sheet.{sheet};
+ghost use Rattle.reading.specs.Answer.{placeOf};
 ghost use Rattle.telling.specs.Pieces.{allOn};
 ghost use Rattle.telling.specs.Shown.{placePieces};
-ghost use Rattle.telling.specs.Told.{statedIn, placeOf, frontPieces, reasonPieces, toldPieces};
+ghost use Rattle.telling.specs.Told.{statedIn, frontPieces, reasonPieces, toldPieces};
 use crate::facts;
 use crate::pieces;
 use reading::Read;
