@@ -5,8 +5,10 @@ use mathlib.Core.Bool.{Bool, true, false, not, cond}
 use mathlib.Core.List.{[], _∷_}
 use Prim.Native.Nat.{ℕ, _≤_, _<_}
 use native.Mathlib.Omega.{arith}
-use borrow.Author.Tests.{leb-true}
+use borrow.Author.Tests.{leb-true, lt-leb}
 use lib.IntN.{ℤ, natAbs}
+use Rattle.numbers.specs.Sign.{signed}
+use Rattle.numbers.specs.SignLaws.{abs-signed}
 use Rattle.numbers.specs.Nearest.{Nearest, nearestZ}
 use Rattle.numbers.proofs.Statements.{nearest-is}
 use Rattle.answers.specs.declared.Counted.the-variants.{Count, Refused}
@@ -22,6 +24,10 @@ held-in z e = ap (λ (t : Bool). cond (not t) (Refused outOfBounds) (Count z)) e
 pub held-out : (z : ℤ) → isCount z ≡ false → held z ≡ Refused outOfBounds
 unfolding held
 held-out z e = ap (λ (t : Bool). cond (not t) (Refused outOfBounds) (Count z)) e
+
+-- a magnitude above the largest count is refused 5 under either sign
+pub held-past : (minus : Bool) (m : ℕ) → mostCount < m → held (signed minus m) ≡ Refused outOfBounds
+held-past minus m h = held-out (signed minus m) (rw (abs-signed minus m) (lt-leb m mostCount h))
 
 -- a count is no refusal
 pub count-apart : (y : ℤ) (e : _) → Refused e ≡ Count y → ⊥

@@ -5,22 +5,15 @@ use mathlib.Core.Bool.{Bool}
 use Prim.Native.Nat.{ℕ, _<_}
 use native.Mathlib.Decide.{decLt}
 use native.Mathlib.Omega.{arith}
-use borrow.Author.Tests.{lt-leb}
 use Rattle.numbers.specs.Sign.{signed}
-use Rattle.numbers.specs.SignLaws.{abs-signed}
-use Rattle.answers.specs.declared.Counted.the-variants.{Refused}
-use Rattle.answers.specs.Refusals.{mostCount, beyond, outOfBounds, held}
-use Rattle.answers.specs.Laws.{held-out}
+use Rattle.answers.specs.Refusals.{mostCount, beyond, held}
+use Rattle.answers.specs.Laws.{held-past}
 use Rattle.film.specs.declared.FilmFormat.{FilmFormat}
 use Rattle.film.specs.Footage.{footageCount, footageOr, footageOr-in, footageOr-feet, footageOr-frames}
 use Rattle.film.specs.FootageLaws.{count-ge}
 use borrow.Author.Needs.{needs}
 use Rattle.film.proofs.footage_count.Statement.{statement}
 use Rattle.film.proofs.footage_count.Tie as tie
-
--- a magnitude above the largest count is refused under either sign
-above : (minus : Bool) (m : ℕ) → mostCount < m → held (signed minus m) ≡ Refused outOfBounds
-above minus m h = held-out (signed minus m) (rw (abs-signed minus m) (lt-leb m mostCount h))
 
 -- what is answered is held as the count is
 held-same : (format : FilmFormat) (minus : Bool) (feet frames : ℕ)
@@ -30,7 +23,7 @@ held-same format minus feet frames = by (decLt feet beyond) (decLt frames beyond
     -- both are above the largest count
     past : footageOr format feet frames ≡ beyond → mostCount < footageCount format feet frames
         → held (signed minus (footageOr format feet frames)) ≡ held (signed minus (footageCount format feet frames))
-    past e h = ap (λ (m : ℕ). held (signed minus m)) e ∙ above minus beyond (omega arith) ∙ sym (above minus _ h)
+    past e h = ap (λ (m : ℕ). held (signed minus m)) e ∙ held-past minus beyond (omega arith) ∙ sym (held-past minus _ h)
 
     by : Dec (feet < beyond) → Dec (frames < beyond)
         → held (signed minus (footageOr format feet frames)) ≡ held (signed minus (footageCount format feet frames))

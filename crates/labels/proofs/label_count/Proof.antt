@@ -3,16 +3,13 @@
 use mathlib.Core.Path.{_≡_, refl, sym, _∙_, ap}
 use mathlib.Core.Bool.{Bool, true, false}
 use mathlib.Core.List.{List}
-use Prim.Native.Nat.{ℕ, _<_}
+use Prim.Native.Nat.{ℕ}
 use native.Mathlib.Omega.{arith}
 use borrow.Author.Needs.{needs}
-use borrow.Author.Tests.{lt-leb}
 use Rattle.numbers.specs.Sign.{signed}
-use Rattle.numbers.specs.SignLaws.{abs-signed}
 use Rattle.numbers.proofs.Tests.{fails, passes}
-use Rattle.answers.specs.declared.Counted.the-variants.{Refused}
-use Rattle.answers.specs.Refusals.{mostCount, beyond, outOfBounds, held}
-use Rattle.answers.specs.Laws.{held-out}
+use Rattle.answers.specs.Refusals.{beyond, held}
+use Rattle.answers.specs.Laws.{held-past}
 use Rattle.rates.specs.Rates.{isRate, rateRow, dropFrames}
 use Rattle.rates.specs.Laws.{drop-small}
 use Rattle.labels.specs.Label.{countIn, isShort}
@@ -24,10 +21,6 @@ use Rattle.labels.proofs.label_count.Tie as tie
 returns : tie.Need-returns
 returns c = sym (labelCounted-out _ _ _ (fails (c .before .is-rate .ensures) (c .if1 .taken)))
 
--- a magnitude above the largest count is refused under either sign
-above : (minus : Bool) (m : ℕ) → mostCount < m → held (signed minus m) ≡ Refused outOfBounds
-above minus m h = held-out (signed minus m) (rw (abs-signed minus m) (lt-leb m mostCount h))
-
 -- what is answered is held as the count is
 held-same : (rate : ℕ) (minus : Bool) (fields : List ℕ) → isRate rate ≡ true
     → held (signed minus (framesOr rate fields)) ≡ held (labelFrames rate minus fields)
@@ -37,8 +30,8 @@ held-same rate minus fields e = by (isShort fields) refl
     by true f = ap (λ (m : ℕ). held (signed minus m)) (framesOr-in rate fields e f)
     by false f =
         ap (λ (m : ℕ). held (signed minus m)) (framesOr-long rate fields e f)
-        ∙ above minus beyond (omega arith)
-        ∙ sym (above minus (countIn (rateRow rate .timebase) (dropFrames rate) fields) (isShort-out _ _ fields (drop-small rate e) f))
+        ∙ held-past minus beyond (omega arith)
+        ∙ sym (held-past minus (countIn (rateRow rate .timebase) (dropFrames rate) fields) (isShort-out _ _ fields (drop-small rate e) f))
 
 returns-2 : tie.Need-returns-2
 returns-2 c =
