@@ -78,6 +78,14 @@ notStrict = refusal 14
 abbrev pub wrongKind : Refusal
 wrongKind = refusal 15
 
+-- 16: a directory of shards that breaks a rule
+abbrev pub brokenDirectory : Refusal
+brokenDirectory = refusal 16
+
+-- 17: a query that ends past the day
+abbrev pub pastDay : Refusal
+pastDay = refusal 17
+
 -- counts from -400,000,000 to 400,000,000
 abbrev pub mostCount : ℕ
 mostCount = 400000000

@@ -101,6 +101,18 @@ pub const WRONG_KIND: Refusal = Refusal {
     place: 0,
 };
 
+// A directory of shards that breaks a rule.
+pub const BROKEN_DIRECTORY: Refusal = Refusal {
+    number: 16,
+    place: 0,
+};
+
+// A query that ends past the day.
+pub const PAST_DAY: Refusal = Refusal {
+    number: 17,
+    place: 0,
+};
+
 // The refusal with the place that a scanner says.
 pub fn at_place(e: Refusal, place: usize) -> Refusal
     ensures answer { λ r. ⌜ r ≡ atPlace e place ⌝ }

@@ -29,6 +29,8 @@ phrases-are = record {
   phrase-13 = refl;
   phrase-14 = refl;
   phrase-15 = refl;
+  phrase-16 = refl;
+  phrase-17 = refl;
 }
 
 -- past the end of a list there is what stands for none
@@ -53,7 +55,7 @@ unfoldable numberFrom : (i : ℕ) → List (List ℕ) → List ℕ → ℕ
 numberFrom i [] text = i
 numberFrom i (x ∷ xs) text = cond (same text x) i (numberFrom (suc i) xs text)
 
-back : (n : ℕ) → n ≤ 15 → numberFrom 0 phrases (phraseOf n) ≡ n
+back : (n : ℕ) → n ≤ 17 → numberFrom 0 phrases (phraseOf n) ≡ n
 unfolding phraseOf phrases same numberFrom
 back zero h = refl
 back (suc zero) h = refl
@@ -71,7 +73,9 @@ back (suc (suc (suc (suc (suc (suc (suc (suc (suc (suc (suc (suc zero)))))))))))
 back (suc (suc (suc (suc (suc (suc (suc (suc (suc (suc (suc (suc (suc zero))))))))))))) h = refl
 back (suc (suc (suc (suc (suc (suc (suc (suc (suc (suc (suc (suc (suc (suc zero)))))))))))))) h = refl
 back (suc (suc (suc (suc (suc (suc (suc (suc (suc (suc (suc (suc (suc (suc (suc zero))))))))))))))) h = refl
-back (suc (suc (suc (suc (suc (suc (suc (suc (suc (suc (suc (suc (suc (suc (suc (suc n)))))))))))))))) h = absurd (omega arith)
+back (suc (suc (suc (suc (suc (suc (suc (suc (suc (suc (suc (suc (suc (suc (suc (suc zero)))))))))))))))) h = refl
+back (suc (suc (suc (suc (suc (suc (suc (suc (suc (suc (suc (suc (suc (suc (suc (suc (suc zero))))))))))))))))) h = refl
+back (suc (suc (suc (suc (suc (suc (suc (suc (suc (suc (suc (suc (suc (suc (suc (suc (suc (suc n)))))))))))))))))) h = absurd (omega arith)
 
 pub phrases-apart : PhrasesApart
 phrases-apart m n h k e = sym (back m h) ∙ ap (numberFrom 0 phrases) e ∙ back n k
@@ -94,4 +98,6 @@ phrases-plain (suc (suc (suc (suc (suc (suc (suc (suc (suc (suc (suc (suc zero))
 phrases-plain (suc (suc (suc (suc (suc (suc (suc (suc (suc (suc (suc (suc (suc zero))))))))))))) h = (refl, (omega arith, omega arith))
 phrases-plain (suc (suc (suc (suc (suc (suc (suc (suc (suc (suc (suc (suc (suc (suc zero)))))))))))))) h = (refl, (omega arith, omega arith))
 phrases-plain (suc (suc (suc (suc (suc (suc (suc (suc (suc (suc (suc (suc (suc (suc (suc zero))))))))))))))) h = (refl, (omega arith, omega arith))
-phrases-plain (suc (suc (suc (suc (suc (suc (suc (suc (suc (suc (suc (suc (suc (suc (suc (suc n)))))))))))))))) h = absurd (omega arith)
+phrases-plain (suc (suc (suc (suc (suc (suc (suc (suc (suc (suc (suc (suc (suc (suc (suc (suc zero)))))))))))))))) h = (refl, (omega arith, omega arith))
+phrases-plain (suc (suc (suc (suc (suc (suc (suc (suc (suc (suc (suc (suc (suc (suc (suc (suc (suc zero))))))))))))))))) h = (refl, (omega arith, omega arith))
+phrases-plain (suc (suc (suc (suc (suc (suc (suc (suc (suc (suc (suc (suc (suc (suc (suc (suc (suc (suc n)))))))))))))))))) h = absurd (omega arith)

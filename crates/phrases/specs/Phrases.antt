@@ -24,6 +24,8 @@ phrases =
     ∷ spelt "no such place on the film"
     ∷ spelt "not a time of day"
     ∷ spelt "a position where only a length may be"
+    ∷ spelt "a directory that breaks its rules"
+    ∷ spelt "a query that ends past the day"
     ∷ []
 
 -- the phrase of a number; a number that no refusal has has none

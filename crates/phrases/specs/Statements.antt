@@ -28,10 +28,12 @@ pub record PhrasesAre : Type 0 where
   pub phrase-13 : phraseOf 13 ≡ spelt "no such place on the film"
   pub phrase-14 : phraseOf 14 ≡ spelt "not a time of day"
   pub phrase-15 : phraseOf 15 ≡ spelt "a position where only a length may be"
+  pub phrase-16 : phraseOf 16 ≡ spelt "a directory that breaks its rules"
+  pub phrase-17 : phraseOf 17 ≡ spelt "a query that ends past the day"
 
 -- no two numbers have the same phrase
 abbrev pub PhrasesApart : Type 0
-PhrasesApart = (m n : ℕ) → m ≤ 15 → n ≤ 15 → phraseOf m ≡ phraseOf n → m ≡ n
+PhrasesApart = (m n : ℕ) → m ≤ 17 → n ≤ 17 → phraseOf m ≡ phraseOf n → m ≡ n
 
 -- a byte of printable ASCII that is no `#`
 abbrev pub isPlainByte : ℕ → Bool
@@ -40,8 +42,8 @@ isPlainByte b = leb 32 b && (leb b 126 && not (eqb b 35))
 -- each has such bytes only, one at least and 128 at most
 abbrev pub PhrasesPlain : Type 0
 PhrasesPlain =
-    (n : ℕ) → n ≤ 15 → (every isPlainByte (phraseOf n) ≡ true) × ((0 < length (phraseOf n)) × (length (phraseOf n) ≤ 128))
+    (n : ℕ) → n ≤ 17 → (every isPlainByte (phraseOf n) ≡ true) × ((0 < length (phraseOf n)) × (length (phraseOf n) ≤ 128))
 
 -- a number past the last refusal has none
 abbrev pub NoPhrase : Type 0
-NoPhrase = (n : ℕ) → 15 < n → phraseOf n ≡ []
+NoPhrase = (n : ℕ) → 17 < n → phraseOf n ≡ []

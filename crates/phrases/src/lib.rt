@@ -66,6 +66,18 @@ fn of_a_kind(number: u8, line: &mut [u8], place: usize) -> Written
     }
 }
 
+// Of directories and queries, 16 and 17.
+fn of_a_query(number: u8, line: &mut [u8], place: usize) -> Written
+    requires number { ⌜ (16 ≤ number) × (number ≤ 17) ⌝ }
+    ensures answer { λ r. ⌜ r ≡ answerTo (now (line .entry)) place (Text (phraseOf number)) ⌝ }
+    ensures line { λ r. ⌜ now (line .exit) ≡ lineTo (now (line .entry)) place (Text (phraseOf number)) ⌝ }
+{
+    match number {
+        16 => written::write_text(b"a directory that breaks its rules", line, place),
+        _ => written::write_text(b"a query that ends past the day", line, place),
+    }
+}
+
 // The phrase of a number, laid down from `place` on; that of a number that no refusal has is empty. Refuses 8: no room.
 pub fn write_phrase(number: u8, line: &mut [u8], place: usize) -> Written
     ensures answer { λ r. ⌜ r ≡ answerTo (now (line .entry)) place (Text (phraseOf number)) ⌝ }
@@ -82,6 +94,9 @@ pub fn write_phrase(number: u8, line: &mut [u8], place: usize) -> Written
     }
     if number <= 15 {
         return of_a_kind(number, line, place);
+    }
+    if number <= 17 {
+        return of_a_query(number, line, place);
     }
     written::write_text(b"", line, place)
 }

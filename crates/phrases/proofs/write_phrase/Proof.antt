@@ -8,9 +8,9 @@ use Rattle.phrases.proofs.Statements.{no-phrase}
 use Rattle.phrases.proofs.write_phrase.Statement.{statement}
 use Rattle.phrases.proofs.write_phrase.Tie as tie
 
-returns-5 : tie.Need-returns-5
-returns-5 c =
-    let a = c .before .before .before .before .before .before .before .before .before .before .args in
+returns-6 : tie.Need-returns-6
+returns-6 c =
+    let a = c .before .before .before .before .before .before .before .before .before .before .before .args in
     meets-phrase (a .line .now) (a .place) (a .number) (a .number) _ _ _ (no-phrase (a .number) (omega arith)) refl (c .before .before .write-text .ensures)
 
 pub write-phrase-spec : {M : Type 1} → statement M
@@ -29,7 +29,10 @@ write-phrase-spec =
     (λ c κs. search needs)
     (λ c. search needs)
     (λ c. search needs)
+    (λ c κs. search needs)
+    (λ c. search needs)
+    (λ c. search needs)
     (λ c. search needs)
     (λ c κs. search needs)
     (λ c. search needs)
-    returns-5)
+    returns-6)
