@@ -8,6 +8,10 @@ use Rattle.reading.proofs.number as number
 use Rattle.reading.proofs.number.Reads as number-reads
 use Rattle.reading.proofs.taking.take_text as take-text
 use Rattle.reading.proofs.taking.take_text.Reads as take-text-reads
+use Rattle.reading.proofs.taking.take_label as take-label
+use Rattle.reading.proofs.taking.take_label.Reads as take-label-reads
+use Rattle.reading.proofs.read_label_only as read-label-only
+use Rattle.reading.proofs.read_label_only.Reads as read-label-only-reads
 use Rattle.reading.proofs.read_taken as read-taken
 use Rattle.reading.proofs.read_taken.Reads as read-taken-reads
 use Rattle.reading.proofs.format_for as format-for
@@ -20,6 +24,12 @@ read-text-determined κs a asked x y p q = ap (λ z. (z, x .1)) (p ∙ sym q)
 
 pub take-text-determined : Determined take-text.ended take-text-reads.Asked take-text-reads.Learnt
 take-text-determined κs a asked x y p q = ap (λ z. (z, x .1)) (p ∙ sym q)
+
+pub take-label-determined : Determined take-label.ended take-label-reads.Asked take-label-reads.Learnt
+take-label-determined κs a asked x y p q = ap (λ z. (z, x .1)) (p ∙ sym q)
+
+pub read-label-only-determined : Determined read-label-only.ended read-label-only-reads.Asked read-label-only-reads.Learnt
+read-label-only-determined κs a asked x y p q = ap (λ z. (z, x .1)) (p ∙ sym q)
 
 pub read-taken-determined : Determined read-taken.ended read-taken-reads.Asked read-taken-reads.Learnt
 read-taken-determined κs a asked x y p q = ap (λ z. (z, x .1)) (p ∙ sym q)

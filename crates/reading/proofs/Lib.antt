@@ -7,4 +7,5 @@ pub mod Gives
 pub mod Statements
 pub mod Positions
 pub mod PositionCounts
+pub mod LabelOnly
 pub mod Determined

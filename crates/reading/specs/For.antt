@@ -16,7 +16,8 @@ use Rattle.labels.specs.Faults.{strictFault}
 use Rattle.reading.specs.declared.Stated.{Stated}
 use Rattle.reading.specs.declared.Read.{Read}
 use Rattle.reading.specs.declared.Read.the-variants.{Label, Footage, Refused}
-use Rattle.reading.specs.Shaped.{Shaped, label, footage, refused, shapeOf}
+use Rattle.reading.specs.declared.Stated.the-variants.{Nothing}
+use Rattle.reading.specs.Shaped.{Shaped, label, footage, refused, shapeOf, labelOnly}
 use Rattle.reading.specs.Reading.{readShaped, readWhen, readText}
 
 -- what was read as a length, made a timecode of a kind; what is refused stays so
@@ -53,3 +54,7 @@ readBy kind stated rate shaped = unless Refused (readWhen stated rate) (shapedFo
 unfoldable pub readFor : Kind → (text : List ℕ) → Stated → (rate : ℕ) → Read
 readFor kind text stated rate =
     unless Refused (readWhen stated rate ++ strictWhen kind rate (shapeOf stated text)) (settledRead kind (readText text stated rate))
+
+-- of a text where only a label may stand, no film format stated
+unfoldable pub labelFor : Kind → (text : List ℕ) → (rate : ℕ) → Read
+labelFor kind text rate = readBy kind Nothing rate (labelOnly text)

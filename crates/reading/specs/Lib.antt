@@ -8,3 +8,4 @@ pub mod ForLaws
 pub mod TakenLaws
 pub mod Statements
 pub mod Positions
+pub mod LabelOnly

@@ -69,3 +69,7 @@ labelOr other s = byFit (label (s .minus) (s .fields)) other (s .fit)
 abbrev pub shapeOf : Stated → List ℕ → Shaped
 shapeOf Nothing text = labelOr (λ stop. footageShaped stop (footageScan text)) (labelScan text)
 shapeOf (Format n) text = footageShaped 0 (footageScan text)
+
+-- where only a label may stand, a text that has not that shape has none
+abbrev pub labelOnly : List ℕ → Shaped
+labelOnly text = labelOr (λ stop. refused (atPlace noShape stop)) (labelScan text)

@@ -9,7 +9,7 @@ ghost use Rattle.reading.specs.Answer.{numberOf, asLabel, asFootage};
 ghost use Rattle.reading.specs.Shaped.{isStated, formatFor, label};
 ghost use Rattle.reading.specs.Taken.{shapedIn};
 ghost use Rattle.reading.specs.Reading.{takesPerf, labelRead, footageRead};
-ghost use Rattle.reading.specs.For.{settledRead, positionFault, isLabelOf, shapedFor, readBy, readFor};
+ghost use Rattle.reading.specs.For.{settledRead, positionFault, isLabelOf, shapedFor, readBy, readFor, labelFor};
 use answers::Counted;
 use answers::Refusal;
 use faults::Found;
@@ -21,6 +21,7 @@ use timecodes::Timecode;
 mod taking;
 
 pub use taking::Taken;
+pub use taking::take_label;
 pub use taking::take_text;
 
 // The film format that is stated, by its number, or that none is.
@@ -233,4 +234,11 @@ pub fn read_text(text: &[u8], stated: Stated, rate: u64, kind: Kind) -> Read
     ensures answer { λ r. ⌜ r ≡ readFor kind (now (text .entry)) stated rate ⌝ }
 {
     read_taken(take_text(text, stated), stated, rate, kind)
+}
+
+// What a text reads as where only a label may stand: a label as `read_text` reads it; any other text has no shape.
+pub fn read_label_only(text: &[u8], rate: u64, kind: Kind) -> Read
+    ensures answer { λ r. ⌜ r ≡ labelFor kind (now (text .entry)) rate ⌝ }
+{
+    read_taken(take_label(text), Stated::Nothing, rate, kind)
 }

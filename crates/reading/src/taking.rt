@@ -2,7 +2,7 @@
 ghost use Prim.Native.Nat.{max};
 ghost use mathlib.Core.Path.{_≡_};
 ghost use Rattle.footage_scan.specs.Footage.{footageScan};
-ghost use Rattle.reading.specs.Shaped.{footageShaped, shapeOf};
+ghost use Rattle.reading.specs.Shaped.{label, footageShaped, shapeOf, labelOnly};
 ghost use Rattle.reading.specs.Taken.{takenOf};
 use crate::Stated;
 use answers::Refusal;
@@ -60,6 +60,35 @@ fn footage_or_neither(text: &[u8], stopped: usize) -> Taken
     }
 }
 
+// A label's sign and fields.
+fn taken_label(minus: bool, fields: [u64; 4]) -> Taken
+    ensures answer { λ r. ⌜ r ≡ takenOf (label minus fields) ⌝ }
+{
+    Taken::Label {
+        minus,
+        hours: fields[0],
+        minutes: fields[1],
+        seconds: fields[2],
+        frames: fields[3],
+    }
+}
+
+// What a text is taken for where only a label may stand.
+pub fn take_label(text: &[u8]) -> Taken
+    ensures answer { λ r. ⌜ r ≡ takenOf (labelOnly (now (text .entry))) ⌝ }
+{
+    let scan = label_scan::scan_label(text);
+    let fit = scan.fit;
+    match fit {
+        Fit::Fits => {
+            let fields = scan.fields;
+            taken_label(scan.minus, fields)
+        }
+        Fit::TooLong(place) => Taken::Neither(answers::at_place(answers::TOO_LONG, place)),
+        Fit::NoShape(stop) => Taken::Neither(answers::at_place(answers::NO_SHAPE, stop)),
+    }
+}
+
 // A text is taken for a label, or else for what it is as a footage.
 fn label_or_footage(text: &[u8]) -> Taken
     ensures answer { λ r. ⌜ r ≡ takenOf (shapeOf Stated.Nothing (now (text .entry))) ⌝ }
@@ -69,13 +98,7 @@ fn label_or_footage(text: &[u8]) -> Taken
     match fit {
         Fit::Fits => {
             let fields = scan.fields;
-            Taken::Label {
-                minus: scan.minus,
-                hours: fields[0],
-                minutes: fields[1],
-                seconds: fields[2],
-                frames: fields[3],
-            }
+            taken_label(scan.minus, fields)
         }
         Fit::TooLong(place) => Taken::Neither(answers::at_place(answers::TOO_LONG, place)),
         Fit::NoShape(stop) => footage_or_neither(text, stop),

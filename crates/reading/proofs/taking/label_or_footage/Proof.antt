@@ -23,9 +23,10 @@ scanned-as c x e = ap takenOf (sym e ∙ ap (labelOr (other c)) (c .scan-label .
 
 returns : tie.Need-returns
 returns c =
-    let told = c .before in
+    let told = c .before .before in
     let scanned = told .before .before in
-    scanned-as scanned _ (label-fits (other scanned) (scanned .scan-label .result) (told .enum-told .given .1))
+    c .taken-label .ensures
+    ∙ scanned-as scanned _ (label-fits (other scanned) (scanned .scan-label .result) (told .enum-told .given .1))
 
 returns-2 : tie.Need-returns-2
 returns-2 c =
@@ -47,10 +48,7 @@ label-or-footage-spec =
     (tie.spec
     (λ c κs. search needs)
     (λ c. search needs)
-    (λ c. search needs)
-    (λ c. search needs)
-    (λ c. search needs)
-    (λ c. search needs)
+    (λ c κs. search needs)
     (λ c. search needs)
     (λ c κs. search needs)
     (λ c. search needs)
