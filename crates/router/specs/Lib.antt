@@ -1,0 +1,11 @@
+pub mod Directory
+pub mod Query
+pub mod Route
+pub mod Halving
+pub mod Tested
+pub mod RuleLaws
+pub mod QueryLaws
+pub mod AskedLaws
+pub mod HalvingLaws
+pub mod TestedLaws
+pub mod Statements
