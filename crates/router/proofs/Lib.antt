@@ -1,1 +1,4 @@
 pub mod Determined
+pub mod Outcomes
+pub mod Exact
+pub mod Statements

@@ -9,14 +9,7 @@ use borrow.Author.Tests.{lt-ltb, ltb-true, eqb-true, eqb-false}
 use lib.Dec.{eqb, ltb}
 use lib.ListN.{length, getD}
 use Rattle.router.specs.declared.Routed.the-variants.{Shards}
-use Rattle.router.specs.Directory.{InShard}
-use Rattle.router.specs.Query.{InRange}
-use Rattle.router.specs.Route.{isAsked, firstAsked, afterAsked, askedSpan}
-
--- a frame lies both in shard i and in the range
-pub record Common (firsts ends : List ℕ) (start end i frame : ℕ) : Type 0 where
-  pub shard : InShard firsts ends i frame
-  pub range : InRange start end frame
+use Rattle.router.specs.Route.{Common, isAsked, firstAsked, afterAsked, askedSpan}
 
 -- shard i is asked
 abbrev pub Asked : (start end : ℕ) (firsts ends : List ℕ) (i : ℕ) → Type 0

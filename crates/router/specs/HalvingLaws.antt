@@ -90,20 +90,20 @@ halved-parts v l r =
 
 -- ---- the shards that halving finds are those that are asked
 module _ (day start end : ℕ) (firsts ends : List ℕ) (r : Rules day firsts ends) where
-  abbrev lo : ℕ
+  abbrev pub lo : ℕ
   lo = halved (start + 1) ends
 
-  abbrev hi : ℕ
+  abbrev pub hi : ℕ
   hi = halved end firsts
 
-  abbrev low : Parted (start + 1) ends lo
+  abbrev pub low : Parted (start + 1) ends lo
   low = halved-parts (start + 1) ends (ends-rise day firsts ends r)
 
-  abbrev high : Parted end firsts hi
+  abbrev pub high : Parted end firsts hi
   high = halved-parts end firsts (firsts-rise day firsts ends r)
 
   -- one that is asked ends behind the start, and begins before the end
-  from-lo : (i : ℕ) → i < length firsts → Asked start end firsts ends i → lo ≤ i
+  pub from-lo : (i : ℕ) → i < length firsts → Asked start end firsts ends i → lo ≤ i
   from-lo i h a = by (ltb i lo) refl
     where
       by : (t : Bool) → ltb i lo ≡ t → lo ≤ i
@@ -112,7 +112,7 @@ module _ (day start end : ℕ) (firsts ends : List ℕ) (r : Rules day firsts en
           absurd (omega (arith, m, low .front i (ltb-true i lo e)))
       by false e = ltb-false i lo e
 
-  under-hi : (i : ℕ) → i < length firsts → Asked start end firsts ends i → i < hi
+  pub under-hi : (i : ℕ) → i < length firsts → Asked start end firsts ends i → i < hi
   under-hi i h a = by (ltb i hi) refl
     where
       by : (t : Bool) → ltb i hi ≡ t → i < hi
@@ -122,7 +122,7 @@ module _ (day start end : ℕ) (firsts ends : List ℕ) (r : Rules day firsts en
           absurd (omega (arith, m, high .back i (ltb-false i hi e) h))
 
   -- and one between them is asked
-  between : start < end → (i : ℕ) → lo ≤ i → i < hi → Asked start end firsts ends i
+  pub between : start < end → (i : ℕ) → lo ≤ i → i < hi → Asked start end firsts ends i
   between s i p q =
       let n : i < length firsts = omega (arith, high .inside) in
       let f = high .front i q in

@@ -10,8 +10,13 @@ use Rattle.router.specs.declared.Routed.{Routed}
 use Rattle.router.specs.declared.Routed.the-variants.{Shards, Refused}
 use Rattle.router.specs.declared.query.Ranged.{Ranged}
 use Rattle.router.specs.declared.query.Ranged.the-variants as ranged
-use Rattle.router.specs.Directory.{directoryWhen}
-use Rattle.router.specs.Query.{rangeOf}
+use Rattle.router.specs.Directory.{InShard, directoryWhen}
+use Rattle.router.specs.Query.{InRange, rangeOf}
+
+-- a frame lies both in shard i and in the range
+pub record Common (firsts ends : List ℕ) (start end i frame : ℕ) : Type 0 where
+  pub shard : InShard firsts ends i frame
+  pub range : InRange start end frame
 
 -- a shard is asked where it and the range have a frame in common: the later of their beginnings lies before the earlier of their ends
 abbrev pub isAsked : (start end first behind : ℕ) → Bool
