@@ -17,14 +17,14 @@ Asked start end firsts ends i = isAsked start end (getD firsts i 0) (getD ends i
 
 pub asked-common : (start end : ℕ) (firsts ends : List ℕ) (i : ℕ) → Asked start end firsts ends i → (frame : ℕ) × Common firsts ends start end i frame
 asked-common start end firsts ends i h =
-    let t = ltb-true (max (getD firsts i 0) start) (min (getD ends i 0) end) h in (
+    let t = ltb-true (max (getD firsts i 0) start) _ h in (
       max (getD firsts i 0) start,
       record { shard = record { from = omega arith; before = omega arith }; range = record { from = omega arith; before = omega arith } },
     )
 
 pub common-asked : (start end : ℕ) (firsts ends : List ℕ) (i frame : ℕ) → Common firsts ends start end i frame → Asked start end firsts ends i
 common-asked start end firsts ends i frame c =
-    lt-ltb (max (getD firsts i 0) start) (min (getD ends i 0) end)
+    lt-ltb (max (getD firsts i 0) start) _
     (omega (arith, c .shard .from, c .shard .before, c .range .from, c .range .before))
 
 -- ---- the first that is asked

@@ -5,7 +5,7 @@ use mathlib.Core.Path.{_≡_, refl, sym, ap, _∙_}
 use mathlib.Core.List.{List}
 use mathlib.Core.Bool.{Bool, true, false, cond}
 use native.Mathlib.Omega.{arith}
-use borrow.Author.Tests.{lt-ltb, le-ltb, lt-leb, ltb-true, ltb-false, leb-true, leb-false}
+use borrow.Author.Tests.{lt-ltb, le-ltb, le-leb, lt-leb, ltb-true, ltb-false, leb-true, leb-false}
 use lib.Dec.{leb, ltb}
 use lib.ListN.{length, getD}
 use Rattle.router.specs.declared.Routed.{Routed}
@@ -143,6 +143,23 @@ module _ (day start end : ℕ) (firsts ends : List ℕ) (r : Rules day firsts en
           sym (span-is start end firsts ends lo hi (r .paired) (ltb-true lo hi f) (high .inside) (between (leb-false end start e)) (λ i h a. (from-lo i h a, under-hi i h a)))
       by false false e f =
           sym (span-none start end firsts ends (r .paired) (λ i h a. omega (arith, from-lo i h a, under-hi i h a, ltb-false lo hi f)))
+
+-- ---- as the code finds them
+pub met-empty : (start end : ℕ) (firsts ends : List ℕ) → end ≤ start → Shards 0 0 ≡ halvedSpan start end firsts ends
+unfolding halvedSpan
+met-empty start end firsts ends h = sym (rw (le-leb end start h))
+
+module _ (start end v p q : ℕ) (firsts ends : List ℕ) (h : start < end) (one : v ≡ start + 1) (e : p ≡ halved v ends) (f : q ≡ halved end firsts) where
+  lo-is : p ≡ halved (start + 1) ends
+  lo-is = e ∙ ap (λ (n : ℕ). halved n ends) one
+
+  pub met-some : p < q → Shards p q ≡ halvedSpan start end firsts ends
+  unfolding halvedSpan
+  met-some k = rw (lt-leb end start h, ← lo-is, ← f, lt-ltb p q k)
+
+  pub met-none : q ≤ p → Shards 0 0 ≡ halvedSpan start end firsts ends
+  unfolding halvedSpan
+  met-none k = rw (lt-leb end start h, ← lo-is, ← f, le-ltb p q k)
 
 -- so of any range
 pub found-asked : (day : ℕ) (firsts ends : List ℕ) → Rules day firsts ends → (x : Ranged) → foundIn firsts ends x ≡ askedIn firsts ends x

@@ -6,7 +6,7 @@ use mathlib.Core.List.{List, [], _∷_}
 use mathlib.Core.Bool.{Bool, true, false, cond, _&&_, and-eq-true-iff}
 use native.Mathlib.Omega.{arith}
 use native.Mathlib.Numerals.{add-one}
-use borrow.Author.Tests.{le-ltb, le-leb, lt-leb, ltb-true, ltb-false, leb-true, leb-false}
+use borrow.Author.Tests.{lt-ltb, le-ltb, le-leb, lt-leb, ltb-true, ltb-false, leb-true, leb-false}
 use lib.Dec.{ltb, leb}
 use lib.ListN.{length, getD, drop, drop-of-length-le}
 use lib.Seq.{drop-cons}
@@ -140,7 +140,7 @@ uneven day low firsts ends h = by (inOrder day low firsts ends) refl
     by true e = absurd (h (ordered day low firsts ends e .paired))
     by false e = refl
 
-pub order-at : (day low : ℕ) (firsts ends : List ℕ) (i : ℕ) → i < length firsts → length firsts ≡ length ends
+order-at : (day low : ℕ) (firsts ends : List ℕ) (i : ℕ) → i < length firsts → length firsts ≡ length ends
     → inOrder day low (drop i firsts) (drop i ends)
     ≡ cond (ltb (getD firsts i 0) low) false
     (cond (leb (getD ends i 0) (getD firsts i 0)) false
@@ -150,6 +150,25 @@ order-at day low firsts ends i h k =
     let p : drop i firsts ≡ getD firsts i 0 ∷ drop (i + 1) firsts = rw (add-one i) (drop-cons firsts i 0 h) in
     let q : drop i ends ≡ getD ends i 0 ∷ drop (i + 1) ends = rw (add-one i) (drop-cons ends i 0 (omega arith)) in
     rw (p, q)
+
+-- a shard fails in one of three ways, or the rest decides
+module _ (day low : ℕ) (firsts ends : List ℕ) (i : ℕ) (h : i < length firsts) (k : length firsts ≡ length ends) where
+  pub order-low : getD firsts i 0 < low → false ≡ inOrder day low (drop i firsts) (drop i ends)
+  order-low a = sym (order-at day low firsts ends i h k ∙ rw (lt-ltb (getD firsts i 0) low a))
+
+  pub order-empty : low ≤ getD firsts i 0 → getD ends i 0 ≤ getD firsts i 0 → false ≡ inOrder day low (drop i firsts) (drop i ends)
+  order-empty a b = sym (order-at day low firsts ends i h k ∙ rw (le-ltb (getD firsts i 0) low a, le-leb (getD ends i 0) (getD firsts i 0) b))
+
+  pub order-past : low ≤ getD firsts i 0 → getD firsts i 0 < getD ends i 0 → day < getD ends i 0 → false ≡ inOrder day low (drop i firsts) (drop i ends)
+  order-past a b c =
+      sym (order-at day low firsts ends i h k
+      ∙ rw (le-ltb (getD firsts i 0) low a, lt-leb (getD ends i 0) (getD firsts i 0) b, lt-ltb day (getD ends i 0) c))
+
+  pub order-on : low ≤ getD firsts i 0 → getD firsts i 0 < getD ends i 0 → getD ends i 0 ≤ day
+      → inOrder day low (drop i firsts) (drop i ends) ≡ inOrder day (getD ends i 0) (drop (i + 1) firsts) (drop (i + 1) ends)
+  order-on a b c =
+      order-at day low firsts ends i h k
+      ∙ rw (le-ltb (getD firsts i 0) low a, lt-leb (getD ends i 0) (getD firsts i 0) b, le-ltb day (getD ends i 0) c)
 
 pub order-end : (day low : ℕ) (firsts ends : List ℕ) (i : ℕ) → length firsts ≤ i → length firsts ≡ length ends
     → inOrder day low (drop i firsts) (drop i ends) ≡ true

@@ -7,7 +7,11 @@ use native.Mathlib.Omega.{arith}
 use native.Mathlib.Numerals.{add-one}
 use lib.ListN.{length, getD, set, take, replicate, length-replicate}
 use lib.Seq.{paste, paste-zero, paste-suc, length-paste, take-paste, take-length}
-use Rattle.router.specs.Tested.{copied, keptOf}
+use Rattle.answers.specs.declared.Verdict.{Verdict}
+use Rattle.answers.specs.Order.{judged}
+use Rattle.router.specs.declared.many.Directory.{Directory}
+use Rattle.router.specs.Directory.{directoryWhen}
+use Rattle.router.specs.Tested.{copied, keptOf, directoryOf}
 
 pub copied-none : (l : List ℕ) → replicate 256 0 ≡ copied 0 l
 unfolding copied
@@ -40,3 +44,10 @@ kept-back l h =
     ∙ ap (λ (n : ℕ). take n (paste (replicate 256 0) 0 l (length l))) (sym z)
     ∙ take-paste (replicate 256 0) 0 l (length l) (omega (arith, s)) (omega arith)
     ∙ take-length l
+
+-- a directory by its parts
+pub directory-is : (rate n : ℕ) (firsts ends : List ℕ) (v : Verdict) (a b : List ℕ)
+    → v ≡ judged (directoryWhen rate firsts ends) → n ≡ length firsts → a ≡ keptOf firsts → b ≡ keptOf ends
+    → _≡_ {A = Directory} (record { verdict = v; rate = rate; shards = n; firsts = a; ends = b }) (directoryOf rate firsts ends)
+unfolding directoryOf
+directory-is rate n firsts ends v a b e m f g = rw (e, m, f, g)

@@ -3,8 +3,7 @@
 use Prim.Native.Nat.{ℕ, _+_, _-_, _/_, _≤_, _<_}
 use lib.ListN.{length, drop, getD}
 use Rattle.router.specs.Directory.{inOrder}
-use Rattle.router.specs.RuleLaws.{uneven, order-at, order-end}
-use Rattle.numbers.proofs.Tests.{tests}
+use Rattle.router.specs.RuleLaws.{uneven, order-low, order-empty, order-past, order-on, order-end}
 use native.Mathlib.Omega.{arith}
 use mathlib.Core.Path.{_≡_, refl, sym, ap, _∙_}
 use borrow.Author.Needs.{needs}
@@ -38,20 +37,21 @@ shared-slice-read-end c = search needs
 returns-2 : tie.Need-returns-2 Inv-loop μ-loop
 returns-2 c =
     let k = c .before .before .before .before in
-    let at = order-at (k .before .before .args .day) (k .loop .low) (k .before .before .args .firsts .now) (k .before .before .args .ends .now) (k .loop .i) (c .before .before .before .loop-test .taken) (k .loop .inv .1) in
-    sym (k .loop .inv .2 ∙ at ∙ search tests)
+    let a = k .before .before .args in
+    order-low (a .day) (k .loop .low) (a .firsts .now) (a .ends .now) (k .loop .i) (omega arith) (k .loop .inv .1) (omega arith) ∙ sym (k .loop .inv .2)
 
 returns-3 : tie.Need-returns-3 Inv-loop μ-loop
 returns-3 c =
     let k = c .before .before .before .before .before in
-    let at = order-at (k .before .before .args .day) (k .loop .low) (k .before .before .args .firsts .now) (k .before .before .args .ends .now) (k .loop .i) (c .before .before .before .before .loop-test .taken) (k .loop .inv .1) in
-    sym (k .loop .inv .2 ∙ at ∙ search tests)
+    let a = k .before .before .args in
+    order-empty (a .day) (k .loop .low) (a .firsts .now) (a .ends .now) (k .loop .i) (omega arith) (k .loop .inv .1) (omega arith) (omega arith) ∙ sym (k .loop .inv .2)
 
 returns-4 : tie.Need-returns-4 Inv-loop μ-loop
 returns-4 c =
     let k = c .before .before .before .before .before .before in
-    let at = order-at (k .before .before .args .day) (k .loop .low) (k .before .before .args .firsts .now) (k .before .before .args .ends .now) (k .loop .i) (c .before .before .before .before .before .loop-test .taken) (k .loop .inv .1) in
-    sym (k .loop .inv .2 ∙ at ∙ search tests)
+    let a = k .before .before .args in
+    order-past (a .day) (k .loop .low) (a .firsts .now) (a .ends .now) (k .loop .i) (omega arith) (k .loop .inv .1) (omega arith) (omega arith) (omega arith)
+    ∙ sym (k .loop .inv .2)
 
 add-i : tie.Need-add-i Inv-loop μ-loop
 add-i c = search needs
@@ -62,8 +62,9 @@ loop-less c = omega arith
 loop-again : tie.Need-loop-again Inv-loop μ-loop
 loop-again c =
     let k = c .before .before .before .before .before .before in
-    let at = order-at (k .before .before .args .day) (k .loop .low) (k .before .before .args .firsts .now) (k .before .before .args .ends .now) (k .loop .i) (c .before .before .before .before .before .loop-test .taken) (k .loop .inv .1) in
-    (omega arith, k .loop .inv .1, k .loop .inv .2 ∙ at ∙ search tests)
+    let a = k .before .before .args in
+    let on = order-on (a .day) (k .loop .low) (a .firsts .now) (a .ends .now) (k .loop .i) (omega arith) (k .loop .inv .1) (omega arith) (omega arith) (omega arith) in
+    (omega arith, k .loop .inv .1, k .loop .inv .2 ∙ on)
 
 returns-5 : tie.Need-returns-5 Inv-loop μ-loop
 returns-5 c =

@@ -1,29 +1,27 @@
--- `router::search::met` meets its contract: each return is the definition, rewritten by the tests that led there.
+-- `router::search::met` meets its contract: each return is what halving gives, by the tests that led there.
 -- Assumes nothing.
-use mathlib.Core.Path.{_≡_, sym, ap, _∙_}
+use native.Mathlib.Omega.{arith}
 use borrow.Author.Needs.{needs}
-use borrow.Author.Tests.{lt-ltb, le-ltb, le-leb, lt-leb}
-use Rattle.router.specs.Halving.{halvedSpan}
+use Rattle.router.specs.HalvingLaws.{met-empty, met-some, met-none}
 use Rattle.router.proofs.search.met.Statement.{statement}
 use Rattle.router.proofs.search.met.Tie as tie
 
 returns : tie.Need-returns
-unfolding halvedSpan
-returns c = sym (rw (le-leb _ _ (c .if1 .taken)))
+returns c =
+    let a = c .before .before .before .args in
+    met-empty (a .start) (a .end) (a .firsts .now) (a .ends .now) (omega arith)
 
 returns-2 : tie.Need-returns-2
-unfolding halvedSpan
 returns-2 c =
-    let p = c .before .before .halve .ensures in
-    let q = c .before .halve2 .ensures in
-    rw (lt-leb _ _ (c .before .before .before .if1 .left), ← p, ← q, lt-ltb _ _ (c .if2 .taken))
+    let h = c .before in
+    let a = h .before .before .before .before .before .args in
+    met-some (a .start) (a .end) _ _ _ (a .firsts .now) (a .ends .now) (omega arith) (omega arith) (h .before .halve .ensures) (h .halve2 .ensures) (c .if2 .taken)
 
 returns-3 : tie.Need-returns-3
-unfolding halvedSpan
 returns-3 c =
-    let p = c .before .before .halve .ensures in
-    let q = c .before .halve2 .ensures in
-    rw (lt-leb _ _ (c .before .before .before .if1 .left), ← p, ← q, le-ltb _ _ (c .if2 .left))
+    let h = c .before in
+    let a = h .before .before .before .before .before .args in
+    met-none (a .start) (a .end) _ _ _ (a .firsts .now) (a .ends .now) (omega arith) (omega arith) (h .before .halve .ensures) (h .halve2 .ensures) (c .if2 .left)
 
 pub met-spec : {M : Type 1} → statement M
 met-spec = tie.close (tie.spec returns (λ c. search needs) (λ c κs. search needs) (λ c κs. search needs) returns-2 returns-3)
