@@ -54,6 +54,8 @@ use Rattle.exports.proofs.times.tzq_convert as tzq-convert
 use Rattle.exports.proofs.times.tzq_convert.Reads as tzq-convert-reads
 use Rattle.exports.proofs.writes.tzq_sections as tzq-sections
 use Rattle.exports.proofs.writes.tzq_sections.Reads as tzq-sections-reads
+use Rattle.exports.proofs.route.tzq_route as tzq-route
+use Rattle.exports.proofs.route.tzq_route.Reads as tzq-route-reads
 use Rattle.exports.proofs.why.tzq_why as tzq-why
 use Rattle.exports.proofs.why.tzq_why.Reads as tzq-why-reads
 use Rattle.exports.proofs.writes.tzq_write_label as tzq-write-label
@@ -166,6 +168,9 @@ tzq-check-list-determined κs a asked x y p q = ap (λ z. (z, x .1)) (p ∙ sym 
 pub tzq-write-list-determined : Determined tzq-write-list.ended tzq-write-list-reads.Asked tzq-write-list-reads.Learnt
 tzq-write-list-determined κs a asked x y p q =
     ap (λ z. (z, x .1)) (p .0 ∙ sym (q .0)) ∙ ap (λ z. (y .0, (x .1 .0, (z, x .1 .1 .1)))) (p .1 ∙ sym (q .1))
+
+pub tzq-route-determined : Determined tzq-route.ended tzq-route-reads.Asked tzq-route-reads.Learnt
+tzq-route-determined κs a asked x y p q = ap (λ z. (z, x .1)) (p ∙ sym q)
 
 pub tzq-why-determined : Determined tzq-why.ended tzq-why-reads.Asked tzq-why-reads.Learnt
 tzq-why-determined κs a asked x y p q =

@@ -1,3 +1,4 @@
 pub mod Handed
 pub mod HandedLists
 pub mod HandedWhy
+pub mod HandedRoute

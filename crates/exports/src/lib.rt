@@ -3,6 +3,7 @@
 pub mod handed;
 pub mod lists;
 pub mod reads;
+pub mod route;
 pub mod sums;
 pub mod tables;
 pub mod times;

@@ -13,6 +13,7 @@ use Rattle.arithmetic.proofs.Determined as arithmetic-determined
 use Rattle.chains.proofs.Determined as chains-determined
 use Rattle.shot_lists.proofs.Determined as shot-lists-determined
 use Rattle.shot_writer.proofs.Determined as shot-writer-determined
+use Rattle.router.proofs.Determined as router-determined
 use Rattle.answers.proofs.Determined as answers-determined
 use Rattle.timecodes.proofs.Determined as timecodes-determined
 use Rattle.written.proofs.Determined as written-determined
@@ -23,6 +24,7 @@ use Rattle.minutes.proofs.Determined as minutes-determined
 pub one-answer : OneAnswer
 one-answer = record {
   read-text = record { asks-nothing = λ κs a. tt; one-outcome = reading-determined.read-text-determined };
+  read-label-only = record { asks-nothing = λ κs a. tt; one-outcome = reading-determined.read-label-only-determined };
   read-runtime = record { asks-nothing = λ κs a. tt; one-outcome = runtime-reading-determined.read-runtime-determined };
   why = record { asks-nothing = λ κs a. tt; one-outcome = reasons-determined.why-determined };
   write-phrase = record { asks-nothing = λ κs a. tt; one-outcome = phrases-determined.write-phrase-determined };
@@ -54,6 +56,12 @@ one-answer = record {
   check-list = record { asks-nothing = λ κs a. tt; one-outcome = shot-lists-determined.check-list-determined };
   given-at = record { asks-nothing = λ κs a. tt; one-outcome = shot-lists-determined.given-at-determined };
   write-list = record { asks-nothing = λ κs a. tt; one-outcome = shot-writer-determined.write-list-determined };
+  check-directory = record { asks-nothing = λ κs a. tt; one-outcome = router-determined.check-directory-determined };
+  query-range = record { asks-nothing = λ κs a. tt; one-outcome = router-determined.query-range-determined };
+  route = record { asks-nothing = λ κs a. tt; one-outcome = router-determined.route-determined };
+  tested = record { asks-nothing = λ κs a. tt; one-outcome = router-determined.tested-determined };
+  verdict = record { asks-nothing = λ κs a. tt; one-outcome = router-determined.verdict-determined };
+  route-tested = record { asks-nothing = λ κs a. tt; one-outcome = router-determined.route-tested-determined };
   answers-number = record { asks-nothing = λ κs a. tt; one-outcome = answers-determined.number-determined };
   answers-count = record { asks-nothing = λ κs a. tt; one-outcome = answers-determined.count-determined };
   reading-number = record { asks-nothing = λ κs a. tt; one-outcome = reading-determined.number-determined };

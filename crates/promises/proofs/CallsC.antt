@@ -33,6 +33,7 @@ one-answer-c = record {
   tzq-record-at = record { asks-nothing = λ κs a. tt; one-outcome = exports-determined.tzq-record-at-determined };
   tzq-check-list = record { asks-nothing = λ κs a. tt; one-outcome = exports-determined.tzq-check-list-determined };
   tzq-write-list = record { asks-nothing = λ κs a. tt; one-outcome = exports-determined.tzq-write-list-determined };
+  tzq-route = record { asks-nothing = λ κs a. tt; one-outcome = exports-determined.tzq-route-determined };
   tzq-rate = record { asks-nothing = λ κs a. tt; one-outcome = exports-determined.tzq-rate-determined };
   tzq-drop-frames-per-minute = record { asks-nothing = λ κs a. tt; one-outcome = exports-determined.tzq-drop-frames-per-minute-determined };
   tzq-format = record { asks-nothing = λ κs a. tt; one-outcome = exports-determined.tzq-format-determined };

@@ -5,6 +5,8 @@ pub mod TiesC
 pub mod ReadC
 pub mod ListsC
 pub mod WhyC
+pub mod RouteC
+pub mod RouteMany
 pub mod Demand1
 pub mod When
 pub mod Read
@@ -16,4 +18,5 @@ pub mod Demand2
 pub mod Cases
 pub mod PositionCases
 pub mod WhyCases
+pub mod RouteCases
 pub mod Promises

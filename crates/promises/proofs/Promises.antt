@@ -7,6 +7,9 @@ use Rattle.shot_lists.proofs.Numbers as shot-numbers
 use Rattle.shot_lists.proofs.OneWay as shot-ways
 use Rattle.shot_lists.proofs.RefusalStatements as shot-refusals
 use Rattle.shot_writer.proofs.Statements as shot-writer
+use Rattle.reading.proofs.LabelOnly as reading-label
+use Rattle.router.proofs.Statements as router
+use Rattle.router.proofs.Exact as router-exact
 use Rattle.hex.proofs.Statements as hex
 use Rattle.promises.specs.Promises.{Promises}
 use Rattle.beginnings.proofs.Statements as beginnings
@@ -49,6 +52,8 @@ use Rattle.promises.proofs.Ties.{ties}
 use Rattle.promises.proofs.TiesC.{ties-c}
 use Rattle.promises.proofs.ReadC.{read-for-c}
 use Rattle.promises.proofs.WhyC.{why-for-c}
+use Rattle.promises.proofs.RouteC.{route-for-c}
+use Rattle.promises.proofs.RouteMany.{asked-many}
 use Rattle.promises.proofs.ListsC.{lists-for-c}
 use Rattle.promises.proofs.When.{refused-when}
 use Rattle.promises.proofs.Demand1.{refused-zero, refused-keeps-line}
@@ -58,6 +63,7 @@ use Rattle.promises.proofs.AsWritten.{read-as-written}
 use Rattle.promises.proofs.Cases.{starred-cases}
 use Rattle.promises.proofs.PositionCases.{position-cases}
 use Rattle.promises.proofs.WhyCases.{why-cases}
+use Rattle.promises.proofs.RouteCases.{route-cases}
 
 pub promises : Promises
 promises = record {
@@ -137,6 +143,29 @@ promises = record {
   phrases-plain = phrases.phrases-plain;
   no-phrase = phrases.no-phrase;
   why-cases = why-cases;
+  label-no-rate = reading-label.label-no-rate;
+  label-as-read = reading-label.label-as-read;
+  label-none = reading-label.label-none;
+  label-position = reading-label.label-position;
+  label-or-own = reading-label.label-or-own;
+  rules-tested = router.rules-tested;
+  route-refused-six = router.refused-six;
+  route-refused-sixteen = router.refused-sixteen;
+  route-refused-by-label = router.refused-by-label;
+  route-refused-five = router.refused-five;
+  route-refused-seventeen = router.refused-seventeen;
+  route-numbers-given = router.numbers-given;
+  route-exactly = router.route-exactly;
+  pruned-exactly = router.pruned-exactly;
+  nothing-asked = router.nothing-asked;
+  together = router-exact.together;
+  end-frame = router.end-frame;
+  range-is = router.range-is;
+  halves-walk = router.halves-walk;
+  tested-once = router.tested-once;
+  asked-many = asked-many;
+  route-for-c = route-for-c;
+  route-cases = route-cases;
   told-stands = telling.told-stands;
   answer-stands = telling.answer-stands;
   word-stands = telling.word-stands;

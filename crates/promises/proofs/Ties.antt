@@ -5,6 +5,7 @@ use Rattle.promises.specs.Ties.{Ties}
 pub ties : Ties
 ties = record {
   read-text = λ κs a x p. p;
+  read-label-only = λ κs a x p. p;
   read-runtime = λ κs a x p. p;
   why = λ κs a x p. p;
   write-phrase = λ κs a x p. p;
@@ -36,6 +37,12 @@ ties = record {
   check-list = λ κs a x p. p;
   given-at = λ κs a x p. p;
   write-list = λ κs a x p. p;
+  check-directory = λ κs a x p. p;
+  query-range = λ κs a x p. p;
+  route = λ κs a x p. p;
+  tested = λ κs a x p. p;
+  verdict = λ κs a x p. p;
+  route-tested = λ κs a x p. p;
   show-why = λ κs a x p. p;
   answers-number = λ κs a x p. p;
   answers-count = λ κs a x p. p;

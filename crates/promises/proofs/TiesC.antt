@@ -32,6 +32,7 @@ ties-c = record {
   tzq-record-at = λ κs a x p. p;
   tzq-check-list = λ κs a x p. p;
   tzq-write-list = λ κs a x p. p;
+  tzq-route = λ κs a x p. p;
   tzq-rate = λ κs a x p. p;
   tzq-drop-frames-per-minute = λ κs a x p. p;
   tzq-format = λ κs a x p. p;

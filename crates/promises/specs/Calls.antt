@@ -3,6 +3,8 @@
 use Rattle.promises.specs.Answers.{Answers}
 use Rattle.reading.proofs.read_text as read-text
 use Rattle.reading.proofs.read_text.Reads as read-text-reads
+use Rattle.reading.proofs.read_label_only as read-label-only
+use Rattle.reading.proofs.read_label_only.Reads as read-label-only-reads
 use Rattle.reading.proofs.number as reading-number
 use Rattle.reading.proofs.number.Reads as reading-number-reads
 use Rattle.reasons.proofs.why as why
@@ -67,6 +69,18 @@ use Rattle.shot_lists.proofs.given_at as given-at
 use Rattle.shot_lists.proofs.given_at.Reads as given-at-reads
 use Rattle.shot_writer.proofs.write_list as write-list
 use Rattle.shot_writer.proofs.write_list.Reads as write-list-reads
+use Rattle.router.proofs.check_directory as check-directory
+use Rattle.router.proofs.check_directory.Reads as check-directory-reads
+use Rattle.router.proofs.query_range as query-range
+use Rattle.router.proofs.query_range.Reads as query-range-reads
+use Rattle.router.proofs.route as route
+use Rattle.router.proofs.route.Reads as route-reads
+use Rattle.router.proofs.tested as tested
+use Rattle.router.proofs.tested.Reads as tested-reads
+use Rattle.router.proofs.verdict as verdict
+use Rattle.router.proofs.verdict.Reads as verdict-reads
+use Rattle.router.proofs.route_tested as route-tested
+use Rattle.router.proofs.route_tested.Reads as route-tested-reads
 use Rattle.answers.proofs.number as answers-number
 use Rattle.answers.proofs.number.Reads as answers-number-reads
 use Rattle.answers.proofs.count as answers-count
@@ -90,6 +104,7 @@ use Rattle.minutes.proofs.minute_start.Reads as minute-start-reads
 pub record OneAnswer : Type 0 where
   -- reading
   pub read-text : Answers read-text.ended read-text-reads.Asked read-text-reads.Learnt
+  pub read-label-only : Answers read-label-only.ended read-label-only-reads.Asked read-label-only-reads.Learnt
   pub read-runtime : Answers read-runtime.ended read-runtime-reads.Asked read-runtime-reads.Learnt
   pub why : Answers why.ended why-reads.Asked why-reads.Learnt
   -- writing
@@ -126,6 +141,13 @@ pub record OneAnswer : Type 0 where
   pub check-list : Answers check-list.ended check-list-reads.Asked check-list-reads.Learnt
   pub given-at : Answers given-at.ended given-at-reads.Asked given-at-reads.Learnt
   pub write-list : Answers write-list.ended write-list-reads.Asked write-list-reads.Learnt
+  -- the router
+  pub check-directory : Answers check-directory.ended check-directory-reads.Asked check-directory-reads.Learnt
+  pub query-range : Answers query-range.ended query-range-reads.Asked query-range-reads.Learnt
+  pub route : Answers route.ended route-reads.Asked route-reads.Learnt
+  pub tested : Answers tested.ended tested-reads.Asked tested-reads.Learnt
+  pub verdict : Answers verdict.ended verdict-reads.Asked verdict-reads.Learnt
+  pub route-tested : Answers route-tested.ended route-tested-reads.Asked route-tested-reads.Learnt
   -- what an answer holds
   pub answers-number : Answers answers-number.ended answers-number-reads.Asked answers-number-reads.Learnt
   pub answers-count : Answers answers-count.ended answers-count-reads.Asked answers-count-reads.Learnt

@@ -57,6 +57,8 @@ use Rattle.exports.proofs.lists.tzq_check_list as tzq-check-list
 use Rattle.exports.proofs.lists.tzq_check_list.Reads as tzq-check-list-reads
 use Rattle.exports.proofs.lists.tzq_write_list as tzq-write-list
 use Rattle.exports.proofs.lists.tzq_write_list.Reads as tzq-write-list-reads
+use Rattle.exports.proofs.route.tzq_route as tzq-route
+use Rattle.exports.proofs.route.tzq_route.Reads as tzq-route-reads
 use Rattle.exports.proofs.tables.tzq_rate as tzq-rate
 use Rattle.exports.proofs.tables.tzq_rate.Reads as tzq-rate-reads
 use Rattle.exports.proofs.tables.tzq_drop_frames_per_minute as tzq-drop-frames-per-minute
@@ -102,6 +104,8 @@ pub record OneAnswerC : Type 0 where
   pub tzq-record-at : Answers tzq-record-at.ended tzq-record-at-reads.Asked tzq-record-at-reads.Learnt
   pub tzq-check-list : Answers tzq-check-list.ended tzq-check-list-reads.Asked tzq-check-list-reads.Learnt
   pub tzq-write-list : Answers tzq-write-list.ended tzq-write-list-reads.Asked tzq-write-list-reads.Learnt
+  -- the router
+  pub tzq-route : Answers tzq-route.ended tzq-route-reads.Asked tzq-route-reads.Learnt
   -- the tables
   pub tzq-rate : Answers tzq-rate.ended tzq-rate-reads.Asked tzq-rate-reads.Learnt
   pub tzq-drop-frames-per-minute : Answers tzq-drop-frames-per-minute.ended tzq-drop-frames-per-minute-reads.Asked tzq-drop-frames-per-minute-reads.Learnt

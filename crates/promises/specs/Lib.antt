@@ -6,6 +6,8 @@ pub mod TiesC
 pub mod ReadC
 pub mod ListsC
 pub mod WhyC
+pub mod RouteC
+pub mod RouteMany
 pub mod Demand1
 pub mod Given
 pub mod When
@@ -15,4 +17,5 @@ pub mod AsWritten
 pub mod Cases
 pub mod PositionCases
 pub mod WhyCases
+pub mod RouteCases
 pub mod Promises

@@ -15,6 +15,7 @@ use Rattle.footage_scan.specs.Statements as footage-scan
 use Rattle.runtime_scan.specs.Statements as runtime-scan
 use Rattle.reading.specs.Statements as reading
 use Rattle.reading.specs.Positions as reading-positions
+use Rattle.reading.specs.LabelOnly as reading-label
 use Rattle.runtime_reading.specs.Statements as runtime-reading
 use Rattle.phrases.specs.Statements as phrases
 use Rattle.reasons.specs.Statements as reasons
@@ -30,6 +31,7 @@ use Rattle.low_bytes.specs.Statements as low-bytes
 use Rattle.shot_lists.specs.Statements as shot-lists
 use Rattle.shot_lists.specs.RefusalStatements as shot-refusals
 use Rattle.shot_writer.specs.Statements as shot-writer
+use Rattle.router.specs.Statements as router
 use Rattle.hex.specs.Statements as hex
 use Rattle.asking.specs.RecordStatements as asking-records
 use Rattle.streams.specs.Statements as streams
@@ -45,6 +47,8 @@ use Rattle.promises.specs.TiesC.{TiesC}
 use Rattle.promises.specs.ReadC.{ReadForC}
 use Rattle.promises.specs.ListsC.{ListsForC}
 use Rattle.promises.specs.WhyC.{WhyForC}
+use Rattle.promises.specs.RouteC.{RouteForC}
+use Rattle.promises.specs.RouteMany.{AskedMany}
 use Rattle.promises.specs.When.{RefusedWhen}
 use Rattle.promises.specs.Demand1.{RefusedZero, RefusedKeepsLine}
 use Rattle.promises.specs.Demand2.{FillsEachRate, Demand2At5, Demand2At11}
@@ -53,6 +57,7 @@ use Rattle.promises.specs.AsWritten.{ReadAsWritten}
 use Rattle.promises.specs.Cases.{StarredCases}
 use Rattle.promises.specs.PositionCases.{PositionCases}
 use Rattle.promises.specs.WhyCases.{WhyCases}
+use Rattle.promises.specs.RouteCases.{RouteCases}
 
 pub record Promises : Type 1 where
   -- demand 1
@@ -139,6 +144,30 @@ pub record Promises : Type 1 where
   pub phrases-plain : phrases.PhrasesPlain
   pub no-phrase : phrases.NoPhrase
   pub why-cases : WhyCases
+  -- the router
+  pub label-no-rate : reading-label.LabelNoRate
+  pub label-as-read : reading-label.LabelAsRead
+  pub label-none : reading-label.LabelNone
+  pub label-position : reading-label.LabelPosition
+  pub label-or-own : reading-label.LabelOrOwn
+  pub rules-tested : router.RulesTested
+  pub route-refused-six : router.RefusedSix
+  pub route-refused-sixteen : router.RefusedSixteen
+  pub route-refused-by-label : router.RefusedByLabel
+  pub route-refused-five : router.RefusedFive
+  pub route-refused-seventeen : router.RefusedSeventeen
+  pub route-numbers-given : router.NumbersGiven
+  pub route-exactly : router.RouteExactly
+  pub pruned-exactly : router.PrunedExactly
+  pub nothing-asked : router.NothingAsked
+  pub together : router.Together
+  pub end-frame : router.EndFrame
+  pub range-is : router.RangeIs
+  pub halves-walk : router.HalvesWalk
+  pub tested-once : router.TestedOnce
+  pub asked-many : AskedMany
+  pub route-for-c : RouteForC
+  pub route-cases : RouteCases
   -- told to the desk
   pub told-stands : telling.ToldStands
   pub answer-stands : telling.AnswerStands

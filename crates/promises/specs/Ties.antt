@@ -19,7 +19,7 @@ use Rattle.lent.specs.Line.{laid}
 use Rattle.minutes.specs.Minutes.{minuteAt}
 use Rattle.rates.specs.Rates.{rateAt}
 use Rattle.timecodes.specs.Made.{settled}
-use Rattle.reading.specs.For.{readFor}
+use Rattle.reading.specs.For.{readFor, labelFor}
 use Rattle.reading.specs.Answer as reading
 use Rattle.showing.specs.Why.{whyOn}
 use Rattle.streams.specs.Sheet.{sheet}
@@ -35,9 +35,16 @@ use Rattle.written.specs.Written.{Text, answerTo, lineTo}
 use Rattle.shot_lists.specs.Entries.{onDisk, inNumbers, entryOf}
 use Rattle.shot_lists.specs.Reading.{checkedOf, readOf}
 use Rattle.shot_writer.specs.ListText.{listDraft}
+use Rattle.answers.specs.Order.{judged}
+use Rattle.router.specs.Directory.{directoryWhen}
+use Rattle.router.specs.Query.{rangeOf}
+use Rattle.router.specs.Route.{routeOf}
+use Rattle.router.specs.Tested.{directoryOf, verdictOf, routedIn}
 use Rattle.answers.specs.Refusals as answers
 use Rattle.timecodes.specs.Timecode as timecodes
 use Rattle.written.specs.Written as written
+use Rattle.reading.proofs.read_label_only as read-label-only
+use Rattle.reading.proofs.read_label_only.Reads as read-label-only-reads
 use Rattle.reading.proofs.read_text as read-text
 use Rattle.reading.proofs.read_text.Reads as read-text-reads
 use Rattle.reading.proofs.number as reading-number
@@ -106,6 +113,18 @@ use Rattle.shot_lists.proofs.given_at as given-at
 use Rattle.shot_lists.proofs.given_at.Reads as given-at-reads
 use Rattle.shot_writer.proofs.write_list as write-list
 use Rattle.shot_writer.proofs.write_list.Reads as write-list-reads
+use Rattle.router.proofs.check_directory as check-directory
+use Rattle.router.proofs.check_directory.Reads as check-directory-reads
+use Rattle.router.proofs.query_range as query-range
+use Rattle.router.proofs.query_range.Reads as query-range-reads
+use Rattle.router.proofs.route as route
+use Rattle.router.proofs.route.Reads as route-reads
+use Rattle.router.proofs.tested as tested
+use Rattle.router.proofs.tested.Reads as tested-reads
+use Rattle.router.proofs.verdict as verdict
+use Rattle.router.proofs.verdict.Reads as verdict-reads
+use Rattle.router.proofs.route_tested as route-tested
+use Rattle.router.proofs.route_tested.Reads as route-tested-reads
 use Rattle.answers.proofs.number as answers-number
 use Rattle.answers.proofs.number.Reads as answers-number-reads
 use Rattle.answers.proofs.count as answers-count
@@ -129,6 +148,7 @@ use Rattle.minutes.proofs.minute_start.Reads as minute-start-reads
 pub record Ties : Type 0 where
   -- reading
   pub read-text : Gives read-text.ended read-text-reads.Learnt (λ κs a x. x .0 ≡ readFor (a .1 .1 .1 .0) (a .0 .now) (a .1 .0) (a .1 .1 .0))
+  pub read-label-only : Gives read-label-only.ended read-label-only-reads.Learnt (λ κs a x. x .0 ≡ labelFor (a .1 .1 .0) (a .0 .now) (a .1 .0))
   pub read-runtime : Gives read-runtime.ended read-runtime-reads.Learnt (λ κs a x. x .0 ≡ settled (a .1 .1 .0) (readRuntime (a .0 .now) (a .1 .0)))
   pub why : Gives why.ended why-reads.Learnt (λ κs a x.
       (x .0 ≡ whyOf (a .1 .1 .1 .0) (a .0 .now) (a .1 .0) (a .1 .1 .0) (a .1 .1 .1 .1 .0 .now) (a .1 .1 .1 .1 .1 .0))
@@ -176,6 +196,14 @@ pub record Ties : Type 0 where
   pub write-list : Gives write-list.ended write-list-reads.Learnt (λ κs a x.
       (x .0 ≡ answerTo (a .1 .0 .now) (a .1 .1 .0) (listDraft (a .0 .now)))
       × (x .1 .1 .0 ≡ lineTo (a .1 .0 .now) (a .1 .1 .0) (listDraft (a .0 .now))))
+  -- the router
+  pub check-directory : Gives check-directory.ended check-directory-reads.Learnt (λ κs a x. x .0 ≡ judged (directoryWhen (a .0) (a .1 .0 .now) (a .1 .1 .0 .now)))
+  pub query-range : Gives query-range.ended query-range-reads.Learnt (λ κs a x. x .0 ≡ rangeOf (a .0) (a .1 .0) (a .1 .1 .0 .now))
+  pub route : Gives route.ended route-reads.Learnt (λ κs a x.
+      x .0 ≡ routeOf (a .0) (a .1 .0 .now) (a .1 .1 .0 .now) (a .1 .1 .1 .0) (a .1 .1 .1 .1 .0 .now))
+  pub tested : Gives tested.ended tested-reads.Learnt (λ κs a x. x .0 ≡ directoryOf (a .0) (a .1 .0 .now) (a .1 .1 .0 .now))
+  pub verdict : Gives verdict.ended verdict-reads.Learnt (λ κs a x. x .0 ≡ verdictOf (a .0))
+  pub route-tested : Gives route-tested.ended route-tested-reads.Learnt (λ κs a x. x .0 ≡ routedIn (a .0) (a .1 .0) (a .1 .1 .0 .now))
   -- shown by the calculator
   pub show-why : Gives show-why.ended show-why-reads.Learnt (λ κs a x.
       (x .0 ≡ whyOn (sheet (a .0 .now) (a .1 .0)) (a .1 .1 .1 .0) (a .1 .1 .0) (a .1 .1 .1 .1 .0 .now) .used)

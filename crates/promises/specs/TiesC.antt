@@ -15,6 +15,8 @@ use Rattle.shot_lists.specs.Entries.{onDisk, entryOf}
 use Rattle.shot_lists.specs.Reading.{checkedOf, readOf}
 use Rattle.shot_writer.specs.ListText.{listDraft}
 use Rattle.exports.specs.HandedLists.{handedEntry, handedChecked}
+use Rattle.router.specs.Route.{routeOf}
+use Rattle.exports.specs.HandedRoute.{handedRouted}
 use Rattle.exports.specs.HandedWhy.{statedFrom, handedReason}
 use Rattle.exports.specs.Handed.{SecondsHanded, handedAnswer, handedCount, handedFormat, handedLength, handedOrder, handedRate, handedRead, handedSections, handedTicks, handedTimecode, timecodeFrom}
 use Rattle.film.specs.Film.{formatAt}
@@ -89,6 +91,8 @@ use Rattle.exports.proofs.lists.tzq_check_list as tzq-check-list
 use Rattle.exports.proofs.lists.tzq_check_list.Reads as tzq-check-list-reads
 use Rattle.exports.proofs.lists.tzq_write_list as tzq-write-list
 use Rattle.exports.proofs.lists.tzq_write_list.Reads as tzq-write-list-reads
+use Rattle.exports.proofs.route.tzq_route as tzq-route
+use Rattle.exports.proofs.route.tzq_route.Reads as tzq-route-reads
 use Rattle.exports.proofs.tables.tzq_rate as tzq-rate
 use Rattle.exports.proofs.tables.tzq_rate.Reads as tzq-rate-reads
 use Rattle.exports.proofs.tables.tzq_drop_frames_per_minute as tzq-drop-frames-per-minute
@@ -149,6 +153,9 @@ pub record TiesC : Type 0 where
   pub tzq-write-list : Gives tzq-write-list.ended tzq-write-list-reads.Learnt (λ κs a x.
       (x .0 ≡ handedLength (answerTo (a .1 .0 .now) (a .1 .1 .0) (listDraft (a .0 .now))))
       × (x .1 .1 .0 ≡ lineTo (a .1 .0 .now) (a .1 .1 .0) (listDraft (a .0 .now))))
+  -- the router
+  pub tzq-route : Gives tzq-route.ended tzq-route-reads.Learnt (λ κs a x.
+      x .0 ≡ handedRouted (routeOf (a .0) (a .1 .0 .now) (a .1 .1 .0 .now) (a .1 .1 .1 .0) (a .1 .1 .1 .1 .0 .now)))
   -- the tables
   pub tzq-rate : Gives tzq-rate.ended tzq-rate-reads.Learnt (λ κs a x. x .0 ≡ handedRate (rateAt (a .0)))
   pub tzq-drop-frames-per-minute : Gives tzq-drop-frames-per-minute.ended tzq-drop-frames-per-minute-reads.Learnt (λ κs a x. x .0 ≡ dropFrames (a .0))

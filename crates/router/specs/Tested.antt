@@ -33,10 +33,14 @@ directoryOf rate firsts ends = record {
   ends = keptOf ends;
 }
 
+-- what its test gave
+abbrev pub verdictOf : Directory → Verdict
+verdictOf d = d .verdict
+
 -- behind what its test gave, the search in what is kept
 abbrev pub routedBy : Directory → (length : ℤ) (text : List ℕ) → Verdict → Routed
 routedBy d length text answers.Passed = foundIn (take (d .shards) (d .firsts)) (take (d .shards) (d .ends)) (rangeOf (d .rate) length text)
 routedBy d length text (answers.Refused e) = Refused e
 
 unfoldable pub routedIn : Directory → (length : ℤ) (text : List ℕ) → Routed
-routedIn d length text = routedBy d length text (d .verdict)
+routedIn d length text = routedBy d length text (verdictOf d)

@@ -2,7 +2,7 @@
 ghost use mathlib.Core.Path.{_≡_};
 ghost use lib.ListN.{take};
 ghost use Rattle.router.specs.Halving.{foundIn};
-ghost use Rattle.router.specs.Tested.{keptOf, directoryOf, routedIn};
+ghost use Rattle.router.specs.Tested.{keptOf, directoryOf, verdictOf, routedIn};
 use crate::Routed;
 use crate::found;
 use crate::rules;
@@ -61,7 +61,7 @@ pub fn tested(rate: u64, firsts: &[u64], ends: &[u64]) -> Directory
 
 // What the test of a directory gave. Refuses 6: no such rate; 16: it breaks a rule.
 pub fn verdict(d: Directory) -> Verdict
-    ensures answer { λ r. ⌜ r ≡ d .verdict ⌝ }
+    ensures answer { λ r. ⌜ r ≡ verdictOf d ⌝ }
 {
     d.verdict
 }
