@@ -18,6 +18,9 @@ WORDS = {word: kind for kind, (word, _) in KINDS.items()}
 HEX = re.compile(rb"-|(?:[0-9a-fA-F]{2})+")
 NUMBER = re.compile(rb"-?[0-9]+")
 MOST = 400_000_000
+# a line of `ask` may have as many bytes, its newline not counted, and so many of a list
+LONGEST_LINE = 8192
+LONGEST_LIST = (LONGEST_LINE - len("read_list ")) // 2
 
 
 class Refused(Exception):
@@ -124,7 +127,7 @@ def write_list(rest):
 def right(command):
     """The whole answer of `ask`."""
     word, _, rest = command.partition(b" ")
-    if len(command) > 4096:
+    if len(command) > LONGEST_LINE:
         return b"not understood"
     try:
         return {b"read_list": read_list, b"write_list": write_list}[word](rest)
@@ -216,14 +219,13 @@ def damaged(seed, many):
 def full_lines():
     """Lists as long as a line may be, and one byte longer: of rates, shots, reels and all of them."""
     for record in ((1, (12,)), (2, (-MOST, -MOST)), (3, (2**32 - 1,))):
-        many = 2043 // len(packed([record]))
+        many = LONGEST_LIST // len(packed([record]))
         data = packed([(1, (12,))] * (record[0] == 2) + [record] * (many - (record[0] == 2)))
         yield from (b"read_list " + shown(data), b"read_list " + shown(data) + b"0", b"read_list " + shown(data + b"\1"))
-        yield b"read_list " + shown((data + bytes(2043))[:2043])
-        yield b"read_list " + shown((data + bytes(2044))[:2044])
+        yield from (b"read_list " + shown((data + bytes(size))[:size]) for size in (2043, 2044, LONGEST_LIST, LONGEST_LIST + 1))
     for word in ("rate 5", "reel 7", "shot 0 0"):
-        made = " ".join(["write_list 0 1024 rate 5", *[word] * 600]).encode()
-        yield from (made[:at] for at in (4096, 4095, 4094, 4093, 4092, 4091, 4090, 4089, 4088, 4097))
+        made = " ".join(["write_list 0 1024 rate 5", *[word] * 1200]).encode()
+        yield from (made[:at] for at in (4096, 4097, *range(LONGEST_LINE - 8, LONGEST_LINE + 2)))
 
 
 def written(seed, many):
@@ -272,7 +274,7 @@ def again(command, answer):
         return None
     data = b"" if rest == b"-" else bytes.fromhex(rest.decode())
     made = b" ".join([b"write_list 0 %d" % len(data), *answer.split(b" ", 1)[1:]])
-    return (made, b"%d %s" % (len(data), shown(data))) if len(data) <= 1024 and len(made) <= 4096 else None
+    return (made, b"%d %s" % (len(data), shown(data))) if len(data) <= 1024 and len(made) <= LONGEST_LINE else None
 
 
 def work(job):

@@ -15,6 +15,8 @@ from typing import NamedTuple
 README = Path(__file__).resolve().parent.parent / "README.md"
 BOUND = 400_000_000
 MOST_DIGITS = 9
+# a line of `ask` may have as many bytes, its newline not counted
+LONGEST_LINE = 8192
 TIMEBASES = {1: 24, 2: 24, 3: 25, 4: 30, 5: 30, 6: 30, 7: 48, 8: 48, 9: 50, 10: 60, 11: 60, 12: 60}
 # the frame numbers that a minute begins without, but in every tenth minute
 PASSED = {5: (0, 1), 11: (0, 1, 2, 3)}
@@ -259,7 +261,7 @@ def answer(line, phrases):
         place, room = number(given.get("p", b"0"), 0), number(given.get("o", b"0"), 0, 128)
     except (KeyError, ValueError):
         return b"not understood"
-    if len(line) > 4096:
+    if len(line) > LONGEST_LINE:
         return b"not understood"
     one = why(rate, position, stated, given["t"])
     return shown(one, position, phrases[one.number], place, room) if word == b"why" else read(one, position)

@@ -17,9 +17,7 @@ import all as comparison
 import offered
 import reasons
 from offered import KINDS, LARGEST, RATES, SIGNS, SMALLEST
-
-# a line of `ask` may have as many bytes, its newline not counted
-LONGEST_LINE = 4096
+from reasons import LONGEST_LINE
 
 # -- Lines --
 
