@@ -1,7 +1,7 @@
 #!/bin/bash
 # The crate and our program on millions of inputs, each difference held to docs/DIFFERENCES.md: compare/all.sh [quick]
 # Its last line is 'N compared, M listed differences, 0 unlisted'; the status is 1 if any is unlisted, or if a place, a footage, a position,
-# a shot list or what is written is wrong.
+# a reason, a route, a shot list or what is written is wrong.
 #
 # On standard error it tells how far it is; where that is no terminal, only what begins.
 #
@@ -33,6 +33,7 @@ PYTHONDONTWRITEBYTECODE=1 python3 compare/places.py "${1-full}" "${ask[@]}"
 PYTHONDONTWRITEBYTECODE=1 python3 compare/footages.py "${1-full}" "${ask[@]}"
 PYTHONDONTWRITEBYTECODE=1 python3 compare/positions.py "${1-full}" "${ask[@]}"
 PYTHONDONTWRITEBYTECODE=1 python3 compare/why.py "${1-full}" "${ask[@]}"
+PYTHONDONTWRITEBYTECODE=1 python3 compare/routes.py "${1-full}" "${ask[@]}"
 PYTHONDONTWRITEBYTECODE=1 python3 compare/lists.py "${1-full}" "${ask[@]}"
 
 [ -n "${ASK-}" ] || compare/written.sh
