@@ -2,6 +2,7 @@
 # Measures Tzaquedda on this machine and prints the results: bench/run.sh [--before COMMIT] [LINES]
 #   - labels written and read a second through the C interface, and digits of nine-digit numbers, beside plain C, in one run
 #     (bench/bench.c); with --before beside the library of that commit too, which takes as long again to be proved;
+#   - queries a second of the router at 1, 16 and 256 shards, beside plain C that walks along them (bench/routes.c);
 #   - the program `line` on LINES labels (default 200000, none with 0), beside the crate vtc answering the same (compare/judge.sh).
 # Needs Rattle's kit, gcc, and what compare/judge.sh needs. Ratios are of one run, so they mean something on a busy machine too; under
 # the emulator they do not.
@@ -78,4 +79,6 @@ if [ -n "$before" ]; then
 fi
 compile target/bench bench/bench.c bench/plain.c "${objects[@]}"
 run target/bench
+compile target/bench-routes bench/routes.c bench/walk.c
+run target/bench-routes
 if [ "$lines" -gt 0 ]; then programs; fi

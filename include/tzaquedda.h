@@ -1,4 +1,4 @@
-/* Tzaquedda for C: timecode, feet and frames, runtimes, ticks and seconds as frame counts at twelve rates, and shot lists.
+/* Tzaquedda for C: timecode, feet and frames, runtimes, ticks and seconds as frame counts at twelve rates, shot lists, and the router.
  *
  * Link with the static library that `bin/prove --library exports` makes (target/staticlib/libexports.a, x86-64 Linux):
  *
@@ -14,10 +14,10 @@
  * version, all of it anew.
  *
  * Each answer begins with `refused`: 0, or one of the numbers below, and then every other number of the answer is 0 (but the place in the
- * text that tzq_read and tzq_read_as answer with 1 and 2), `position` false, a fraction 0/1, and no byte of the line has changed. Of
+ * text that tzq_read, tzq_read_as and tzq_route answer with 1 and 2), `position` false, a fraction 0/1, and no byte of the line has changed. Of
  * several refusals the first is given in the order 6, 15, 5 (of an input), 7, 1, 2, 4, 13 (of a footage) or 14 (of a label), 3, 5 (of the
  * resulting count), 8; of a shot list the earliest record at fault decides, and for a record the order is 9, 10, 6, 5, 11, 12; where a
- * list is written, 8 comes last.
+ * list is written, 8 comes last; of the router the order is 6, 16, the label's own (1, 2, 14, 3), 5 (of the length), 17.
  *
  * ---- Lengths and positions ----
  *
@@ -73,12 +73,14 @@ enum {
     TZQ_END_BEFORE_FIRST = 12, /* a shot's end before its first frame */
     TZQ_NOT_ON_FILM = 13,  /* a footage's frames number does not occur in that foot, or its perf field, if any, is not feet modulo 3 */
     TZQ_NOT_STRICT = 14,   /* a label of a position that is not strict or has a sign */
-    TZQ_WRONG_KIND = 15    /* a position where only a length may be, or one of each compared: see the table above */
+    TZQ_WRONG_KIND = 15,   /* a position where only a length may be, or one of each compared: see the table above */
+    TZQ_BROKEN_DIRECTORY = 16, /* a directory of shards that breaks a rule */
+    TZQ_PAST_DAY = 17      /* a query that ends past the day */
 };
 
 /* The phrase of each refusal by its number, 0 being nothing refused: what tzq_why lays down. Plain ASCII, none longer than 128 bytes; each
  * ends with a 0, which is not laid down. */
-static const char *const tzq_phrases[16] = {
+static const char *const tzq_phrases[18] = {
     "accepted",
     "not in a form that can be read",
     "a number has too many digits",
@@ -94,7 +96,9 @@ static const char *const tzq_phrases[16] = {
     "a shot ends before it begins",
     "no such place on the film",
     "not a time of day",
-    "a position where only a length may be"
+    "a position where only a length may be",
+    "a directory that breaks its rules",
+    "a query that ends past the day"
 };
 
 /* ---- Numbers that are passed and answered ---- */
@@ -121,6 +125,7 @@ typedef struct { uint64_t refused; int64_t ticks; } tzq_ticks;
 typedef struct { uint64_t refused; int64_t numerator; uint64_t denominator; } tzq_fraction;
 typedef struct { uint64_t refused; int64_t count; uint64_t rate; } tzq_converted;
 typedef struct { uint64_t refused; size_t length; } tzq_length;
+typedef struct { uint64_t refused; size_t place; size_t first; size_t after; } tzq_shards; /* shards first to after - 1 are asked */
 
 typedef struct {
     uint64_t refused;
@@ -318,6 +323,21 @@ tzq_checked tzq_check_list(const uint8_t *list, size_t length);
  * 400,000,000 either side of zero, a reel that is no unsigned 32-bit number), 11, 12; then 8: place plus the list's length exceeds
  * `length`. */
 tzq_length tzq_write_list(const int64_t *numbers, size_t count, uint8_t *line, size_t length, size_t place);
+
+/* ---- The router: which shards of a reel a query must ask ----
+ *
+ * A directory is up to 256 shards of one reel at one rate, none at all too: shard i has the frames of the day from firsts[i] up to ends[i],
+ * which is not one of them. Its rules: as many firsts as ends; none empty; in rising order without overlap (they may touch, and gaps are
+ * allowed); none ends past the day. A query is the label of a position, where it starts, and a length in frames. */
+
+/* The first shard that must be asked and the one after the last, both 0 where there is none: a shard is among them exactly when some frame
+ * lies both in it and in the query. A query of length 0 asks none, and one that ends where a shard begins does not ask that shard. The time
+ * is that of testing the directory, in proportion to its shards, and of finding them by halving.
+ * Refuses 6: no such rate; 16: the directory breaks a rule; 1, 2 (each with its place in the label), 14 or 3: the label's own, where a
+ * footage has no shape; 5: a length outside 0 to 400,000,000; 17: start plus length is beyond the day (a query may end with the day, and
+ * never goes on into the next). */
+tzq_shards tzq_route(uint64_t rate, const uint64_t *firsts, size_t firsts_length, const uint64_t *ends, size_t ends_length,
+                     int64_t length, const uint8_t *label, size_t label_length);
 
 /* ---- The constant tables ---- */
 

@@ -424,6 +424,34 @@ static void lists(void) {
     write_list(reel, 2, 8, 0);
 }
 
+static void route(const uint64_t *firsts, const uint64_t *ends, size_t shards, int64_t length, const char *label) {
+    tzq_shards a = tzq_route(5, firsts, shards, ends, shards, length, (const uint8_t *)label, strlen(label));
+    printf("route %" PRId64 " %s: %" PRIu64 " %zu %zu %zu\n", length, label, a.refused, a.place, a.first, a.after);
+}
+
+/* three shards: the first two touch at frame 1800, from 3598 up to 5000 is a gap */
+static void routes(void) {
+    static const uint64_t firsts[] = {0, 1800, 5000}, ends[] = {1800, 3598, 6000};
+    route(firsts, ends, 3, 1, "00:00:59;29");
+    route(firsts, ends, 3, 2, "00:00:59;29"); /* one frame more: the next shard too */
+    route(firsts, ends, 3, 0, "00:00:59;29");
+    route(firsts, ends, 3, 1402, "00:02:00;02"); /* the gap, up to where shard 2 begins */
+    route(firsts, ends, 3, 1403, "00:02:00;02");
+    route(firsts, ends, 3, 6000, "00:00:00;00");
+    route(firsts, ends, 3, 1, "23:59:59;29"); /* ends with the day */
+    route(firsts, ends, 3, 2, "23:59:59;29"); /* past it: 17 */
+    route(firsts, ends, 3, -1, "00:00:00;00");
+    route(firsts, ends, 3, -1, "00:01:00;00"); /* the label comes before the length: 3 */
+    route(firsts, ends, 3, 1, "1+00"); /* a footage: 1, at byte 1 */
+    route(firsts, ends, 3, 1, "24:00:00;00");
+    route(ends, firsts, 3, 1, "x"); /* ends before firsts: 16 */
+    route(firsts, ends, 0, 1, "00:00:00;00"); /* no shard at all */
+    tzq_shards a = tzq_route(5, firsts, 3, ends, 2, 1, (const uint8_t *)"0", 1);
+    printf("a first without an end: %" PRIu64 "\n", a.refused);
+    a = tzq_route(13, firsts, 3, ends, 2, 1, (const uint8_t *)"x", 1);
+    printf("no such rate: %" PRIu64 "\n", a.refused);
+}
+
 int main(void) {
     texts();
     times();
@@ -432,5 +460,6 @@ int main(void) {
     reasons();
     tables();
     lists();
+    routes();
     return 0;
 }

@@ -57,13 +57,14 @@ RefusedByLabel =
 abbrev pub LengthOf : ℤ → (n : ℕ) → Type 0
 LengthOf z n = (z ≡ pos n) × (n ≤ 400000000)
 
--- 5 exactly when the length is outside 0 to 400,000,000
+-- the label is a position's, and the length is outside its bounds
 pub record BadLength (rate : ℕ) (firsts ends : List ℕ) (z : ℤ) (text : List ℕ) : Type 0 where
   pub good : Good rate firsts ends
   pub start : ℕ
   pub label : DayText text Nothing rate start
   pub outside : (n : ℕ) → ¬ LengthOf z n
 
+-- 5 exactly when the length is outside 0 to 400,000,000
 abbrev pub RefusedFive : Type 0
 RefusedFive =
     (rate : ℕ) (firsts ends : List ℕ) (z : ℤ) (text : List ℕ)
@@ -75,13 +76,14 @@ pub record Asks (rate : ℕ) (firsts ends : List ℕ) (z : ℤ) (text : List ℕ
   pub label : DayText text Nothing rate start
   pub of-length : LengthOf z n
 
--- 17 exactly when start plus length is beyond the day; one that ends with the day is allowed
+-- start plus length is beyond the day; one that ends with the day is not
 pub record PastDay (rate : ℕ) (firsts ends : List ℕ) (z : ℤ) (text : List ℕ) : Type 0 where
   pub start : ℕ
   pub n : ℕ
   pub asks : Asks rate firsts ends z text start n
   pub past : dayFrames rate < start + n
 
+-- 17 exactly when start plus length is beyond the day
 abbrev pub RefusedSeventeen : Type 0
 RefusedSeventeen =
     (rate : ℕ) (firsts ends : List ℕ) (z : ℤ) (text : List ℕ)
