@@ -8,6 +8,8 @@ use Rattle.asking.proofs.numbered.rates as rates
 use Rattle.asking.proofs.numbered.rates.Reads as rates-reads
 use Rattle.asking.proofs.recorded.records as records
 use Rattle.asking.proofs.recorded.records.Reads as records-reads
+use Rattle.asking.proofs.sharded.shards as shards
+use Rattle.asking.proofs.sharded.shards.Reads as shards-reads
 use Rattle.asking.proofs.values.number as number
 use Rattle.asking.proofs.values.number.Reads as number-reads
 use Rattle.asking.proofs.values.stands as stands
@@ -39,3 +41,9 @@ rates-determined κs a asked x y p q =
 pub records-determined : Determined records.ended records-reads.Asked records-reads.Learnt
 records-determined κs a asked x y p q =
     ap (λ z. (z, x .1)) (p .0 ∙ sym (q .0)) ∙ ap (λ z. (y .0, (x .1 .0, (x .1 .1 .0, (z, x .1 .1 .1 .1))))) (p .1 ∙ sym (q .1))
+
+pub shards-determined : Determined shards.ended shards-reads.Asked shards-reads.Learnt
+shards-determined κs a asked x y p q =
+    ap (λ z. (z, x .1)) (p .0 ∙ sym (q .0))
+    ∙ ap (λ z. (y .0, (x .1 .0, (x .1 .1 .0, (z, x .1 .1 .1 .1))))) (p .1 .0 ∙ sym (q .1 .0))
+    ∙ ap (λ z. (y .0, (x .1 .0, (x .1 .1 .0, (y .1 .1 .1 .0, (z, x .1 .1 .1 .1 .1)))))) (p .1 .1 ∙ sym (q .1 .1))

@@ -10,6 +10,8 @@ pub mod RecordTexts
 pub mod Placed
 pub mod RecordsListed
 pub mod Numerals
+pub mod Ranges
+pub mod ShardTexts
 pub mod Understanding
 pub mod Told
 pub mod Determined

@@ -32,11 +32,11 @@ true-false : true ≡ false → ⊥
 true-false e = let z : _≡_ {A = ℕ} 0 1 = cc in omega arith
 
 -- a byte that is no digit is not the first of digits
-not-first : (c : ℕ) (d l : List ℕ) → IsField d → isDigit c ≡ false → firstIs (isByte c) (d ++ l) ≡ false
+pub not-first : (c : ℕ) (d l : List ℕ) → IsField d → isDigit c ≡ false → firstIs (isByte c) (d ++ l) ≡ false
 not-first c [] l f h = absurd (omega (arith, f .some))
 not-first c (b ∷ d) l f h = ne-eqb b c (λ e. true-false (sym (all-head b d (f .digits)) ∙ ap isDigit e ∙ h))
 
-signed-taken : {d : List ℕ} {z : ℤ} → Numeral d z → (at : ℕ) (l : List ℕ) → digitFirst l ≡ false → signedAt at (d ++ l) ≡ Number z (at + length d)
+pub signed-taken : {d : List ℕ} {z : ℤ} → Numeral d z → (at : ℕ) (l : List ℕ) → digitFirst l ≡ false → signedAt at (d ++ l) ≡ Number z (at + length d)
 unfolding signedAt
 signed-taken (plain {d} f w) at l s = rw (not-first 45 d l f refl) (digits-taken false at d l f w s)
 signed-taken (minus {d} f w) at l s =
@@ -67,7 +67,7 @@ no-position : {d : List ℕ} {z : ℤ} → Numeral d z → (kind : ℕ) (l : Lis
 unfolding isPosition wordFirst
 no-position f kind l = rw (no-mark f l) (and-false (eqb kind 64))
 
-not-over : (d l : List ℕ) → IsField d → isOver (d ++ l) ≡ false
+pub not-over : (d l : List ℕ) → IsField d → isOver (d ++ l) ≡ false
 unfolding isOver
 not-over [] l f = absurd (omega (arith, f .some))
 not-over (b ∷ d) l f = not-first 32 (b ∷ d) l f refl

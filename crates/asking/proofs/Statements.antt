@@ -9,7 +9,7 @@ use Rattle.asking.proofs.RecordsListed as listed
 use Rattle.digits.specs.Digits.{span, valueFrom}
 use Rattle.asking.specs.Numbers.{numberAt, signedAt, digitsAt, signedWord}
 use Rattle.asking.specs.Table.{wordOf, rows, rowFrom, same, wordFirst, isOver}
-use Rattle.asking.specs.Asked.{askedOf, wordsFrom, endedAt, restAt, isInRange, valueAt, isMarked, isUnstated, isPosition}
+use Rattle.asking.specs.Asked.{askedOf, wordsFrom, endedAt, restAt, isInRange, valueAt, wordAt, isMarked, isUnstated, isPosition}
 
 pub understood : Understood
 understood = there.understood
@@ -25,6 +25,6 @@ pub records-exactly : RecordsExactly
 records-exactly = listed.records-exactly
 
 pub why-asked : WhyAsked
-unfolding askedOf wordOf rows rowFrom same wordsFrom endedAt restAt isInRange valueAt isMarked isUnstated isPosition wordFirst isOver numberAt
+unfolding askedOf wordOf rows rowFrom same wordsFrom endedAt restAt isInRange valueAt wordAt isMarked isUnstated isPosition wordFirst isOver numberAt
     signedAt digitsAt signedWord span valueFrom
 why-asked = record { unstated = refl; stated = refl; wide = refl; taken = (refl, refl, refl, refl, refl) }

@@ -17,9 +17,10 @@ use Rattle.asking.specs.declared.values.Word.the-variants.{Number, Nothi
 use Rattle.asking.specs.declared.words.Value.{Value}
 use Rattle.asking.specs.declared.words.Rest.the-variants as rest
 use Rattle.asking.specs.Numbers.{signedAt, numberAt}
+use Rattle.asking.specs.ShardWords.{shardsAt}
 use Rattle.laws.specs.Spelt.{spelt}
 use Rattle.asking.specs.Table.{wordOf, isPlain, wordFirst, isOver, rowCount, rowNamed, kindOf}
-use Rattle.asking.specs.Asked.{value, isPosition, isUnstated, isMarked, valueAt, isRoom, isInRange, allowed, isLast, restAt}
+use Rattle.asking.specs.Asked.{value, isPosition, isUnstated, isMarked, valueAt, isRoom, isInRange, allowed, wordAt, isLast, restAt}
 use Rattle.asking.specs.Asked.{unknown, noValues, endedAt, wordThen, wordsFrom, askedOf}
 use Rattle.asking.proofs.Standing.{word-front}
 
@@ -182,6 +183,21 @@ module _ (kind at : ℕ) (l : List ℕ) where
     unfolding valueAt
     value-plain f = rw (e, f)
 
+-- ---- what stands there, by its letter
+module _ (kind : ℕ) (line : List ℕ) (at : ℕ) where
+  pub word-shards : kind ≡ 115 → shardsAt line at ≡ wordAt kind line at
+  unfolding wordAt
+  word-shards e = rw (eq-eqb kind 115 e)
+
+  pub word-number : (kind ≡ 115 → ⊥) → allowed kind (valueAt kind at (drop at line)) ≡ wordAt kind line at
+  unfolding wordAt
+  word-number e = rw (ne-eqb kind 115 e)
+
+-- shards have no mark
+pub shards-unmarked : (kind : ℕ) (l : List ℕ) → kind ≡ 115 → isMarked kind l ≡ false
+unfolding isMarked isUnstated isPosition
+shards-unmarked kind l e = rw e
+
 -- ---- where the rest begins
 module _ (kind : ℕ) (line : List ℕ) (at : ℕ) where
   pub rest-ended : length line ≤ at → rest.At at ≡ restAt kind at (drop at line)
@@ -237,7 +253,7 @@ module _ (row : ℕ) (line : List ℕ) (from : ℕ) (values : List Value) (at k 
   module _ (t : Bool) (e : t ≡ (ltb k 5 && not (isLast (kindOf row k)))) (f : t ≡ true) where
     more : (n : ℕ) → k + n ≡ 5
         → wordsFrom n row line at k values
-        ≡ wordThen (allowed (kindOf row k) (valueAt (kindOf row k) at (drop at line)))
+        ≡ wordThen (wordAt (kindOf row k) line at)
         (λ z next. wordsFrom (n - 1) row line next (k + 1) (set values k (value z (isMarked (kindOf row k) (drop at line)))))
     unfolding wordsFrom
     more zero l = absurd (omega (arith, going-within t e f))
@@ -246,7 +262,7 @@ module _ (row : ℕ) (line : List ℕ) (from : ℕ) (values : List Value) (at k 
         rw (not-true (isLast (kindOf row k)) (and-eq-true-iff (ltb k 5) _ .0 (sym e ∙ f) .1), m)
 
     -- by the word there
-    module _ (kind : ℕ) (i : kind ≡ kindOf row k) (w : Word) (j : w ≡ allowed kind (valueAt kind at (drop at line))) where
+    module _ (kind : ℕ) (i : kind ≡ kindOf row k) (w : Word) (j : w ≡ wordAt kind line at) where
       pub going-none : w ≡ Nothing → unknown ≡ wordsFrom 5 row line from 0 noValues
       going-none g = sym (s .same ∙ more (s .n) (s .left) ∙ rw (← i, ← j, g))
 

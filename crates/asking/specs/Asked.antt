@@ -14,11 +14,12 @@ use Rattle.asking.specs.declared.words.Asked.{Asked}
 use Rattle.asking.specs.declared.words.Rest.{Rest}
 use Rattle.asking.specs.declared.words.Rest.the-variants as rest
 use Rattle.asking.specs.Numbers.{signedAt, numberAt}
+use Rattle.asking.specs.ShardWords.{shardsAt}
 use Rattle.laws.specs.Spelt.{spelt}
 use Rattle.asking.specs.Table.{wordOf, wordFirst, isOver, rowCount, rowNamed, kindOf}
 
 -- ---- a number and its mark, in a line: l is what is left of it
--- a number, and whether it has the mark of a position; of a film format: none is stated
+-- a number, and whether it has the mark of a position; of a film format: none is stated. Of shards: the place where they begin
 abbrev pub value : ℤ → (marked : Bool) → Value
 value z marked = record { number = z; marked = marked }
 
@@ -59,7 +60,16 @@ abbrev pub allowed : (kind : ℕ) → Word → Word
 allowed kind (Number z next) = cond (isInRange kind z) (Number z next) Nothing
 allowed kind Nothing = Nothing
 
--- a letter that is no number's: no word, a text, a rest
+-- `s`, a word of shards
+abbrev pub isShards : (kind : ℕ) → Bool
+isShards kind = eqb kind 115
+
+-- what stands at a place of the line where a row has this letter, and the place past it: shards by the place where they begin, else a
+-- number that is allowed
+unfoldable pub wordAt : (kind : ℕ) (line : List ℕ) (at : ℕ) → Word
+wordAt kind line at = cond (isShards kind) (shardsAt line at) (allowed kind (valueAt kind at (drop at line)))
+
+-- a letter that is no word's: none, a text, a rest
 abbrev pub isLast : (kind : ℕ) → Bool
 isLast kind = eqb kind 32 || (eqb kind 116 || eqb kind 42)
 
@@ -101,7 +111,7 @@ wordsFrom (suc m) n line at k values =
     let kind = kindOf n k in
     let l = drop at line in
     cond (isLast kind) (endedAt n line at k values)
-    (wordThen (allowed kind (valueAt kind at l)) (λ z next. wordsFrom m n line next (k + 1) (set values k (value z (isMarked kind l)))))
+    (wordThen (wordAt kind line at) (λ z next. wordsFrom m n line next (k + 1) (set values k (value z (isMarked kind l)))))
 
 -- a command's word, and the words behind it as its row has them
 unfoldable pub askedOf : (line : List ℕ) → Asked

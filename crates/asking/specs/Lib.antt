@@ -1,5 +1,6 @@
 pub mod Numbers
 pub mod Table
+pub mod ShardWords
 pub mod Asked
 pub mod Numbered
 pub mod RecordWords

@@ -64,6 +64,7 @@ MarksBelong =
     ∷ (0 ∷ [])  -- convert
     ∷ [] ∷ []  -- read_list, write_list
     ∷ (0 ∷ [])  -- why
+    ∷ []  -- route
     ∷ [])
 
 -- `why` in plain bytes: the mark of its rate, `-` for no film format, its place and room, and where its text begins; a room of 129 is not

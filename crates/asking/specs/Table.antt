@@ -40,7 +40,8 @@ isOver (b ∷ l) = eqb b 32
 -- ---- the rows
 -- a command's word, and the letters of the words behind it: `@` the rate of a timecode, which may have the mark, `r` a rate that has no
 -- mark, `n` any number, `f` a film format, any number, or `-` where none is stated, `p` a place (from 0 on), `m` a room (0 to 128),
--- `w` a wide room (0 to 1024); last `t` a text, the rest of the line, or `*` a rest that the command takes apart itself
+-- `w` a wide room (0 to 1024), `s` a word of shards; last `t` a text, the rest of the line, or `*` a rest that the command takes apart
+-- itself
 pub record Row : Type 0 where
   pub name : List ℕ
   pub letters : List ℕ
@@ -78,11 +79,12 @@ rows =
     ∷ row "read_list" "t"
     ∷ row "write_list" "pw*"
     ∷ row "why" "@fpmt"
+    ∷ row "route" "rsnt"
     ∷ []
 
 -- how many rows there are
 abbrev pub rowCount : ℕ
-rowCount = 28
+rowCount = 29
 
 -- the row of a number, and one of no word for any other number
 abbrev pub rowAt : ℕ → Row

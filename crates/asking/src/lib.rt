@@ -3,6 +3,7 @@
 mod numbered;
 mod recorded;
 pub mod rows;
+mod sharded;
 mod table;
 mod values;
 mod words;
@@ -12,6 +13,7 @@ pub use numbered::Numbers;
 pub use numbered::numbers_of;
 pub use numbered::rates;
 pub use recorded::records;
+pub use sharded::shards;
 pub use values::Word;
 pub use values::number;
 pub use values::stands;

@@ -55,5 +55,7 @@ pub const WRITE_LIST: usize = 26;
 
 pub const WHY: usize = 27;
 
+pub const ROUTE: usize = 28;
+
 // How many rows there are.
-pub(crate) const ROWS: usize = 28;
+pub(crate) const ROWS: usize = 29;

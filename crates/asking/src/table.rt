@@ -1,7 +1,7 @@
 // The table of commands: a word, filled up with spaces to 16 bytes, and a letter for each word behind it, filled up to 8: `@` the rate
 // of a timecode, which may have the mark `@`, `r` a rate that has no mark, `n` any number, `f` a film format, any number, or `-` where
-// none is stated, `p` a place (from 0 on), `m` a room (0 to 128), `w` a wide room (0 to 1024); last `t` for a text, the rest of the
-// line, or `*` for a rest that the command takes apart itself.
+// none is stated, `p` a place (from 0 on), `m` a room (0 to 128), `w` a wide room (0 to 1024), `s` a word of shards; last `t` for a
+// text, the rest of the line, or `*` for a rest that the command takes apart itself.
 ghost use mathlib.Core.Path.{_≡_};
 ghost use mathlib.Core.Bool.{true};
 ghost use Prim.Native.Nat.{_*_, _<_};
@@ -38,7 +38,8 @@ const TABLE: [u8; 24 * rows::ROWS] = *b"\
     convert         @n*     \
     read_list       t       \
     write_list      pw*     \
-    why             @fpmt   ";
+    why             @fpmt   \
+    route           rsnt    ";
 
 // A byte of the table. Asks that it has it.
 fn byte_at(i: usize) -> u8

@@ -3,7 +3,7 @@ ghost use mathlib.Core.Path.{_≡_};
 ghost use mathlib.Core.Bool.{true};
 ghost use lib.ListN.{drop};
 ghost use Rattle.digits.specs.Digits.{isByte, allDigits, valueOf, isDigit, firstIs};
-ghost use Rattle.asking.specs.Table.{wordFirst};
+ghost use Rattle.asking.specs.Table.{wordFirst, isOver};
 ghost use Rattle.asking.specs.Numbers.{Held, pushed, signedWord, digitsAt, signedAt, numberAt};
 
 // A number and the place past it; or none stands there.
@@ -74,6 +74,16 @@ pub fn stands(line: &[u8], at: usize, b: u8) -> bool
         return line[at] == b;
     }
     false
+}
+
+// Is a word over at a place of the line? A space stands there, or the line has ended.
+pub(crate) fn is_over(line: &[u8], at: usize) -> bool
+    ensures answer { λ r. ⌜ r ≡ isOver (drop at (now (line .entry))) ⌝ }
+{
+    if at < line.len() {
+        return line[at] == b' ';
+    }
+    true
 }
 
 // Does this word stand at a place of the line?

@@ -4,15 +4,16 @@ ghost use mathlib.Core.Bool.{not, _&&_};
 ghost use Prim.Native.Nat.{_<_, _≤_};
 ghost use lib.ListN.{length, drop};
 ghost use lib.Dec.{ltb};
-ghost use Rattle.asking.specs.Table.{wordOf, isOver, rowCount, kindOf};
-ghost use Rattle.asking.specs.Asked.{isPosition, isUnstated, isMarked, valueAt, isRoom, isInRange, allowed, isLast, restAt};
+ghost use Rattle.asking.specs.Table.{wordOf, rowCount, kindOf};
+ghost use Rattle.asking.specs.Asked.{isPosition, isUnstated, isMarked, valueAt, isRoom, isInRange, wordAt, isLast, restAt};
 ghost use Rattle.asking.specs.Asked.{unknown, endedAt, wordsFrom, noValues, askedOf};
 use crate::rows;
+use crate::sharded;
 use crate::table;
 use crate::values;
 use crate::values::Word;
 
-// A number of a command, and whether it has the mark of a position; of a film format: none is stated.
+// A number of a command, and whether it has the mark of a position; of a film format: none is stated. Of shards: the place where they begin.
 pub struct Value {
     pub number: i64,
     pub marked: bool,
@@ -90,16 +91,6 @@ fn is_allowed(kind: u8, z: i64) -> bool
     true
 }
 
-// Is a word over at a place of the line? A space stands there, or the line has ended.
-fn is_over(line: &[u8], at: usize) -> bool
-    ensures answer { λ r. ⌜ r ≡ isOver (drop at (now (line .entry))) ⌝ }
-{
-    if at < line.len() {
-        return line[at] == b' ';
-    }
-    true
-}
-
 // Does the mark stand at a place of the line, behind one space, where a row has this letter? Only `@` may have it.
 fn is_position(line: &[u8], at: usize, kind: u8) -> bool
     ensures answer { λ r. ⌜ r ≡ isPosition kind (drop at (now (line .entry))) ⌝ }
@@ -120,7 +111,7 @@ fn is_unstated(line: &[u8], at: usize, kind: u8) -> bool
     if !values::word_stands(line, at, b" -") {
         return false;
     }
-    is_over(line, at + 2)
+    values::is_over(line, at + 2)
 }
 
 // Does one of the two stand there: the mark of a position, or `-` for no film format?
@@ -146,10 +137,13 @@ fn value_at(line: &[u8], at: usize, kind: u8) -> Word
     values::number(line, at)
 }
 
-// The number at a place of the line that is allowed where a row has this letter.
+// What stands at a place of the line where a row has this letter: shards, or a number that is allowed there.
 fn word_at(line: &[u8], at: usize, kind: u8) -> Word
-    ensures answer { λ r. ⌜ r ≡ allowed kind (valueAt kind at (drop at (now (line .entry)))) ⌝ }
+    ensures answer { λ r. ⌜ r ≡ wordAt kind (now (line .entry)) at ⌝ }
 {
+    if kind == b's' {
+        return sharded::word(line, at);
+    }
     let w = value_at(line, at, kind);
     let Word::Number(z, _) = w else {
         return Word::Nothing;

@@ -1,9 +1,9 @@
--- `asking::words::is_over` meets its contract: by the byte at the place, where there is one.
+-- `asking::values::is_over` meets its contract: by the byte at the place, where there is one.
 -- Assumes nothing.
 use borrow.Author.Needs.{needs}
 use Rattle.asking.proofs.Taken.{over-here, over-past}
-use Rattle.asking.proofs.words.is_over.Statement.{statement}
-use Rattle.asking.proofs.words.is_over.Tie as tie
+use Rattle.asking.proofs.values.is_over.Statement.{statement}
+use Rattle.asking.proofs.values.is_over.Tie as tie
 
 returns : tie.Need-returns
 returns c = over-here _ _ (c .before .if1 .taken)
