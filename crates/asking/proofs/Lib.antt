@@ -14,5 +14,6 @@ pub mod Ranges
 pub mod ShardTexts
 pub mod Understanding
 pub mod Told
+pub mod Routes
 pub mod Determined
 pub mod Statements

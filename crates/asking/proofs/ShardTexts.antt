@@ -22,11 +22,11 @@ use Rattle.asking.specs.Statements.{placedFrom}
 use Rattle.asking.proofs.Numerals.{signed-taken, signed-told, signed-left, not-first, not-over}
 use Rattle.asking.proofs.Ranges.{numeral-some, range-told, range-some, spelled-none, spelled-some}
 
-true-false : true ≡ false → ⊥
+pub true-false : true ≡ false → ⊥
 true-false e = let z : _≡_ {A = ℕ} 0 1 = cc in omega arith
 
 -- ---- what is left where a byte stands in front
-byte-on : (line : List ℕ) (at b : ℕ) (t : List ℕ) → drop at line ≡ b ∷ t → drop (at + 1) line ≡ t
+pub byte-on : (line : List ℕ) (at b : ℕ) (t : List ℕ) → drop at line ≡ b ∷ t → drop (at + 1) line ≡ t
 byte-on line at b t q = sym (drop-drop 1 at line) ∙ ap (drop 1) q
 
 byte-here : (b : ℕ) (l : List ℕ) → firstIs (isByte b) l ≡ true → l ≡ b ∷ drop 1 l

@@ -7,3 +7,4 @@ pub mod RecordWords
 pub mod Grammar
 pub mod Statements
 pub mod RecordStatements
+pub mod RouteStatements

@@ -1,0 +1,108 @@
+-- A word of shards is listed as the grammar has it, and only so; and `route` is asked by exactly the lines that are made so. Proofs:
+-- proofs/Statements.antt.
+-- Assumes nothing.
+use Prim.Native.Nat.{ℕ, _+_, _≤_}
+use mathlib.Core.Path.{_≡_}
+use mathlib.Core.List.{List, [], _∷_, _++_}
+use mathlib.Core.Bool.{true, false}
+use lib.IntN.{ℤ, pos, negsuc}
+use lib.ListN.{length, take, drop}
+use Rattle.laws.specs.Spelt.{spelt}
+use Rattle.asking.specs.declared.words.Asked.{Asked}
+use Rattle.asking.specs.Table.{isOver, rowCount}
+use Rattle.asking.specs.Asked.{asked, value, noValue, askedOf}
+use Rattle.asking.specs.Numbered.{numbersOf}
+use Rattle.asking.specs.ShardWords.{ShardListing, shardsOf}
+use Rattle.asking.specs.Grammar.{Numeral, ShardsText}
+
+-- ---- the shards of a word
+-- a word that spells these shards begins at a place of the line, and a space or the line's end stands behind it
+pub record SpeltAt (line : List ℕ) (at : ℕ) (firsts ends : List ℤ) : Type 0 where
+  pub word : List ℕ
+  pub rest : List ℕ
+  pub is : drop at line ≡ word ++ rest
+  pub over : isOver rest ≡ true
+  pub spells : ShardsText word firsts ends
+
+-- all of them, at the two lists' fronts; what stands behind them stays
+abbrev pub listedShards : (ys zs firsts ends : List ℤ) → ShardListing
+listedShards ys zs firsts ends = record {
+  firsts = ys ++ drop (length ys) firsts;
+  ends = zs ++ drop (length zs) ends;
+  listed = record { all = true; count = length ys };
+}
+
+-- these shards are spelt there, both lists have room for them, and they are listed so
+pub record AreShards (line : List ℕ) (at : ℕ) (firsts ends ys zs : List ℤ) : Type 0 where
+  pub spelt-at : SpeltAt line at ys zs
+  pub firsts-room : length ys ≤ length firsts
+  pub ends-room : length ys ≤ length ends
+  pub is : shardsOf line at firsts ends ≡ listedShards ys zs firsts ends
+
+-- shards that a word spells, for which both lists have room, are listed, all of them, however they are spelt; and where all is listed, such
+-- a word stands there, and the lists' fronts are its numbers
+abbrev pub ShardsExactly : Type 0
+ShardsExactly =
+    (line : List ℕ) (at : ℕ) (firsts ends : List ℤ)
+    → let x = shardsOf line at firsts ends in
+    let n = x .listed .count in
+    ((ys zs : List ℤ) → SpeltAt line at ys zs → length ys ≤ length firsts → length ys ≤ length ends → x ≡ listedShards ys zs firsts ends)
+    × (x .listed .all ≡ true → AreShards line at firsts ends (take n (x .firsts)) (take n (x .ends)))
+
+-- a word spells one list of shards
+abbrev pub OneListSpelt : Type 0
+OneListSpelt =
+    (word : List ℕ) (ys zs us vs : List ℤ) → ShardsText word ys zs → ShardsText word us vs → (ys ≡ us) × (zs ≡ vs)
+
+-- ---- a line that asks `route`
+-- RATE, SHARDS and LENGTH, each behind one space, and the TEXT, which is empty where the line ends; the shards begin at a place of the line
+pub data RouteLine : (line : List ℕ) → (rate : ℤ) → (place : ℕ) → (firsts ends : List ℤ) → (frames : ℤ) → (text : List ℕ) → Type 0 where
+  noText : {d w e : List ℕ} {y z : ℤ} {ys zs : List ℤ}
+      → Numeral d y → ShardsText w ys zs → Numeral e z
+      → RouteLine (spelt "route " ++ (d ++ (32 ∷ w ++ (32 ∷ e)))) y (7 + length d) ys zs z []
+  text : {d w e t : List ℕ} {y z : ℤ} {ys zs : List ℤ}
+      → Numeral d y → ShardsText w ys zs → Numeral e z
+      → RouteLine (spelt "route " ++ (d ++ (32 ∷ w ++ (32 ∷ e ++ (32 ∷ t))))) y (7 + length d) ys zs z t
+
+-- what such a line asks
+abbrev pub askedRoute : (rate : ℤ) (place : ℕ) (frames : ℤ) (begins : ℕ) → Asked
+askedRoute y place z begins = asked 28 (value y false ∷ value (pos place) false ∷ value z false ∷ noValue ∷ noValue ∷ []) begins
+
+pub record IsRoute (line : List ℕ) : Type 0 where
+  pub rate : ℤ
+  pub place : ℕ
+  pub firsts : List ℤ
+  pub ends : List ℤ
+  pub frames : ℤ
+  pub text : List ℕ
+  pub begins : ℕ
+  pub made : RouteLine line rate place firsts ends frames text
+  pub text-at : begins + length text ≡ length line
+  pub is : askedOf line ≡ askedRoute rate place frames begins
+
+-- a line that is made so asks `route`, with its rate, the place of its shards, its length and where its text begins, and at that place stands a
+-- word that spells its shards; and a line that asks `route` is made so
+abbrev pub RouteExactly : Type 0
+RouteExactly =
+    (line : List ℕ)
+    → ((rate : ℤ) (place : ℕ) (firsts ends : List ℤ) (frames : ℤ) (text : List ℕ) (begins : ℕ)
+    → RouteLine line rate place firsts ends frames text → begins + length text ≡ length line
+    → (askedOf line ≡ askedRoute rate place frames begins) × SpeltAt line place firsts ends)
+    × (askedOf line .row ≡ 28 → IsRoute line)
+
+-- `route` in plain bytes: its rate, the place of its shards, its length and where its text begins; a range that is not whole, or behind
+-- which no other follows its `,`, is not understood
+pub record RouteAsked : Type 0 where
+  pub ranges :
+      askedOf (spelt "route 5 0-100,100-250 -9 01:00")
+      ≡ asked 28 (value (pos 5) false ∷ value (pos 8) false ∷ value (negsuc 8) false ∷ noValue ∷ noValue ∷ []) 25
+  pub none : askedOf (spelt "route 5 - 250") ≡ asked 28 (value (pos 5) false ∷ value (pos 8) false ∷ value (pos 250) false ∷ noValue ∷ noValue ∷ []) 13
+  pub trailing : askedOf (spelt "route 5 0-100, 250 x") .row ≡ rowCount
+  pub half : askedOf (spelt "route 5 0-100,5- 250 x") .row ≡ rowCount
+  pub marked : askedOf (spelt "route @5 - 250 x") .row ≡ rowCount
+  pub taken :
+      let n = numbersOf (value (pos 5) false ∷ value (pos 8) false ∷ value (negsuc 8) false ∷ noValue ∷ noValue ∷ []) in
+      (n .up1 ≡ 5) × (n .up2 ≡ 8) × (n .n3 ≡ negsuc 8)
+  pub listed :
+      shardsOf (spelt "route 5 -5-10,5--3 9") 8 (pos 0 ∷ pos 0 ∷ pos 7 ∷ []) (pos 0 ∷ pos 0 ∷ [])
+      ≡ listedShards (negsuc 4 ∷ pos 5 ∷ []) (pos 10 ∷ negsuc 2 ∷ []) (pos 0 ∷ pos 0 ∷ pos 7 ∷ []) (pos 0 ∷ pos 0 ∷ [])
