@@ -1,5 +1,4 @@
--- Ranges in a line, one after the other: the range at a place, and the loop of `ranges`, where what is wanted from here is what is wanted
--- from the start.
+-- The range at a place of a line, and the loop of `ranges`: what is wanted from here is what is wanted from the start.
 -- Assumes nothing.
 use Prim.Native.Nat.{ℕ, zero, suc, _+_, _-_, _≤_, _<_}
 use mathlib.Core.Path.{_≡_, refl, sym, ap, _∙_}
@@ -8,15 +7,15 @@ use mathlib.Core.Bool.{Bool, true, false, cond, _&&_, and-eq-true-iff}
 use native.Mathlib.Omega.{arith}
 use lib.Dec.{leb}
 use lib.IntN.{ℤ, pos}
-use lib.ListN.{length, drop, set, length-append, length-drop, length-set, drop-of-length-le}
+use lib.ListN.{length, drop, set, length-append, length-drop, length-set}
 use lib.Seq.{drop-drop}
 use borrow.Author.Tests.{lt-leb, le-leb}
-use Rattle.digits.specs.Digits.{isByte, firstIs, span}
+use Rattle.digits.specs.Digits.{isByte, firstIs}
 use Rattle.asking.specs.declared.values.Word.{Word}
 use Rattle.asking.specs.declared.values.Word.the-variants.{Number, Nothing}
 use Rattle.asking.specs.declared.sharded.Ranged.{Ranged}
 use Rattle.asking.specs.declared.sharded.Range.the-variants as range
-use Rattle.asking.specs.Numbers.{signedAt, digitsAt}
+use Rattle.asking.specs.Numbers.{signedAt}
 use Rattle.asking.specs.Table.{isOver}
 use Rattle.asking.specs.ShardWords.{numberThen, rangeAt, sharding, rangesFrom, rangesOf, isNone, spelledOf, shardsAt, shardsOf}
 use Rattle.asking.specs.Grammar.{Numeral, plain, minus}
@@ -75,7 +74,7 @@ module _ (line : List ℕ) (at : ℕ) (y z : ℤ) (next : ℕ) where
       by (Number a between) p f = dashed a between p (firstIs (isByte 45) (drop between line)) refl f
       by Nothing p f = let x : _≡_ {A = ℕ} 0 1 = cc in absurd (omega arith)
 
-pub numeral-some : {d : List ℕ} {z : ℤ} → Numeral d z → 0 < length d
+numeral-some : {d : List ℕ} {z : ℤ} → Numeral d z → 0 < length d
 numeral-some (plain f w) = f .some
 numeral-some (minus f w) = omega arith
 
@@ -87,9 +86,6 @@ signed-past line at z next e =
     let long : length (drop at line) ≡ length (t .digits) + length (t .rest) = ap length (t .is) ∙ length-append (t .digits) (t .rest) in
     (omega (arith, some, t .past), omega (arith, some, t .past, long, length-drop at line))
 
-pub signed-within : (line : List ℕ) (at : ℕ) (z : ℤ) (next : ℕ) → signedAt at (drop at line) ≡ Number z next → next ≤ length line
-signed-within line at z next e = signed-past line at z next e .1
-
 -- and so does a range
 pub range-past : (line : List ℕ) (at : ℕ) (y z : ℤ) (next : ℕ) → rangeAt line at ≡ range.Of y z next → (at < next) × (next ≤ length line)
 range-past line at y z next e =
@@ -97,10 +93,6 @@ range-past line at y z next e =
     let first = signed-past line at y (t .between) (t .first) in
     let end = signed-past line (t .between + 1) z next (t .end) in
     (omega (arith, first, end), end .1)
-
-pub range-ended : (line : List ℕ) (at : ℕ) → length line ≤ at → rangeAt line at ≡ range.Nothing
-unfolding rangeAt signedAt digitsAt span
-range-ended line at h = rw (drop-of-length-le line {i = at} h)
 
 -- ---- the loop of `ranges`: n ranges were read
 pub record Ranging (line : List ℕ) (from : ℕ) (firsts₀ ends₀ firsts ends : List ℤ) (at n : ℕ) : Type 0 where
@@ -137,11 +129,7 @@ module _ (line : List ℕ) (from : ℕ) (firsts₀ ends₀ firsts ends : List �
       by zero = refl
       by (suc k) = rw e
 
-  -- the line has ended
-  pub ranging-ended : length line ≤ at → Ends (record { well = false; count = n; next = at }) firsts ends
-  ranging-ended h = ranging-none (range-ended line at h)
-
-  module _ (h : at < length line) (y z : ℤ) (next : ℕ) (e : rangeAt line at ≡ range.Of y z next)
+  module _ (y z : ℤ) (next : ℕ) (e : rangeAt line at ≡ range.Of y z next)
       (f g : List ℤ) (p : f ≡ set firsts n y) (q : g ≡ set ends n z) where
     -- a range, and no `,` behind it
     pub ranging-over : firstIs (isByte 44) (drop next line) ≡ false → (over : Bool) → over ≡ isOver (drop next line)
@@ -152,7 +140,7 @@ module _ (line : List ℕ) (from : ℕ) (firsts₀ ends₀ firsts ends : List �
         (sym (ap (λ z. z .ranged) x), (sym (ap (λ z. z .firsts) x), sym (ap (λ z. z .ends) x)))
       where
         by : (k : ℕ) → length line ≤ at + k → rangesFrom k line at n firsts ends ≡ sharding over (n + 1) next f g
-        by zero l = absurd (omega arith)
+        by zero l = absurd (omega (arith, range-past line at y z next e))
         by (suc k) l = rw (e, c, o, p, q)
 
     -- and with one
@@ -168,7 +156,7 @@ module _ (line : List ℕ) (from : ℕ) (firsts₀ ends₀ firsts ends : List �
     }
       where
         on : (k : ℕ) → length line ≤ at + k → rangesFrom k line at n firsts ends ≡ rangesFrom (k - 1) line (next + 1) (n + 1) f g
-        on zero l = absurd (omega arith)
+        on zero l = absurd (omega (arith, range-past line at y z next e))
         on (suc k) l = let m : suc k - 1 ≡ k = omega arith in rw (e, c, m, p, q)
 
 -- ---- `-` alone

@@ -1,25 +1,25 @@
 -- The shards of a word are listed exactly, and a line asks `route` exactly when it is made so.
 -- Assumes nothing.
-use Prim.Native.Nat.{ℕ, suc, _+_, _≤_}
+use Prim.Native.Nat.{ℕ, _+_, _≤_}
 use mathlib.Core.Path.{_≡_, refl, sym, ap, subst, _∙_}
 use mathlib.Core.Logic.{_⊎_, inl, inr}
 use mathlib.Core.List.{List, [], _∷_, _++_, append-nil}
-use mathlib.Core.Bool.{Bool, true, false, _&&_, and-eq-true-iff}
+use mathlib.Core.Bool.{true, false, _&&_, and-eq-true-iff}
 use native.Mathlib.Omega.{arith}
 use lib.Dec.{leb}
 use lib.IntN.{ℤ, pos}
 use lib.ListN.{length, take, drop, length-append}
-use lib.Seq.{take-append-seam, drop-append-seam}
+use lib.Seq.{take-append-seam}
 use borrow.Author.Tests.{le-leb, leb-true}
 use Rattle.digits.specs.Digits.{digitFirst}
 use Rattle.laws.specs.Spelt.{spelt}
 use Rattle.asking.specs.declared.words.Value.{Value}
-use Rattle.asking.specs.Table.{rows, rowCount, rowAt, isOver}
-use Rattle.asking.specs.Asked.{value, noValues, isLast, isShards, isInRange, asked, askedOf}
-use Rattle.asking.specs.ShardWords.{ShardListing, spelledOf, shardsOf}
-use Rattle.asking.specs.Grammar.{Numeral, ShardsText, Behind, ended, own, number, marked, unstated, shards, Asks, asks}
+use Rattle.asking.specs.Table.{rows, rowAt, isOver}
+use Rattle.asking.specs.Asked.{value, isLast, isShards, isInRange, askedOf}
+use Rattle.asking.specs.ShardWords.{spelledOf, shardsOf}
+use Rattle.asking.specs.Grammar.{Numeral, ShardsText, Behind, own, number, marked, unstated, shards, Asks, asks}
 use Rattle.asking.specs.Grammar as grammar
-use Rattle.asking.specs.Statements.{placedFrom, IsAsked}
+use Rattle.asking.specs.Statements.{placedFrom}
 use Rattle.asking.specs.RouteStatements.{SpeltAt, listedShards, AreShards, ShardsExactly, OneListSpelt}
 use Rattle.asking.specs.RouteStatements.{RouteLine, noText, text, askedRoute, IsRoute, RouteExactly}
 use Rattle.asking.proofs.Placed.{placed-front}
@@ -92,15 +92,16 @@ one-list-spelt word ys zs us vs s t =
     sym (shards-there word 0 room room ys zs (spelt-whole s) (omega (arith, n)) (omega (arith, n)))
     ∙ shards-there word 0 room room us vs (spelt-whole t) (omega (arith, n)) (omega (arith, n)) in
     let count : length ys ≡ length us = ap (λ z. z .listed .count) e in
-    let counts : length zs ≡ length vs = sym (shards-long s) ∙ count ∙ shards-long t in
-    (sym (take-append-seam ys (drop (length ys) room))
-    ∙ ap (λ z. take (length ys) (z .firsts)) e
-    ∙ ap (λ k. take k (us ++ drop (length us) room)) count
-    ∙ take-append-seam us (drop (length us) room),
-    sym (take-append-seam zs (drop (length zs) room))
-    ∙ ap (λ z. take (length zs) (z .ends)) e
-    ∙ ap (λ k. take k (vs ++ drop (length vs) room)) counts
-    ∙ take-append-seam vs (drop (length vs) room))
+    let counts : length zs ≡ length vs = sym (shards-long s) ∙ count ∙ shards-long t in (
+      sym (take-append-seam ys (drop (length ys) room))
+          ∙ ap (λ z. take (length ys) (z .firsts)) e
+          ∙ ap (λ k. take k (us ++ drop (length us) room)) count
+          ∙ take-append-seam us (drop (length us) room),
+      sym (take-append-seam zs (drop (length zs) room))
+          ∙ ap (λ z. take (length zs) (z .ends)) e
+          ∙ ap (λ k. take k (vs ++ drop (length vs) room)) counts
+          ∙ take-append-seam vs (drop (length vs) room),
+    )
 
 -- ---- a line that is made so asks `route`
 abbrev routeValues : (rate : ℤ) (place : ℕ) (frames : ℤ) → List Value

@@ -1,11 +1,10 @@
 -- What a word of shards spells is what is read of it, and what is read is spelt: range by range.
 -- Assumes nothing.
 use Prim.Native.Nat.{ℕ, zero, suc, _+_, _≤_}
-use mathlib.Core.Path.{_≡_, refl, sym, ap, subst, _∙_}
+use mathlib.Core.Path.{_≡_, refl, sym, ap, _∙_}
 use mathlib.Core.List.{List, [], _∷_, _++_, append-assoc}
 use mathlib.Core.Bool.{Bool, true, false, cond, and-eq-true-iff}
 use native.Mathlib.Omega.{arith}
-use lib.Dec.{eqb}
 use lib.IntN.{ℤ, pos}
 use lib.ListN.{length, drop, set, length-append, length-drop}
 use lib.Seq.{drop-drop}
@@ -16,11 +15,11 @@ use Rattle.asking.specs.declared.sharded.Range.{Range}
 use Rattle.asking.specs.declared.sharded.Range.the-variants as range
 use Rattle.asking.specs.Numbers.{signedAt}
 use Rattle.asking.specs.Table.{isOver}
-use Rattle.asking.specs.ShardWords.{rangeAt, Sharding, sharding, rangeThen, rangesFrom, rangesOf, isNone, spelledOf, placeThen, shardsAt}
+use Rattle.asking.specs.ShardWords.{rangeAt, Sharding, sharding, rangeThen, rangesFrom, isNone, spelledOf, placeThen, shardsAt}
 use Rattle.asking.specs.Grammar.{Numeral, plain, minus, RangesText, lastRange, moreRanges, ShardsText, noShards, someShards}
 use Rattle.asking.specs.Statements.{placedFrom}
 use Rattle.asking.proofs.Numerals.{signed-taken, signed-told, signed-left, not-first, not-over}
-use Rattle.asking.proofs.Ranges.{numeral-some, range-told, range-some, spelled-none, spelled-some}
+use Rattle.asking.proofs.Ranges.{range-told, range-some, spelled-none, spelled-some}
 
 pub true-false : true ≡ false → ⊥
 true-false e = let z : _≡_ {A = ℕ} 0 1 = cc in omega arith

@@ -15,7 +15,7 @@ use Rattle.asking.specs.declared.values.Word.the-variants.{Number}
 use Rattle.asking.specs.declared.words.Value.{Value}
 use Rattle.asking.specs.declared.words.Rest.the-variants as rest
 use Rattle.asking.specs.Table.{Row, row, rows, rowCount, rowAt, wordOf, isPlain, same, isOver, rowFrom, rowNamed, kindOf}
-use Rattle.asking.specs.Asked.{value, isMarked, valueAt, isInRange, allowed, isShards, wordAt, isLast, restAt}
+use Rattle.asking.specs.Asked.{value, isMarked, valueAt, isInRange, isShards, wordAt, isLast, restAt}
 use Rattle.asking.specs.Asked.{asked, noValues, endedAt, wordThen, wordsFrom, askedOf}
 use Rattle.asking.specs.Grammar.{Behind, ended, noText, text, own, number, marked, unstated, shards, Asks, asks}
 use Rattle.asking.specs.Statements.{placedFrom}

@@ -1,5 +1,4 @@
--- A word of shards is listed as the grammar has it, and only so; and `route` is asked by exactly the lines that are made so. Proofs:
--- proofs/Statements.antt.
+-- Shards are listed as a word spells them, and only so; `route` is asked so, and only so. Proofs: proofs/Statements.antt.
 -- Assumes nothing.
 use Prim.Native.Nat.{ℕ, _+_, _≤_}
 use mathlib.Core.Path.{_≡_}

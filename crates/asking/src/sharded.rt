@@ -56,7 +56,7 @@ fn ranges(line: &[u8], from: usize, firsts: &mut [i64], ends: &mut [i64]) -> Ran
 {
     let mut at = from;
     let mut n = 0;
-    while at < line.len() {
+    loop {
         let r = range_at(line, at);
         let Range::Of(first, end, next) = r else {
             return Ranged {
@@ -76,11 +76,6 @@ fn ranges(line: &[u8], from: usize, firsts: &mut [i64], ends: &mut [i64]) -> Ran
             };
         }
         at = next + 1;
-    }
-    Ranged {
-        well: false,
-        count: n,
-        next: at,
     }
 }
 

@@ -1,6 +1,5 @@
 -- `asking::sharded::shards` meets its contract: what the word spells, and whether both lists have room for it.
 -- Assumes nothing.
-use mathlib.Core.Path.{sym, ap, _∙_}
 use borrow.Author.Tests.{not-true, not-false}
 use borrow.Author.Needs.{needs}
 use Rattle.asking.specs.ShardWords.{shardsOf}
