@@ -74,7 +74,7 @@ module _ (line : List ℕ) (at : ℕ) (y z : ℤ) (next : ℕ) where
       by (Number a between) p f = dashed a between p (firstIs (isByte 45) (drop between line)) refl f
       by Nothing p f = let x : _≡_ {A = ℕ} 0 1 = cc in absurd (omega arith)
 
-numeral-some : {d : List ℕ} {z : ℤ} → Numeral d z → 0 < length d
+pub numeral-some : {d : List ℕ} {z : ℤ} → Numeral d z → 0 < length d
 numeral-some (plain f w) = f .some
 numeral-some (minus f w) = omega arith
 

@@ -24,7 +24,7 @@ use Rattle.asking.specs.RouteStatements.{SpeltAt, listedShards, AreShard
 use Rattle.asking.specs.RouteStatements.{RouteLine, noText, text, askedRoute, IsRoute, RouteExactly}
 use Rattle.asking.proofs.Placed.{placed-front}
 use Rattle.asking.proofs.Numerals.{signed-left}
-use Rattle.asking.proofs.ShardTexts.{true-false, byte-on, spelledAs, spelled-read, spelled-told, shards-long}
+use Rattle.asking.proofs.ShardTexts.{true-false, byte-on, spelledAs, spelled-read, spelled-told, shards-few}
 use Rattle.asking.proofs.Understanding.{understood}
 use Rattle.asking.proofs.Told.{only-understood}
 
@@ -41,7 +41,7 @@ module _ (line : List ℕ) (at : ℕ) (firsts ends : List ℤ) where
   shards-there : (ys zs : List ℤ) → SpeltAt line at ys zs → length ys ≤ length firsts → length ys ≤ length ends
       → shardsOf line at firsts ends ≡ listedShards ys zs firsts ends
   shards-there ys zs s f g =
-      listed-as (at + length (s .word)) ys zs (spelled-read line at firsts ends (s .spells) (s .rest) (s .is) (s .over)) (shards-long (s .spells)) f g
+      listed-as (at + length (s .word)) ys zs (spelled-read line at firsts ends (s .spells) (s .rest) (s .is) (s .over)) (shards-few (s .spells) .0) f g
 
   -- what `all` says
   all-told : shardsOf line at firsts ends .listed .all ≡ true
@@ -60,7 +60,7 @@ module _ (line : List ℕ) (at : ℕ) (firsts ends : List ℤ) where
   shards-back e =
       let a = all-told e in
       let t = spelled-told line at firsts ends (a .0) in
-      let k = shards-long (t .text) in
+      let k = shards-few (t .text) .0 in
       let count : spelledOf line at firsts ends .ranged .count ≡ length (t .ys) = ap (λ z. z .ranged .count) (t .read) in
       let f : length (t .ys) ≤ length firsts = omega (arith, a .1 .0, count) in
       let g : length (t .ys) ≤ length ends = omega (arith, a .1 .1, count) in
@@ -92,7 +92,7 @@ one-list-spelt word ys zs us vs s t =
     sym (shards-there word 0 room room ys zs (spelt-whole s) (omega (arith, n)) (omega (arith, n)))
     ∙ shards-there word 0 room room us vs (spelt-whole t) (omega (arith, n)) (omega (arith, n)) in
     let count : length ys ≡ length us = ap (λ z. z .listed .count) e in
-    let counts : length zs ≡ length vs = sym (shards-long s) ∙ count ∙ shards-long t in (
+    let counts : length zs ≡ length vs = sym (shards-few s .0) ∙ count ∙ shards-few t .0 in (
       sym (take-append-seam ys (drop (length ys) room))
           ∙ ap (λ z. take (length ys) (z .firsts)) e
           ∙ ap (λ k. take k (us ++ drop (length us) room)) count

@@ -1,6 +1,6 @@
 -- What a word of shards spells is what is read of it, and what is read is spelt: range by range.
 -- Assumes nothing.
-use Prim.Native.Nat.{ℕ, zero, suc, _+_, _≤_}
+use Prim.Native.Nat.{ℕ, zero, suc, _+_, _*_, _≤_}
 use mathlib.Core.Path.{_≡_, refl, sym, ap, _∙_}
 use mathlib.Core.List.{List, [], _∷_, _++_, append-assoc}
 use mathlib.Core.Bool.{Bool, true, false, cond, and-eq-true-iff}
@@ -19,7 +19,7 @@ use Rattle.asking.specs.ShardWords.{rangeAt, Sharding, sharding, rangeTh
 use Rattle.asking.specs.Grammar.{Numeral, plain, minus, RangesText, lastRange, moreRanges, ShardsText, noShards, someShards}
 use Rattle.asking.specs.Statements.{placedFrom}
 use Rattle.asking.proofs.Numerals.{signed-taken, signed-told, signed-left, not-first, not-over}
-use Rattle.asking.proofs.Ranges.{range-told, range-some, spelled-none, spelled-some}
+use Rattle.asking.proofs.Ranges.{numeral-some, range-told, range-some, spelled-none, spelled-some}
 
 pub true-false : true ≡ false → ⊥
 true-false e = let z : _≡_ {A = ℕ} 0 1 = cc in omega arith
@@ -207,16 +207,16 @@ module _ (line : List ℕ) where
           comma true c k = more-told m at n firsts ends y z next q c (more next (set firsts n y) (set ends n z) k)
           comma false c k = last-told m at n firsts ends y z next q k
 
--- ---- as many first numbers as ends, and no more than bytes
-ranges-long : {w : List ℕ} {ys zs : List ℤ} → RangesText w ys zs → (length ys ≡ length zs) × (length ys ≤ length w)
-ranges-long (lastRange {d} {e} f g) = (refl, omega (arith, length-append d (45 ∷ e)))
-ranges-long (moreRanges {d} {e} {u} f g r) =
-    let p = ranges-long r in
-    (ap suc (p .0), omega (arith, p, length-append d (45 ∷ e ++ (44 ∷ u)), length-append e (44 ∷ u)))
+-- ---- as many first numbers as ends; and four bytes a range, but for the last `,`
+ranges-few : {w : List ℕ} {ys zs : List ℤ} → RangesText w ys zs → (length ys ≡ length zs) × (4 * length ys ≤ length w + 1)
+ranges-few (lastRange {d} {e} f g) = (refl, omega (arith, numeral-some f, numeral-some g, length-append d (45 ∷ e)))
+ranges-few (moreRanges {d} {e} {u} f g r) =
+    let p = ranges-few r in
+    (ap suc (p .0), omega (arith, p, numeral-some f, numeral-some g, length-append d (45 ∷ e ++ (44 ∷ u)), length-append e (44 ∷ u)))
 
-pub shards-long : {w : List ℕ} {ys zs : List ℤ} → ShardsText w ys zs → length ys ≡ length zs
-shards-long noShards = refl
-shards-long (someShards r) = ranges-long r .0
+pub shards-few : {w : List ℕ} {ys zs : List ℤ} → ShardsText w ys zs → (length ys ≡ length zs) × (4 * length ys ≤ length w + 1)
+shards-few noShards = (refl, omega arith)
+shards-few (someShards r) = ranges-few r
 
 -- ---- a range does not begin with `-` alone
 numeral-not-none : {d : List ℕ} {z : ℤ} → Numeral d z → (l : List ℕ) → isNone (d ++ l) ≡ false
@@ -249,7 +249,7 @@ module _ (line : List ℕ) (at : ℕ) (firsts ends : List ℤ) where
   spelled-read (someShards {w} {ys} {zs} r) l q o =
       sym (spelled-some line at firsts ends (ap isNone q ∙ ranges-not-none r l))
       ∙ ranges-read line r (length line) at 0 firsts ends l q o
-      (omega (arith, ranges-long r .1, ap length q, length-append w l, length-drop at line))
+      (omega (arith, ranges-few r .1, ap length q, length-append w l, length-drop at line))
       ∙ from-front (at + length w) ys zs
 
   pub record SpelledTold : Type 0 where

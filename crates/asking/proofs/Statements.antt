@@ -1,13 +1,14 @@
 -- A line is understood as the grammar has it, and only so; records in words and shards are listed so.
 -- Assumes nothing.
 use mathlib.Core.Path.{refl}
-use Rattle.asking.specs.Statements.{marksFrom, Understood, OnlyUnderstood, MarksBelong, WhyAsked}
+use Rattle.asking.specs.Statements.{marksFrom, Understood, OnlyUnderstood, MarksBelong, WhyAsked, RouteAsked}
 use Rattle.asking.specs.RecordStatements.{RecordsExactly}
-use Rattle.asking.specs.RouteStatements.{ShardsExactly, OneListSpelt, RouteExactly, RouteAsked}
+use Rattle.asking.specs.RouteStatements.{ShardsExactly, OneListSpelt, FewShards, RouteExactly}
 use Rattle.asking.proofs.Understanding as there
 use Rattle.asking.proofs.Told as back
 use Rattle.asking.proofs.RecordsListed as listed
 use Rattle.asking.proofs.Routes as routes
+use Rattle.asking.proofs.ShardTexts as texts
 use Rattle.digits.specs.Digits.{span, valueFrom}
 use Rattle.asking.specs.Numbers.{numberAt, signedAt, digitsAt, signedWord}
 use Rattle.asking.specs.ShardWords.{rangeAt, rangesFrom, isNone, spelledOf, shardsAt, shardsOf}
@@ -37,6 +38,9 @@ shards-exactly = routes.shards-exactly
 
 pub one-list-spelt : OneListSpelt
 one-list-spelt = routes.one-list-spelt
+
+pub few-shards : FewShards
+few-shards word ys zs s = texts.shards-few s
 
 pub route-exactly : RouteExactly
 route-exactly = routes.route-exactly

@@ -1,16 +1,15 @@
 -- Shards are listed as a word spells them, and only so; `route` is asked so, and only so. Proofs: proofs/Statements.antt.
 -- Assumes nothing.
-use Prim.Native.Nat.{ℕ, _+_, _≤_}
+use Prim.Native.Nat.{ℕ, _+_, _*_, _≤_}
 use mathlib.Core.Path.{_≡_}
 use mathlib.Core.List.{List, [], _∷_, _++_}
 use mathlib.Core.Bool.{true, false}
-use lib.IntN.{ℤ, pos, negsuc}
+use lib.IntN.{ℤ, pos}
 use lib.ListN.{length, take, drop}
 use Rattle.laws.specs.Spelt.{spelt}
 use Rattle.asking.specs.declared.words.Asked.{Asked}
-use Rattle.asking.specs.Table.{isOver, rowCount}
+use Rattle.asking.specs.Table.{isOver}
 use Rattle.asking.specs.Asked.{asked, value, noValue, askedOf}
-use Rattle.asking.specs.Numbered.{numbersOf}
 use Rattle.asking.specs.ShardWords.{ShardListing, shardsOf}
 use Rattle.asking.specs.Grammar.{Numeral, ShardsText}
 
@@ -53,6 +52,10 @@ abbrev pub OneListSpelt : Type 0
 OneListSpelt =
     (word : List ℕ) (ys zs us vs : List ℤ) → ShardsText word ys zs → ShardsText word us vs → (ys ≡ us) × (zs ≡ vs)
 
+-- a word of n bytes has at most a fourth of n + 1 ranges: lists of 2048 have room for those of any line of 8191 bytes
+abbrev pub FewShards : Type 0
+FewShards = (word : List ℕ) (ys zs : List ℤ) → ShardsText word ys zs → (length ys ≡ length zs) × (4 * length ys ≤ length word + 1)
+
 -- ---- a line that asks `route`
 -- RATE, SHARDS and LENGTH, each behind one space, and the TEXT, which is empty where the line ends; the shards begin at a place of the line
 pub data RouteLine : (line : List ℕ) → (rate : ℤ) → (place : ℕ) → (firsts ends : List ℤ) → (frames : ℤ) → (text : List ℕ) → Type 0 where
@@ -88,20 +91,3 @@ RouteExactly =
     → RouteLine line rate place firsts ends frames text → begins + length text ≡ length line
     → (askedOf line ≡ askedRoute rate place frames begins) × SpeltAt line place firsts ends)
     × (askedOf line .row ≡ 28 → IsRoute line)
-
--- `route` in plain bytes: its rate, the place of its shards, its length and where its text begins; a range that is not whole, or behind
--- which no other follows its `,`, is not understood
-pub record RouteAsked : Type 0 where
-  pub ranges :
-      askedOf (spelt "route 5 0-100,100-250 -9 01:00")
-      ≡ asked 28 (value (pos 5) false ∷ value (pos 8) false ∷ value (negsuc 8) false ∷ noValue ∷ noValue ∷ []) 25
-  pub none : askedOf (spelt "route 5 - 250") ≡ asked 28 (value (pos 5) false ∷ value (pos 8) false ∷ value (pos 250) false ∷ noValue ∷ noValue ∷ []) 13
-  pub trailing : askedOf (spelt "route 5 0-100, 250 x") .row ≡ rowCount
-  pub half : askedOf (spelt "route 5 0-100,5- 250 x") .row ≡ rowCount
-  pub marked : askedOf (spelt "route @5 - 250 x") .row ≡ rowCount
-  pub taken :
-      let n = numbersOf (value (pos 5) false ∷ value (pos 8) false ∷ value (negsuc 8) false ∷ noValue ∷ noValue ∷ []) in
-      (n .up1 ≡ 5) × (n .up2 ≡ 8) × (n .n3 ≡ negsuc 8)
-  pub listed :
-      shardsOf (spelt "route 5 -5-10,5--3 9") 8 (pos 0 ∷ pos 0 ∷ pos 7 ∷ []) (pos 0 ∷ pos 0 ∷ [])
-      ≡ listedShards (negsuc 4 ∷ pos 5 ∷ []) (pos 10 ∷ negsuc 2 ∷ []) (pos 0 ∷ pos 0 ∷ pos 7 ∷ []) (pos 0 ∷ pos 0 ∷ [])

@@ -5,7 +5,7 @@ use mathlib.Core.Path.{_≡_}
 use mathlib.Core.List.{List, [], _∷_, map}
 use mathlib.Core.Bool.{true, false, cond}
 use lib.Dec.{eqb}
-use lib.IntN.{pos}
+use lib.IntN.{pos, negsuc}
 use Rattle.laws.specs.Spelt.{spelt}
 use lib.ListN.{length, set}
 use Rattle.asking.specs.declared.words.Value.{Value}
@@ -13,6 +13,7 @@ use Rattle.asking.specs.declared.words.Asked.{Asked}
 use Rattle.asking.specs.Table.{Row, rows, rowCount}
 use Rattle.asking.specs.Asked.{asked, value, noValue, noValues, askedOf}
 use Rattle.asking.specs.Numbered.{numbersOf}
+use Rattle.asking.specs.ShardWords.{shardsOf}
 use Rattle.asking.specs.Grammar.{Asks}
 
 -- elements in their places of a list from the k-th on
@@ -80,3 +81,20 @@ pub record WhyAsked : Type 0 where
   pub taken :
       let n = numbersOf (value (pos 5) true ∷ value (pos 0) true ∷ value (pos 2) false ∷ value (pos 10) false ∷ noValue ∷ []) in
       (n .up1 ≡ 5) × (n .at1 ≡ true) × (n .at2 ≡ true) × (n .up3 ≡ 2) × (n .up4 ≡ 10)
+
+-- `route` in plain bytes: its rate, the place of its shards, its length and where its text begins, and the shards listed; a range that is not
+-- whole, a `,` with no range behind it, or a mark is not understood
+pub record RouteAsked : Type 0 where
+  pub ranges :
+      askedOf (spelt "route 5 0-100,100-250 -9 01:00")
+      ≡ asked 28 (value (pos 5) false ∷ value (pos 8) false ∷ value (negsuc 8) false ∷ noValue ∷ noValue ∷ []) 25
+  pub none : askedOf (spelt "route 5 - 250") ≡ asked 28 (value (pos 5) false ∷ value (pos 8) false ∷ value (pos 250) false ∷ noValue ∷ noValue ∷ []) 13
+  pub trailing : askedOf (spelt "route 5 0-100, 250 x") .row ≡ rowCount
+  pub half : askedOf (spelt "route 5 0-100,5- 250 x") .row ≡ rowCount
+  pub marked : askedOf (spelt "route @5 - 250 x") .row ≡ rowCount
+  pub taken :
+      let n = numbersOf (value (pos 5) false ∷ value (pos 8) false ∷ value (negsuc 8) false ∷ noValue ∷ noValue ∷ []) in
+      (n .up1 ≡ 5) × (n .up2 ≡ 8) × (n .n3 ≡ negsuc 8)
+  pub listed :
+      shardsOf (spelt "route 5 -5-10,5--3 9") 8 (pos 0 ∷ pos 0 ∷ pos 7 ∷ []) (pos 0 ∷ pos 0 ∷ [])
+      ≡ record { firsts = negsuc 4 ∷ pos 5 ∷ pos 7 ∷ []; ends = pos 10 ∷ negsuc 2 ∷ []; listed = record { all = true; count = 2 } }

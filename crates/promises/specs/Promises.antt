@@ -34,6 +34,7 @@ use Rattle.shot_writer.specs.Statements as shot-writer
 use Rattle.router.specs.Statements as router
 use Rattle.hex.specs.Statements as hex
 use Rattle.asking.specs.RecordStatements as asking-records
+use Rattle.asking.specs.RouteStatements as asking-routes
 use Rattle.streams.specs.Statements as streams
 use Rattle.lines.specs.Statements as lines
 use Rattle.feeding.specs.Statements as feeding
@@ -373,7 +374,12 @@ pub record Promises : Type 1 where
   pub only-understood : asking.OnlyUnderstood
   pub marks-belong : asking.MarksBelong
   pub why-asked : asking.WhyAsked
+  pub route-asked : asking.RouteAsked
   pub records-exactly : asking-records.RecordsExactly
+  pub shards-exactly : asking-routes.ShardsExactly
+  pub one-list-spelt : asking-routes.OneListSpelt
+  pub route-exactly : asking-routes.RouteExactly
+  pub few-shards : asking-routes.FewShards
   pub hex-exactly : hex.HexExactly
   pub hex-one : hex.HexOne
   pub hex-back : hex.HexBack
