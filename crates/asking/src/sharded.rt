@@ -133,7 +133,8 @@ fn both_hold(count: usize, a: usize, b: usize) -> bool
 }
 
 // The shards of a word that begins at a place of the line, put into the two lists from their fronts on: each range's first number and
-// its end. All are listed where it is a word of shards, with a space or the line's end behind it, and both lists have room for them.
+// its end. All are listed where it is a word of shards, with a space or the line's end behind it, and both lists have room for them; how
+// many is how many ranges were read.
 pub fn shards(line: &[u8], at: usize, firsts: &mut [i64], ends: &mut [i64]) -> Listed
     ensures answer { λ r. ⌜ r ≡ shardsOf (now (line .entry)) at (now (firsts .entry)) (now (ends .entry)) .listed ⌝ }
     ensures firsts { λ r. ⌜ now (firsts .exit) ≡ shardsOf (now (line .entry)) at (now (firsts .entry)) (now (ends .entry)) .firsts ⌝ }
