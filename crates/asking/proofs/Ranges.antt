@@ -10,6 +10,7 @@ use lib.IntN.{ℤ, pos}
 use lib.ListN.{length, drop, set, length-append, length-drop, length-set}
 use lib.Seq.{drop-drop}
 use borrow.Author.Tests.{lt-leb, le-leb}
+use Rattle.numbers.specs.Sign.{upFrom}
 use Rattle.digits.specs.Digits.{isByte, firstIs}
 use Rattle.asking.specs.declared.values.Word.{Word}
 use Rattle.asking.specs.declared.values.Word.the-variants.{Number, Nothing}
@@ -95,7 +96,7 @@ range-past line at y z next e =
     (omega (arith, first, end), end .1)
 
 -- ---- the loop of `ranges`: n ranges were read
-pub record Ranging (line : List ℕ) (from : ℕ) (firsts₀ ends₀ firsts ends : List ℤ) (at n : ℕ) : Type 0 where
+pub record Ranging (line : List ℕ) (from : ℕ) (firsts₀ ends₀ firsts ends : List ℕ) (at n : ℕ) : Type 0 where
   pub k : ℕ
   pub enough : length line ≤ at + k
   pub few : n ≤ at
@@ -103,7 +104,7 @@ pub record Ranging (line : List ℕ) (from : ℕ) (firsts₀ ends₀ firsts ends
   pub ends-long : length ends ≡ length ends₀
   pub same : rangesOf line from firsts₀ ends₀ ≡ rangesFrom k line at n firsts ends
 
-pub ranging-start : (line : List ℕ) (from : ℕ) (firsts ends : List ℤ) → Ranging line from firsts ends firsts ends from 0
+pub ranging-start : (line : List ℕ) (from : ℕ) (firsts ends : List ℕ) → Ranging line from firsts ends firsts ends from 0
 ranging-start line from firsts ends = record {
   k = length line;
   enough = omega arith;
@@ -113,9 +114,9 @@ ranging-start line from firsts ends = record {
   same = refl;
 }
 
-module _ (line : List ℕ) (from : ℕ) (firsts₀ ends₀ firsts ends : List ℤ) (at n : ℕ) (s : Ranging line from firsts₀ ends₀ firsts ends at n) where
+module _ (line : List ℕ) (from : ℕ) (firsts₀ ends₀ firsts ends : List ℕ) (at n : ℕ) (s : Ranging line from firsts₀ ends₀ firsts ends at n) where
   -- what the return shows
-  abbrev pub Ends : Ranged → (firsts ends : List ℤ) → Type 0
+  abbrev pub Ends : Ranged → (firsts ends : List ℕ) → Type 0
   Ends r f e = let x = rangesOf line from firsts₀ ends₀ in (r ≡ x .ranged) × ((f ≡ x .firsts) × (e ≡ x .ends))
 
   -- no range stands there
@@ -130,7 +131,7 @@ module _ (line : List ℕ) (from : ℕ) (firsts₀ ends₀ firsts ends : List �
       by (suc k) = rw e
 
   module _ (y z : ℤ) (next : ℕ) (e : rangeAt line at ≡ range.Of y z next)
-      (f g : List ℤ) (p : f ≡ set firsts n y) (q : g ≡ set ends n z) where
+      (f g : List ℕ) (p : f ≡ set firsts n (upFrom y)) (q : g ≡ set ends n (upFrom z)) where
     -- a range, and no `,` behind it
     pub ranging-over : firstIs (isByte 44) (drop next line) ≡ false → (over : Bool) → over ≡ isOver (drop next line)
         → Ends (record { well = over; count = n + 1; next = next }) f g
@@ -150,8 +151,8 @@ module _ (line : List ℕ) (from : ℕ) (firsts₀ ends₀ firsts ends : List �
       k = s .k - 1;
       enough = omega (arith, range-past line at y z next e, s .enough);
       few = omega (arith, range-past line at y z next e, s .few);
-      firsts-long = ap length p ∙ length-set firsts n y ∙ s .firsts-long;
-      ends-long = ap length q ∙ length-set ends n z ∙ s .ends-long;
+      firsts-long = ap length p ∙ length-set firsts n (upFrom y) ∙ s .firsts-long;
+      ends-long = ap length q ∙ length-set ends n (upFrom z) ∙ s .ends-long;
       same = s .same ∙ on (s .k) (s .enough);
     }
       where
@@ -180,7 +181,7 @@ pub hold-first : (count a b : ℕ) → count ≤ a → leb count b ≡ (leb coun
 hold-first count a b h = rw (le-leb count a h)
 
 -- ---- what a word spells
-module _ (line : List ℕ) (at : ℕ) (firsts ends : List ℤ) where
+module _ (line : List ℕ) (at : ℕ) (firsts ends : List ℕ) where
   pub spelled-none : isNone (drop at line) ≡ true → sharding true 0 (at + 1) firsts ends ≡ spelledOf line at firsts ends
   unfolding spelledOf
   spelled-none e = rw e

@@ -3,14 +3,14 @@
 use Prim.Native.Nat.{ℕ, _+_, _≤_}
 use mathlib.Core.Path.{_≡_, refl, sym, ap, subst, _∙_}
 use mathlib.Core.Logic.{_⊎_, inl, inr}
-use mathlib.Core.List.{List, [], _∷_, _++_, append-nil}
+use mathlib.Core.List.{List, [], _∷_, _++_, map, append-nil}
 use mathlib.Core.Bool.{true, false, _&&_, and-eq-true-iff}
 use native.Mathlib.Omega.{arith}
 use lib.Dec.{leb}
 use lib.IntN.{ℤ, pos}
-use lib.ListN.{length, take, drop, length-append}
-use lib.Seq.{take-append-seam}
+use lib.ListN.{length, drop, length-map}
 use borrow.Author.Tests.{le-leb, leb-true}
+use Rattle.numbers.specs.Sign.{upFrom}
 use Rattle.digits.specs.Digits.{digitFirst}
 use Rattle.laws.specs.Spelt.{spelt}
 use Rattle.asking.specs.declared.words.Value.{Value}
@@ -20,7 +20,7 @@ use Rattle.asking.specs.ShardWords.{spelledOf, shardsOf}
 use Rattle.asking.specs.Grammar.{Numeral, ShardsText, Behind, own, number, marked, unstated, shards, Asks, asks}
 use Rattle.asking.specs.Grammar as grammar
 use Rattle.asking.specs.Statements.{placedFrom}
-use Rattle.asking.specs.RouteStatements.{SpeltAt, listedShards, AreShards, ShardsExactly, OneListSpelt}
+use Rattle.asking.specs.RouteStatements.{SpeltAt, listedShards, AreShards, ShardsExactly}
 use Rattle.asking.specs.RouteStatements.{RouteLine, noText, text, askedRoute, IsRoute, RouteExactly}
 use Rattle.asking.proofs.Placed.{placed-front}
 use Rattle.asking.proofs.Numerals.{signed-left}
@@ -29,14 +29,20 @@ use Rattle.asking.proofs.Understanding.{understood}
 use Rattle.asking.proofs.Told.{only-understood}
 
 -- ---- the shards of a word
-module _ (line : List ℕ) (at : ℕ) (firsts ends : List ℤ) where
+module _ (line : List ℕ) (at : ℕ) (firsts ends : List ℕ) where
+  -- numbers, each as one from 0 on, at a list's front
+  fronted : (zs : List ℤ) (list : List ℕ) → length zs ≤ length list → placedFrom 0 list (map upFrom zs) ≡ map upFrom zs ++ drop (length zs) list
+  fronted zs list h =
+      let n = length-map zs upFrom in
+      placed-front (map upFrom zs) list (omega (arith, n)) ∙ ap (λ k. map upFrom zs ++ drop k list) n
+
   -- what is spelt, where both lists have room for it
   listed-as : (next : ℕ) (ys zs : List ℤ) → spelledOf line at firsts ends ≡ spelledAs next firsts ends ys zs → length ys ≡ length zs
       → length ys ≤ length firsts → length ys ≤ length ends → shardsOf line at firsts ends ≡ listedShards ys zs firsts ends
   unfolding shardsOf
   listed-as next ys zs e k f g =
       let h : length zs ≤ length ends = omega arith in
-      rw (e, le-leb (length ys) (length firsts) f, le-leb (length ys) (length ends) g, placed-front ys firsts f, placed-front zs ends h)
+      rw (e, le-leb (length ys) (length firsts) f, le-leb (length ys) (length ends) g, fronted ys firsts f, fronted zs ends h)
 
   shards-there : (ys zs : List ℤ) → SpeltAt line at ys zs → length ys ≤ length firsts → length ys ≤ length ends
       → shardsOf line at firsts ends ≡ listedShards ys zs firsts ends
@@ -54,9 +60,7 @@ module _ (line : List ℕ) (at : ℕ) (firsts ends : List ℤ) where
       let q = and-eq-true-iff (leb (s .count) (length firsts)) (leb (s .count) (length ends)) .0 (p .1) in
       (p .0, (leb-true (s .count) (length firsts) (q .0), leb-true (s .count) (length ends) (q .1)))
 
-  shards-back : shardsOf line at firsts ends .listed .all ≡ true
-      → let x = shardsOf line at firsts ends in
-      AreShards line at firsts ends (take (x .listed .count) (x .firsts)) (take (x .listed .count) (x .ends))
+  shards-back : shardsOf line at firsts ends .listed .all ≡ true → AreShards line at firsts ends
   shards-back e =
       let a = all-told e in
       let t = spelled-told line at firsts ends (a .0) in
@@ -64,44 +68,17 @@ module _ (line : List ℕ) (at : ℕ) (firsts ends : List ℤ) where
       let count : spelledOf line at firsts ends .ranged .count ≡ length (t .ys) = ap (λ z. z .ranged .count) (t .read) in
       let f : length (t .ys) ≤ length firsts = omega (arith, a .1 .0, count) in
       let g : length (t .ys) ≤ length ends = omega (arith, a .1 .1, count) in
-      let is : shardsOf line at firsts ends ≡ listedShards (t .ys) (t .zs) firsts ends = listed-as (at + length (t .w)) (t .ys) (t .zs) (t .read) k f g in
-      let x = shardsOf line at firsts ends in
-      let ys : take (x .listed .count) (x .firsts) ≡ t .ys = rw is (take-append-seam (t .ys) (drop (length (t .ys)) firsts)) in
-      let zs : take (x .listed .count) (x .ends) ≡ t .zs =
-      rw (is, k) (take-append-seam (t .zs) (drop (length (t .zs)) ends)) in
-      rw (ys, zs)
-      (record {
+      record {
+        ys = t .ys;
+        zs = t .zs;
         spelt-at = record { word = t .w; rest = t .l; is = t .is; over = t .over; spells = t .text };
         firsts-room = f;
         ends-room = g;
-        is = is;
-      })
+        is = listed-as (at + length (t .w)) (t .ys) (t .zs) (t .read) k f g;
+      }
 
 pub shards-exactly : ShardsExactly
 shards-exactly line at firsts ends = (shards-there line at firsts ends, shards-back line at firsts ends)
-
-spelt-whole : {word : List ℕ} {ys zs : List ℤ} → ShardsText word ys zs → SpeltAt word 0 ys zs
-unfolding isOver
-spelt-whole {word} s = record { word = word; rest = []; is = sym (append-nil word); over = refl; spells = s }
-
-pub one-list-spelt : OneListSpelt
-one-list-spelt word ys zs us vs s t =
-    let room = ys ++ us in
-    let n = length-append ys us in
-    let e : listedShards ys zs room room ≡ listedShards us vs room room =
-    sym (shards-there word 0 room room ys zs (spelt-whole s) (omega (arith, n)) (omega (arith, n)))
-    ∙ shards-there word 0 room room us vs (spelt-whole t) (omega (arith, n)) (omega (arith, n)) in
-    let count : length ys ≡ length us = ap (λ z. z .listed .count) e in
-    let counts : length zs ≡ length vs = sym (shards-few s .0) ∙ count ∙ shards-few t .0 in (
-      sym (take-append-seam ys (drop (length ys) room))
-          ∙ ap (λ z. take (length ys) (z .firsts)) e
-          ∙ ap (λ k. take k (us ++ drop (length us) room)) count
-          ∙ take-append-seam us (drop (length us) room),
-      sym (take-append-seam zs (drop (length zs) room))
-          ∙ ap (λ z. take (length zs) (z .ends)) e
-          ∙ ap (λ k. take k (vs ++ drop (length vs) room)) counts
-          ∙ take-append-seam vs (drop (length vs) room),
-    )
 
 -- ---- a line that is made so asks `route`
 abbrev routeValues : (rate : ℤ) (place : ℕ) (frames : ℤ) → List Value

@@ -1,14 +1,15 @@
 -- What a word of shards spells is what is read of it, and what is read is spelt: range by range.
 -- Assumes nothing.
 use Prim.Native.Nat.{ℕ, zero, suc, _+_, _*_, _≤_}
-use mathlib.Core.Path.{_≡_, refl, sym, ap, _∙_}
-use mathlib.Core.List.{List, [], _∷_, _++_, append-assoc}
+use mathlib.Core.Path.{_≡_, refl, sym, ap, subst, _∙_}
+use mathlib.Core.List.{List, [], _∷_, _++_, map, append-assoc, append-nil}
 use mathlib.Core.Bool.{Bool, true, false, cond, and-eq-true-iff}
 use native.Mathlib.Omega.{arith}
 use lib.IntN.{ℤ, pos}
 use lib.ListN.{length, drop, set, length-append, length-drop}
 use lib.Seq.{drop-drop}
 use borrow.Author.Tests.{eqb-true}
+use Rattle.numbers.specs.Sign.{upFrom}
 use Rattle.digits.specs.Digits.{isByte, firstIs, digitFirst}
 use Rattle.asking.specs.declared.values.Word.the-variants.{Number, Nothing}
 use Rattle.asking.specs.declared.sharded.Range.{Range}
@@ -92,24 +93,24 @@ range-text line at y z next e =
 
 -- ---- ranges
 -- so many were read from the n-th on, and the word is over at a place
-abbrev rangedFrom : (n next : ℕ) (firsts ends ys zs : List ℤ) → Sharding
-rangedFrom n next firsts ends ys zs = sharding true (n + length ys) next (placedFrom n firsts ys) (placedFrom n ends zs)
+abbrev rangedFrom : (n next : ℕ) (firsts ends : List ℕ) (ys zs : List ℤ) → Sharding
+rangedFrom n next firsts ends ys zs = sharding true (n + length ys) next (placedFrom n firsts (map upFrom ys)) (placedFrom n ends (map upFrom zs))
 
 module _ (line : List ℕ) where
-  module _ (m at n : ℕ) (firsts ends : List ℤ) (y z : ℤ) (next : ℕ) (e : rangeAt line at ≡ range.Of y z next) where
+  module _ (m at n : ℕ) (firsts ends : List ℕ) (y z : ℤ) (next : ℕ) (e : rangeAt line at ≡ range.Of y z next) where
     one-last : isOver (drop next line) ≡ true → rangesFrom (suc m) line at n firsts ends ≡ rangedFrom n next firsts ends (y ∷ []) (z ∷ [])
     unfolding rangesFrom placedFrom
     one-last o = rw (e, over-stops (drop next line) o .1, o)
 
     one-more : (stop : ℕ) (ys zs : List ℤ) → firstIs (isByte 44) (drop next line) ≡ true
-        → rangesFrom m line (next + 1) (n + 1) (set firsts n y) (set ends n z) ≡ rangedFrom (n + 1) stop (set firsts n y) (set ends n z) ys zs
+        → rangesFrom m line (next + 1) (n + 1) (set firsts n (upFrom y)) (set ends n (upFrom z)) ≡ rangedFrom (n + 1) stop (set firsts n (upFrom y)) (set ends n (upFrom z)) ys zs
         → rangesFrom (suc m) line at n firsts ends ≡ rangedFrom n stop firsts ends (y ∷ ys) (z ∷ zs)
     unfolding rangesFrom placedFrom
     one-more stop ys zs c g =
         let k : n + 1 + length ys ≡ n + suc (length ys) = omega arith in
         rw (e, c, g, k)
 
-  ranges-read : {w : List ℕ} {ys zs : List ℤ} → RangesText w ys zs → (m at n : ℕ) (firsts ends : List ℤ) (l : List ℕ) → drop at line ≡ w ++ l
+  ranges-read : {w : List ℕ} {ys zs : List ℤ} → RangesText w ys zs → (m at n : ℕ) (firsts ends : List ℕ) (l : List ℕ) → drop at line ≡ w ++ l
       → isOver l ≡ true → length ys ≤ m → rangesFrom m line at n firsts ends ≡ rangedFrom n (at + length w) firsts ends ys zs
   ranges-read (lastRange f g) zero at n firsts ends l q o h = absurd (omega arith)
   ranges-read (moreRanges f g r) zero at n firsts ends l q o h = absurd (omega arith)
@@ -128,10 +129,10 @@ module _ (line : List ℕ) where
       omega (arith, length-append d (45 ∷ e ++ (44 ∷ u)), length-append e (44 ∷ u)) in
       one-more m at n firsts ends y z next (range-taken line at d e (44 ∷ u ++ l) y z f g p refl) (next + 1 + length u) ys zs
       (rw left refl)
-      (ranges-read r m (next + 1) (n + 1) (set firsts n y) (set ends n z) l (byte-on line next 44 (u ++ l) left) o (omega arith))
+      (ranges-read r m (next + 1) (n + 1) (set firsts n (upFrom y)) (set ends n (upFrom z)) l (byte-on line next 44 (u ++ l) left) o (omega arith))
       ∙ ap (λ x. rangedFrom n x firsts ends (y ∷ ys) (z ∷ zs)) k
 
-  record RangesTold (m at n : ℕ) (firsts ends : List ℤ) : Type 0 where
+  record RangesTold (m at n : ℕ) (firsts ends : List ℕ) : Type 0 where
     w : List ℕ
     l : List ℕ
     ys : List ℤ
@@ -142,7 +143,7 @@ module _ (line : List ℕ) where
     read : rangesFrom m line at n firsts ends ≡ rangedFrom n (at + length w) firsts ends ys zs
 
   -- a range, and the word is over
-  last-told : (m at n : ℕ) (firsts ends : List ℤ) (y z : ℤ) (next : ℕ) → rangeAt line at ≡ range.Of y z next → isOver (drop next line) ≡ true
+  last-told : (m at n : ℕ) (firsts ends : List ℕ) (y z : ℤ) (next : ℕ) → rangeAt line at ≡ range.Of y z next → isOver (drop next line) ≡ true
       → RangesTold (suc m) at n firsts ends
   last-told m at n firsts ends y z next e o =
       let r = range-text line at y z next e in
@@ -159,8 +160,8 @@ module _ (line : List ℕ) where
       }
 
   -- a range, `,`, and what is told of those behind it
-  more-told : (m at n : ℕ) (firsts ends : List ℤ) (y z : ℤ) (next : ℕ) → rangeAt line at ≡ range.Of y z next
-      → firstIs (isByte 44) (drop next line) ≡ true → RangesTold m (next + 1) (n + 1) (set firsts n y) (set ends n z)
+  more-told : (m at n : ℕ) (firsts ends : List ℕ) (y z : ℤ) (next : ℕ) → rangeAt line at ≡ range.Of y z next
+      → firstIs (isByte 44) (drop next line) ≡ true → RangesTold m (next + 1) (n + 1) (set firsts n (upFrom y)) (set ends n (upFrom z))
       → RangesTold (suc m) at n firsts ends
   more-told m at n firsts ends y z next e c s =
       let r = range-text line at y z next e in
@@ -184,27 +185,27 @@ module _ (line : List ℕ) where
             ∙ ap (λ x. rangedFrom n x firsts ends (y ∷ s .ys) (z ∷ s .zs)) k;
       }
 
-  ranges-told : (m at n : ℕ) (firsts ends : List ℤ) → rangesFrom m line at n firsts ends .ranged .well ≡ true → RangesTold m at n firsts ends
+  ranges-told : (m at n : ℕ) (firsts ends : List ℕ) → rangesFrom m line at n firsts ends .ranged .well ≡ true → RangesTold m at n firsts ends
   unfolding rangesFrom
   ranges-told zero at n firsts ends e = absurd (true-false (sym e))
   ranges-told (suc m) at n firsts ends e = by (rangeAt line at) refl (λ next f g. ranges-told m (next + 1) (n + 1) f g) e
     where
       behind : ℤ → ℤ → ℕ → Sharding
       behind y z next =
-          cond (firstIs (isByte 44) (drop next line)) (rangesFrom m line (next + 1) (n + 1) (set firsts n y) (set ends n z))
-          (sharding (isOver (drop next line)) (n + 1) next (set firsts n y) (set ends n z))
+          cond (firstIs (isByte 44) (drop next line)) (rangesFrom m line (next + 1) (n + 1) (set firsts n (upFrom y)) (set ends n (upFrom z)))
+          (sharding (isOver (drop next line)) (n + 1) next (set firsts n (upFrom y)) (set ends n (upFrom z)))
 
       by : (v : Range) → rangeAt line at ≡ v
-          → ((next : ℕ) (f g : List ℤ) → rangesFrom m line (next + 1) (n + 1) f g .ranged .well ≡ true → RangesTold m (next + 1) (n + 1) f g)
+          → ((next : ℕ) (f g : List ℕ) → rangesFrom m line (next + 1) (n + 1) f g .ranged .well ≡ true → RangesTold m (next + 1) (n + 1) f g)
           → rangeThen v behind (sharding false n at firsts ends) .ranged .well ≡ true → RangesTold (suc m) at n firsts ends
       by range.Nothing q more h = absurd (true-false (sym h))
       by (range.Of y z next) q more h = comma (firstIs (isByte 44) (drop next line)) refl h
         where
           comma : (t : Bool) → firstIs (isByte 44) (drop next line) ≡ t
-              → cond t (rangesFrom m line (next + 1) (n + 1) (set firsts n y) (set ends n z))
-              (sharding (isOver (drop next line)) (n + 1) next (set firsts n y) (set ends n z)) .ranged .well ≡ true
+              → cond t (rangesFrom m line (next + 1) (n + 1) (set firsts n (upFrom y)) (set ends n (upFrom z)))
+              (sharding (isOver (drop next line)) (n + 1) next (set firsts n (upFrom y)) (set ends n (upFrom z))) .ranged .well ≡ true
               → RangesTold (suc m) at n firsts ends
-          comma true c k = more-told m at n firsts ends y z next q c (more next (set firsts n y) (set ends n z) k)
+          comma true c k = more-told m at n firsts ends y z next q c (more next (set firsts n (upFrom y)) (set ends n (upFrom z)) k)
           comma false c k = last-told m at n firsts ends y z next q k
 
 -- ---- as many first numbers as ends; and four bytes a range, but for the last `,`
@@ -217,6 +218,53 @@ ranges-few (moreRanges {d} {e} {u} f g r) =
 pub shards-few : {w : List ℕ} {ys zs : List ℤ} → ShardsText w ys zs → (length ys ≡ length zs) × (4 * length ys ≤ length w + 1)
 shards-few noShards = (refl, omega arith)
 shards-few (someShards r) = ranges-few r
+
+-- ---- a word spells one list
+-- the first range of a word, and what stands behind it
+record Opens (w : List ℕ) (y z : ℤ) (t : List ℕ) : Type 0 where
+  next : ℕ
+  range-is : rangeAt w 0 ≡ range.Of y z next
+  left : drop next w ≡ t
+
+opens : (d e t : List ℕ) (y z : ℤ) → Numeral d y → Numeral e z → digitFirst t ≡ false → Opens (d ++ (45 ∷ e ++ t)) y z t
+opens d e t y z f g s =
+    let w = d ++ (45 ∷ e ++ t) in
+    record { next = 0 + length d + 1 + length e; range-is = range-taken w 0 d e t y z f g refl s; left = past-is w 0 d e t y z f g refl }
+
+opens-last : (d e : List ℕ) (y z : ℤ) → Numeral d y → Numeral e z → Opens (d ++ (45 ∷ e)) y z []
+opens-last d e y z f g = subst (λ x. Opens (d ++ (45 ∷ x)) y z []) (append-nil e) (opens d e [] y z f g refl)
+
+opens-one : (w v : List ℕ) (y z u x : ℤ) (t s : List ℕ) → Opens w y z t → Opens v u x s → w ≡ v → (y ≡ u) × ((z ≡ x) × (t ≡ s))
+opens-one w v y z u x t s a b e =
+    let r : range.Of y z (a .next) ≡ range.Of u x (b .next) = sym (a .range-is) ∙ ap (λ k. rangeAt k 0) e ∙ b .range-is in
+    let n : a .next ≡ b .next = cc in
+    (cc, (cc, sym (a .left) ∙ ap (λ k. drop k w) n ∙ ap (drop (b .next)) e ∙ b .left))
+
+ranges-one : {w v : List ℕ} {ys zs us vs : List ℤ} → RangesText w ys zs → RangesText v us vs → w ≡ v → (ys ≡ us) × (zs ≡ vs)
+ranges-one (lastRange {d} {e} {y} {z} f g) (lastRange {d = a} {e = b} {y = u} {z = x} h i) p =
+    let o = opens-one _ _ y z u x [] [] (opens-last d e y z f g) (opens-last a b u x h i) p in
+    (ap (λ k. k ∷ []) (o .0), ap (λ k. k ∷ []) (o .1 .0))
+ranges-one (lastRange {d} {e} {y} {z} f g) (moreRanges {d = a} {e = b} {u = s} {y = u} {z = x} h i m) p =
+    let o = opens-one _ _ y z u x [] (44 ∷ s) (opens-last d e y z f g) (opens a b (44 ∷ s) u x h i refl) p in
+    absurd (omega (arith, ap length (o .1 .1)))
+ranges-one (moreRanges {d} {e} {u = t} {y} {z} f g m) (lastRange {d = a} {e = b} {y = u} {z = x} h i) p =
+    let o = opens-one _ _ y z u x (44 ∷ t) [] (opens d e (44 ∷ t) y z f g refl) (opens-last a b u x h i) p in
+    absurd (omega (arith, ap length (o .1 .1)))
+ranges-one (moreRanges {d} {e} {u = t} {y} {z} f g m) (moreRanges {d = a} {e = b} {u = s} {y = u} {z = x} {ys = us} {zs = vs} h i n) p =
+    let o = opens-one _ _ y z u x (44 ∷ t) (44 ∷ s) (opens d e (44 ∷ t) y z f g refl) (opens a b (44 ∷ s) u x h i refl) p in
+    let q = ranges-one m n (ap (drop 1) (o .1 .1)) in
+    (ap (λ k. y ∷ k) (q .0) ∙ ap (λ k. k ∷ us) (o .0), ap (λ k. z ∷ k) (q .1) ∙ ap (λ k. k ∷ vs) (o .1 .0))
+
+-- ranges are longer than `-`
+ranges-long : {w : List ℕ} {ys zs : List ℤ} → RangesText w ys zs → 2 ≤ length w
+ranges-long (lastRange f g) = omega (arith, ranges-few (lastRange f g) .1)
+ranges-long (moreRanges f g r) = omega (arith, ranges-few (moreRanges f g r) .1)
+
+pub shards-one : {w v : List ℕ} {ys zs us vs : List ℤ} → ShardsText w ys zs → ShardsText v us vs → w ≡ v → (ys ≡ us) × (zs ≡ vs)
+shards-one noShards noShards p = (refl, refl)
+shards-one noShards (someShards r) p = absurd (omega (arith, ranges-long r, ap length p))
+shards-one (someShards r) noShards p = absurd (omega (arith, ranges-long r, ap length p))
+shards-one (someShards r) (someShards s) p = ranges-one r s p
 
 -- ---- a range does not begin with `-` alone
 numeral-not-none : {d : List ℕ} {z : ℤ} → Numeral d z → (l : List ℕ) → isNone (d ++ l) ≡ false
@@ -235,10 +283,10 @@ none-told l e = let q = and-eq-true-iff (firstIs (isByte 45) l) (isOver (drop 1 
 
 -- ---- a word of shards
 -- so many are spelt, and the word is over at a place
-abbrev pub spelledAs : (next : ℕ) (firsts ends ys zs : List ℤ) → Sharding
-spelledAs next firsts ends ys zs = sharding true (length ys) next (placedFrom 0 firsts ys) (placedFrom 0 ends zs)
+abbrev pub spelledAs : (next : ℕ) (firsts ends : List ℕ) (ys zs : List ℤ) → Sharding
+spelledAs next firsts ends ys zs = sharding true (length ys) next (placedFrom 0 firsts (map upFrom ys)) (placedFrom 0 ends (map upFrom zs))
 
-module _ (line : List ℕ) (at : ℕ) (firsts ends : List ℤ) where
+module _ (line : List ℕ) (at : ℕ) (firsts ends : List ℕ) where
   from-front : (next : ℕ) (ys zs : List ℤ) → rangedFrom 0 next firsts ends ys zs ≡ spelledAs next firsts ends ys zs
   from-front next ys zs = let k : 0 + length ys ≡ length ys = omega arith in rw k
 

@@ -37,7 +37,7 @@ pub shards-exactly : ShardsExactly
 shards-exactly = routes.shards-exactly
 
 pub one-list-spelt : OneListSpelt
-one-list-spelt = routes.one-list-spelt
+one-list-spelt word ys zs us vs s t = texts.shards-one s t refl
 
 pub few-shards : FewShards
 few-shards word ys zs s = texts.shards-few s

@@ -2,10 +2,11 @@
 -- Assumes nothing.
 use Prim.Native.Nat.{ℕ, _+_, _*_, _≤_}
 use mathlib.Core.Path.{_≡_}
-use mathlib.Core.List.{List, [], _∷_, _++_}
+use mathlib.Core.List.{List, [], _∷_, _++_, map}
 use mathlib.Core.Bool.{true, false}
 use lib.IntN.{ℤ, pos}
-use lib.ListN.{length, take, drop}
+use lib.ListN.{length, drop}
+use Rattle.numbers.specs.Sign.{upFrom}
 use Rattle.laws.specs.Spelt.{spelt}
 use Rattle.asking.specs.declared.words.Asked.{Asked}
 use Rattle.asking.specs.Table.{isOver}
@@ -22,37 +23,38 @@ pub record SpeltAt (line : List ℕ) (at : ℕ) (firsts ends : List ℤ) : Type 
   pub over : isOver rest ≡ true
   pub spells : ShardsText word firsts ends
 
--- all of them, at the two lists' fronts; what stands behind them stays
-abbrev pub listedShards : (ys zs firsts ends : List ℤ) → ShardListing
+-- all of them, at the two lists' fronts, each as a number from 0 on (one below 0 as 2^64 - 1); what stands behind them stays
+abbrev pub listedShards : (ys zs : List ℤ) (firsts ends : List ℕ) → ShardListing
 listedShards ys zs firsts ends = record {
-  firsts = ys ++ drop (length ys) firsts;
-  ends = zs ++ drop (length zs) ends;
+  firsts = map upFrom ys ++ drop (length ys) firsts;
+  ends = map upFrom zs ++ drop (length zs) ends;
   listed = record { all = true; count = length ys };
 }
 
--- these shards are spelt there, both lists have room for them, and they are listed so
-pub record AreShards (line : List ℕ) (at : ℕ) (firsts ends ys zs : List ℤ) : Type 0 where
+-- some shards are spelt there, both lists have room for them, and they are listed so
+pub record AreShards (line : List ℕ) (at : ℕ) (firsts ends : List ℕ) : Type 0 where
+  pub ys : List ℤ
+  pub zs : List ℤ
   pub spelt-at : SpeltAt line at ys zs
   pub firsts-room : length ys ≤ length firsts
   pub ends-room : length ys ≤ length ends
   pub is : shardsOf line at firsts ends ≡ listedShards ys zs firsts ends
 
 -- shards that a word spells, for which both lists have room, are listed, all of them, however they are spelt; and where all is listed, such
--- a word stands there, and the lists' fronts are its numbers
+-- a word stands there, and the lists' fronts are its numbers, as numbers from 0 on
 abbrev pub ShardsExactly : Type 0
 ShardsExactly =
-    (line : List ℕ) (at : ℕ) (firsts ends : List ℤ)
+    (line : List ℕ) (at : ℕ) (firsts ends : List ℕ)
     → let x = shardsOf line at firsts ends in
-    let n = x .listed .count in
     ((ys zs : List ℤ) → SpeltAt line at ys zs → length ys ≤ length firsts → length ys ≤ length ends → x ≡ listedShards ys zs firsts ends)
-    × (x .listed .all ≡ true → AreShards line at firsts ends (take n (x .firsts)) (take n (x .ends)))
+    × (x .listed .all ≡ true → AreShards line at firsts ends)
 
 -- a word spells one list of shards
 abbrev pub OneListSpelt : Type 0
 OneListSpelt =
     (word : List ℕ) (ys zs us vs : List ℤ) → ShardsText word ys zs → ShardsText word us vs → (ys ≡ us) × (zs ≡ vs)
 
--- a word of n bytes has at most a fourth of n + 1 ranges: lists of 2048 have room for those of any line of 8191 bytes
+-- a word of n bytes has at most a fourth of n + 1 ranges: lists of 2048 have room for those of any line of 8192 bytes
 abbrev pub FewShards : Type 0
 FewShards = (word : List ℕ) (ys zs : List ℤ) → ShardsText word ys zs → (length ys ≡ length zs) × (4 * length ys ≤ length word + 1)
 

@@ -6,6 +6,7 @@ use mathlib.Core.Bool.{Bool, true, false, cond, _&&_}
 use lib.Dec.{leb}
 use lib.IntN.{ℤ, pos}
 use lib.ListN.{length, drop, set}
+use Rattle.numbers.specs.Sign.{upFrom}
 use Rattle.digits.specs.Digits.{isByte, firstIs}
 use Rattle.asking.specs.declared.values.Word.{Word}
 use Rattle.asking.specs.declared.values.Word.the-variants.{Number, Nothing}
@@ -30,13 +31,13 @@ rangeAt line at =
     range.Nothing)
 
 -- ---- ranges joined by `,`
--- the two lists, and the answer: whether the word is one of shards, how many ranges it has, and the place past it
+-- the two lists, each number as one from 0 on, and the answer: whether the word is one of shards, how many ranges it has, and the place past it
 pub record Sharding : Type 0 where
-  pub firsts : List ℤ
-  pub ends : List ℤ
+  pub firsts : List ℕ
+  pub ends : List ℕ
   pub ranged : Ranged
 
-abbrev pub sharding : (well : Bool) (count next : ℕ) (firsts ends : List ℤ) → Sharding
+abbrev pub sharding : (well : Bool) (count next : ℕ) (firsts ends : List ℕ) → Sharding
 sharding well count next firsts ends = record { firsts = firsts; ends = ends; ranged = record { well = well; count = count; next = next } }
 
 abbrev pub rangeThen : Range → (ℤ → ℤ → ℕ → Sharding) → Sharding → Sharding
@@ -44,17 +45,17 @@ rangeThen (range.Of y z next) then none = then y z next
 rangeThen range.Nothing then none = none
 
 -- m ranges at most, from the n-th on: behind each a `,` and the next one, or the word is over
-unfoldable pub rangesFrom : (m : ℕ) (line : List ℕ) (at n : ℕ) (firsts ends : List ℤ) → Sharding
+unfoldable pub rangesFrom : (m : ℕ) (line : List ℕ) (at n : ℕ) (firsts ends : List ℕ) → Sharding
 rangesFrom zero line at n firsts ends = sharding false n at firsts ends
 rangesFrom (suc m) line at n firsts ends =
     rangeThen (rangeAt line at)
     (λ y z next. cond (firstIs (isByte 44) (drop next line))
-    (rangesFrom m line (next + 1) (n + 1) (set firsts n y) (set ends n z))
-    (sharding (isOver (drop next line)) (n + 1) next (set firsts n y) (set ends n z)))
+    (rangesFrom m line (next + 1) (n + 1) (set firsts n (upFrom y)) (set ends n (upFrom z)))
+    (sharding (isOver (drop next line)) (n + 1) next (set firsts n (upFrom y)) (set ends n (upFrom z))))
     (sharding false n at firsts ends)
 
 -- a line has no more ranges than bytes
-abbrev pub rangesOf : (line : List ℕ) (at : ℕ) (firsts ends : List ℤ) → Sharding
+abbrev pub rangesOf : (line : List ℕ) (at : ℕ) (firsts ends : List ℕ) → Sharding
 rangesOf line at firsts ends = rangesFrom (length line) line at 0 firsts ends
 
 -- ---- a word of shards
@@ -63,7 +64,7 @@ unfoldable pub isNone : List ℕ → Bool
 isNone l = firstIs (isByte 45) l && isOver (drop 1 l)
 
 -- none, or ranges
-unfoldable pub spelledOf : (line : List ℕ) (at : ℕ) (firsts ends : List ℤ) → Sharding
+unfoldable pub spelledOf : (line : List ℕ) (at : ℕ) (firsts ends : List ℕ) → Sharding
 spelledOf line at firsts ends = cond (isNone (drop at line)) (sharding true 0 (at + 1) firsts ends) (rangesOf line at firsts ends)
 
 abbrev pub placeThen : (well : Bool) (place next : ℕ) → Word
@@ -77,12 +78,12 @@ shardsAt line at =
 
 -- ---- the shards listed
 pub record ShardListing : Type 0 where
-  pub firsts : List ℤ
-  pub ends : List ℤ
+  pub firsts : List ℕ
+  pub ends : List ℕ
   pub listed : Listed
 
 -- all are listed where the word is one of shards and both lists have room for them
-unfoldable pub shardsOf : (line : List ℕ) (at : ℕ) (firsts ends : List ℤ) → ShardListing
+unfoldable pub shardsOf : (line : List ℕ) (at : ℕ) (firsts ends : List ℕ) → ShardListing
 shardsOf line at firsts ends =
     let s = spelledOf line at firsts ends in
     let n = s .ranged .count in

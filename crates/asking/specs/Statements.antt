@@ -96,5 +96,5 @@ pub record RouteAsked : Type 0 where
       let n = numbersOf (value (pos 5) false ∷ value (pos 8) false ∷ value (negsuc 8) false ∷ noValue ∷ noValue ∷ []) in
       (n .up1 ≡ 5) × (n .up2 ≡ 8) × (n .n3 ≡ negsuc 8)
   pub listed :
-      shardsOf (spelt "route 5 -5-10,5--3 9") 8 (pos 0 ∷ pos 0 ∷ pos 7 ∷ []) (pos 0 ∷ pos 0 ∷ [])
-      ≡ record { firsts = negsuc 4 ∷ pos 5 ∷ pos 7 ∷ []; ends = pos 10 ∷ negsuc 2 ∷ []; listed = record { all = true; count = 2 } }
+      shardsOf (spelt "route 5 -5-10,5--3 9") 8 (0 ∷ 0 ∷ 7 ∷ []) (0 ∷ 0 ∷ [])
+      ≡ record { firsts = 18446744073709551615 ∷ 5 ∷ 7 ∷ []; ends = 10 ∷ 18446744073709551615 ∷ []; listed = record { all = true; count = 2 } }

@@ -3,6 +3,7 @@ ghost use mathlib.Core.Path.{_≡_};
 ghost use mathlib.Core.Bool.{_&&_};
 ghost use lib.Dec.{leb};
 ghost use lib.ListN.{drop, set};
+ghost use Rattle.numbers.specs.Sign.{upFrom};
 ghost use Rattle.asking.specs.ShardWords.{rangeAt, isNone, rangesOf, spelledOf, shardsAt, shardsOf};
 use crate::numbered::Listed;
 use crate::values;
@@ -39,17 +40,17 @@ fn range_at(line: &[u8], at: usize) -> Range
     Range::Of(first, end, next)
 }
 
-// A number at a place of a list; where the list has no such place nothing changes.
-fn put(list: &mut [i64], n: usize, z: i64)
-    ensures list { λ _. ⌜ now (list .exit) ≡ set (now (list .entry)) n z ⌝ }
+// A number at a place of a list, as one from 0 on; where the list has no such place nothing changes.
+fn put(list: &mut [u64], n: usize, z: i64)
+    ensures list { λ _. ⌜ now (list .exit) ≡ set (now (list .entry)) n (upFrom z) ⌝ }
 {
     if n < list.len() {
-        list[n] = z;
+        list[n] = numbers::up_from(z);
     }
 }
 
 // The ranges from a place on, joined by `,`, as far as the two lists have room for them.
-fn ranges(line: &[u8], from: usize, firsts: &mut [i64], ends: &mut [i64]) -> Ranged
+fn ranges(line: &[u8], from: usize, firsts: &mut [u64], ends: &mut [u64]) -> Ranged
     ensures answer { λ r. ⌜ r ≡ rangesOf (now (line .entry)) from (now (firsts .entry)) (now (ends .entry)) .ranged ⌝ }
     ensures firsts { λ r. ⌜ now (firsts .exit) ≡ rangesOf (now (line .entry)) from (now (firsts .entry)) (now (ends .entry)) .firsts ⌝ }
     ensures ends { λ r. ⌜ now (ends .exit) ≡ rangesOf (now (line .entry)) from (now (firsts .entry)) (now (ends .entry)) .ends ⌝ }
@@ -90,7 +91,7 @@ fn is_none(line: &[u8], at: usize) -> bool
 }
 
 // The shards that a word spells from a place on: none, or its ranges.
-fn spelled(line: &[u8], at: usize, firsts: &mut [i64], ends: &mut [i64]) -> Ranged
+fn spelled(line: &[u8], at: usize, firsts: &mut [u64], ends: &mut [u64]) -> Ranged
     ensures answer { λ r. ⌜ r ≡ spelledOf (now (line .entry)) at (now (firsts .entry)) (now (ends .entry)) .ranged ⌝ }
     ensures firsts { λ r. ⌜ now (firsts .exit) ≡ spelledOf (now (line .entry)) at (now (firsts .entry)) (now (ends .entry)) .firsts ⌝ }
     ensures ends { λ r. ⌜ now (ends .exit) ≡ spelledOf (now (line .entry)) at (now (firsts .entry)) (now (ends .entry)) .ends ⌝ }
@@ -113,8 +114,8 @@ pub(crate) fn word(line: &[u8], at: usize) -> Word
         return Word::Nothing;
     }
     let from = at + 1;
-    let mut firsts = [0i64; 0];
-    let mut ends = [0i64; 0];
+    let mut firsts = [0u64; 0];
+    let mut ends = [0u64; 0];
     let s = spelled(line, from, &mut firsts, &mut ends);
     if s.well {
         return Word::Number(numbers::with_sign(false, from as u64), s.next);
@@ -133,9 +134,9 @@ fn both_hold(count: usize, a: usize, b: usize) -> bool
 }
 
 // The shards of a word that begins at a place of the line, put into the two lists from their fronts on: each range's first number and
-// its end. All are listed where it is a word of shards, with a space or the line's end behind it, and both lists have room for them; how
+// its end, as numbers from 0 on. All are listed where it is a word of shards, with a space or the line's end behind it, and both lists have room for them; how
 // many is how many ranges were read.
-pub fn shards(line: &[u8], at: usize, firsts: &mut [i64], ends: &mut [i64]) -> Listed
+pub fn shards(line: &[u8], at: usize, firsts: &mut [u64], ends: &mut [u64]) -> Listed
     ensures answer { λ r. ⌜ r ≡ shardsOf (now (line .entry)) at (now (firsts .entry)) (now (ends .entry)) .listed ⌝ }
     ensures firsts { λ r. ⌜ now (firsts .exit) ≡ shardsOf (now (line .entry)) at (now (firsts .entry)) (now (ends .entry)) .firsts ⌝ }
     ensures ends { λ r. ⌜ now (ends .exit) ≡ shardsOf (now (line .entry)) at (now (firsts .entry)) (now (ends .entry)) .ends ⌝ }

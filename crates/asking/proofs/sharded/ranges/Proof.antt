@@ -8,6 +8,7 @@ use borrow.Author.Tests.{not-true, not-false}
 use borrow.Author.Needs.{needs}
 use mir.Syntax.{w64}
 use mir.Val.{toZ, ofZ}
+use Rattle.numbers.specs.Sign.{upFrom}
 use Rattle.asking.specs.declared.sharded.Range.the-variants.{Of}
 use Rattle.asking.specs.ShardWords.{rangeAt}
 use Rattle.asking.proofs.Numbers.{stands-within}
@@ -39,14 +40,14 @@ returns c =
 found : (c : tie.After-known-told Inv-loop μ-loop)
     → let read = c .before .before .before in
     let range = c .before .r .given .0 in
-    rangeAt (read .before .before .before .args .line .now) (read .before .loop .at) ≡ Of (range .0) (range .1 .0) (range .1 .1 .0)
+    rangeAt (read .before .before .before .before .before .args .line .now) (read .before .loop .at) ≡ Of (range .0) (range .1 .0) (range .1 .1 .0)
 found c = sym (c .before .before .before .range-at .ensures) ∙ c .before .r .given .1
 
 -- it ends behind the place, within the line
 past : (c : tie.After-known-told Inv-loop μ-loop)
     → let read = c .before .before .before in
     let next = c .before .r .given .0 .1 .1 .0 in
-    (read .before .loop .at < next) × (next ≤ length (read .before .before .before .args .line .now))
+    (read .before .loop .at < next) × (next ≤ length (read .before .before .before .before .before .args .line .now))
 past c = range-past _ _ _ _ _ (found c)
 
 -- the two numbers, read back
@@ -58,67 +59,67 @@ end-back c = search needs
 
 add-n : tie.Need-add-n Inv-loop μ-loop
 add-n c =
-    let known = c .before .before .before .before .before .before in
+    let known = c .before .before .before .before .before .before .before .before in
     omega (arith, past known, known .before .before .before .before .loop .inv .few)
 
 -- the lists with the range in them
 firsts-are : (c : tie.After-stands Inv-loop μ-loop)
-    → let put = c .before .before .before .before .before in
+    → let put = c .before .before .before .before .before .before .before in
     let known = put .before .before in
     let s = known .before .before .before .before in
-    put .put .last .0 ≡ set (s .loop .firsts) (s .loop .n) (known .before .r .given .0 .0)
+    put .put .last .0 ≡ set (s .loop .firsts) (s .loop .n) (upFrom (known .before .r .given .0 .0))
 firsts-are c =
-    let put = c .before .before .before .before .before in
+    let put = c .before .before .before .before .before .before .before in
     let known = put .before .before in
     let s = known .before .before .before .before in
-    put .put .ensures ∙ ap (set (s .loop .firsts) (s .loop .n)) (first-back known)
+    put .put .ensures ∙ ap (λ x. set (s .loop .firsts) (s .loop .n) (upFrom x)) (first-back known)
 
 ends-are : (c : tie.After-stands Inv-loop μ-loop)
-    → let put = c .before .before in
-    let known = put .before .before .before .before .before in
+    → let put = c .before .before .before in
+    let known = put .before .before .before .before .before .before in
     let s = known .before .before .before .before in
-    put .put2 .last .0 ≡ set (s .loop .ends) (s .loop .n) (known .before .r .given .0 .1 .0)
+    put .put2 .last .0 ≡ set (s .loop .ends) (s .loop .n) (upFrom (known .before .r .given .0 .1 .0))
 ends-are c =
-    let put = c .before .before in
-    let known = put .before .before .before .before .before in
+    let put = c .before .before .before in
+    let known = put .before .before .before .before .before .before in
     let s = known .before .before .before .before in
-    put .put2 .ensures ∙ ap (set (s .loop .ends) (s .loop .n)) (end-back known)
+    put .put2 .ensures ∙ ap (λ x. set (s .loop .ends) (s .loop .n) (upFrom x)) (end-back known)
 
 same-length-3 : tie.Need-same-length-3 Inv-loop μ-loop
 same-length-3 c =
     let stood = c .before .before in
-    let s = stood .before .before .before .before .before .before .before .before .before .before .before in
+    let s = stood .before .before .before .before .before .before .before .before .before .before .before .before .before in
     ap length (firsts-are stood) ∙ simp length-set (s .loop .inv .firsts-long)
 
 same-length-4 : tie.Need-same-length-4 Inv-loop μ-loop
 same-length-4 c =
     let stood = c .before .before in
-    let s = stood .before .before .before .before .before .before .before .before .before .before .before in
+    let s = stood .before .before .before .before .before .before .before .before .before .before .before .before .before in
     ap length (ends-are stood) ∙ simp length-set (s .loop .inv .ends-long)
 
 returns-2 : tie.Need-returns-2 Inv-loop μ-loop
 returns-2 c =
     let stood = c .before .before in
-    let known = stood .before .before .before .before .before .before .before in
+    let known = stood .before .before .before .before .before .before .before .before .before in
     let turn = known .before .before .before .before in
     ranging-over _ _ _ _ _ _ _ _ (turn .loop .inv) _ _ _ (found known) _ _ (firsts-are stood) (ends-are stood)
     (sym (stood .stands .ensures) ∙ not-true _ (c .before .if1 .taken)) _ (c .is-over .ensures)
 
 add-at : tie.Need-add-at Inv-loop μ-loop
 add-at c =
-    let known = c .before .before .before .before .before .before .before .before in
-    let line = known .before .before .before .before .before .before .args .line .now in
+    let known = c .before .before .before .before .before .before .before .before .before .before in
+    let line = known .before .before .before .before .before .before .before .before .args .line .now in
     omega (arith, stands-within line (known .before .r .given .0 .1 .1 .0) 44 (sym (c .before .stands .ensures) ∙ not-false _ (c .if1 .left)))
 
 loop-less : tie.Need-loop-less Inv-loop μ-loop
 loop-less c =
-    let known = c .before .before .before .before .before .before .before .before in
+    let known = c .before .before .before .before .before .before .before .before .before .before in
     omega (arith, past known)
 
 loop-again : tie.Need-loop-again Inv-loop μ-loop
 loop-again c =
     let stood = c .before in
-    let known = stood .before .before .before .before .before .before .before in
+    let known = stood .before .before .before .before .before .before .before .before .before in
     let turn = known .before .before .before .before in
     ranging-turn _ _ _ _ _ _ _ _ (turn .loop .inv) _ _ _ (found known) _ _ (firsts-are stood) (ends-are stood)
     (sym (stood .stands .ensures) ∙ not-false _ (c .if1 .left))

@@ -10,13 +10,13 @@ use Rattle.asking.proofs.sharded.shards.Tie as tie
 returns : tie.Need-returns
 unfolding shardsOf
 returns c =
-    let f = c .before .before .before .before .spelled .ensures in
+    let f = c .before .before .before .before .before .before .spelled .ensures in
     (shards-ill _ _ _ _ _ (f .0) (not-true _ (c .if1 .taken)), f .1)
 
 returns-2 : tie.Need-returns-2
 unfolding shardsOf
 returns-2 c =
-    let f = c .before .before .before .before .before .spelled .ensures in
+    let f = c .before .before .before .before .before .before .before .spelled .ensures in
     (shards-well _ _ _ _ _ (f .0) (not-false _ (c .before .if1 .left)) _ (c .both-hold .ensures), f .1)
 
 pub shards-spec : {M : Type 1} → statement M
