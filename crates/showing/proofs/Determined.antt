@@ -28,6 +28,8 @@ use Rattle.showing.proofs.lists.show_list as show-list
 use Rattle.showing.proofs.lists.show_list.Reads as show-list-reads
 use Rattle.showing.proofs.why.show_why as show-why
 use Rattle.showing.proofs.why.show_why.Reads as show-why-reads
+use Rattle.showing.proofs.route.show_routed as show-routed
+use Rattle.showing.proofs.route.show_routed.Reads as show-routed-reads
 
 pub only-word-determined : Determined only-word.ended only-word-reads.Asked only-word-reads.Learnt
 only-word-determined κs a asked x y p q = ap (λ z. (z, x .1)) (p ∙ sym q)
@@ -67,3 +69,6 @@ show-list-determined κs a asked x y p q = ap (λ z. (z, x .1)) (p .0 ∙ sym (q
 
 pub show-why-determined : Determined show-why.ended show-why-reads.Asked show-why-reads.Learnt
 show-why-determined κs a asked x y p q = ap (λ z. (z, x .1)) (p .0 ∙ sym (q .0)) ∙ ap (λ z. (y .0, (z, x .1 .1))) (p .1 ∙ sym (q .1))
+
+pub show-routed-determined : Determined show-routed.ended show-routed-reads.Asked show-routed-reads.Learnt
+show-routed-determined κs a asked x y p q = ap (λ z. (z, x .1)) (p .0 ∙ sym (q .0)) ∙ ap (λ z. (y .0, (z, x .1 .1))) (p .1 ∙ sym (q .1))

@@ -3,4 +3,5 @@ pub mod ListPutting
 pub mod WhyPutting
 pub mod Statements
 pub mod WhyStatements
+pub mod RouteStatements
 pub mod Determined

@@ -10,9 +10,9 @@ use Rattle.timecodes.specs.Kinds.{isPosition}
 use Rattle.written.specs.Parts.{signedText}
 use Rattle.streams.specs.Sheet.{Sheet, sheet, putOn}
 use Rattle.laws.specs.Spelt.{spelt}
-use Rattle.showing.specs.Each.{oneCount, ofRefusal}
-use Rattle.showing.specs.Shown.{countText, wordOn, frontOn, partsOn}
-use Rattle.showing.specs.Why.{putsOn, markParts}
+use Rattle.showing.specs.Each.{oneCount, ofRefusal, ofTextRefusal}
+use Rattle.showing.specs.Shown.{countText, wordOn, frontOn, secondOn, partsOn}
+use Rattle.showing.specs.Why.{putsOn, spacedParts, markParts}
 use Rattle.showing.proofs.Putting.{Leaves, leaves-on, leaves-same}
 
 puts-append : (s : Sheet) (ts us : List (List ℕ)) → putsOn s (ts ++ us) ≡ putsOn (putsOn s ts) us
@@ -45,3 +45,9 @@ count-shown s tc = by (isPosition (tc .kind))
 pub refusal-shown : (s : Sheet) (e : Refusal) → partsOn s (ofRefusal e) ≡ putsOn s (spelt "refused " ∷ signedText false (e .number) ∷ [])
 unfolding wordOn partsOn putsOn
 refusal-shown s e = refl
+
+-- and one with its place
+pub text-refusal-shown : (s : Sheet) (e : Refusal)
+    → partsOn s (ofTextRefusal e) ≡ putsOn s (spelt "refused " ∷ signedText false (e .number) ∷ spacedParts false (e .place))
+unfolding wordOn secondOn partsOn putsOn
+text-refusal-shown s e = refl

@@ -19,7 +19,7 @@ use Rattle.showing.specs.Statements.{lengthLine, WhyLine, WhyAcceptedSho
 use Rattle.showing.proofs.Statements.{laid-none, laid-two}
 
 -- parts that have room lie one behind the other
-puts-laid : (ts : List (List ℕ)) (s : Sheet) → s .used + length (joined ts) ≤ length (s .bytes) → Laid s (putsOn s ts) (joined ts)
+pub puts-laid : (ts : List (List ℕ)) (s : Sheet) → s .used + length (joined ts) ≤ length (s .bytes) → Laid s (putsOn s ts) (joined ts)
 unfolding joined putsOn
 puts-laid [] s h = laid-none s
 puts-laid (t ∷ ts) s h =

@@ -58,8 +58,10 @@ helpText =
     ∷ spelt "write_list PLACE ROOM RECORDS: LENGTH HEX" ++ (10
     ∷ spelt "why RATE FORMAT PLACE ROOM TEXT: NUMBER PLACE COUNT LIMIT VALUE LABEL LENGTH LINE" ++ (10
     ∷ spelt "A FORMAT of why that is - states none" ++ (10
-    ∷ spelt "A refusal is: refused N; of read and read_as: refused N PLACE" ++ (10
-    ∷ spelt "The first RATE of a command, and the second of add, sub and cmp, may have @ before it: a position; a COUNT that is one has it too"))))))))))))))))))))))))
+    ∷ spelt "route RATE SHARDS LENGTH TEXT: FIRST AFTER" ++ (10
+    ∷ spelt "SHARDS of route are FIRST-END,FIRST-END .. or - for none" ++ (10
+    ∷ spelt "A refusal is: refused N; of read, read_as and route: refused N PLACE" ++ (10
+    ∷ spelt "The first RATE of a command, and the second of add, sub and cmp, may have @ before it: a position; a COUNT that is one has it too"))))))))))))))))))))))))))
 
 -- a word alone
 unfoldable pub saidText : (word : ℕ) → List ℕ

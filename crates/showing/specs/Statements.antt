@@ -25,6 +25,8 @@ use Rattle.reasons.specs.declared.Reasoned.the-variants as reasoned
 use Rattle.shot_lists.specs.declared.records.Record.{Record}
 use Rattle.shot_lists.specs.declared.records.Record.the-variants.{Rate, Shot, Reel}
 use Rattle.shot_lists.specs.Reading.{AllOf, FaultOf}
+use Rattle.router.specs.declared.Routed.{Routed}
+use Rattle.router.specs.declared.Routed.the-variants as routed
 use Rattle.written.specs.declared.Written.{Written}
 use Rattle.written.specs.Parts.{signedText}
 use Rattle.streams.specs.Sheet.{Sheet, textOn}
@@ -35,6 +37,7 @@ use Rattle.showing.specs.Each.{ofAnswer, ofRead}
 use Rattle.showing.specs.Shown.{countText, shownText, writtenText, shownOn, writtenOn, hexWrittenOn}
 use Rattle.showing.specs.Lists.{listText, listOn}
 use Rattle.showing.specs.Why.{whyText, whyOn}
+use Rattle.showing.specs.Routes.{routedText, routedOn}
 
 -- behind the text that the sheet has stands the answer's, where it has room
 abbrev pub ShownLine : Type 0
@@ -159,3 +162,23 @@ WhyWords =
     (reason (Refused (record { number = 3; place = 0 })) (First (record { negative = true; hours = 1; minutes = 2; seconds = 0; frames = 2 })) 3) (spelt "...")
     ≡ spelt "3 0 0 0 0 -01:02:00;02 3 ..." ++ (10 ∷ []))
     × (whyText 5 (reasoned.Refused (record { number = 8; place = 0 })) (spelt "##") ≡ spelt "refused 8 ##" ++ (10 ∷ []))
+
+-- ---- the shards that a query asks
+-- behind the text that the sheet has stands what a query is answered, where that has room
+abbrev pub RoutedLine : Type 0
+RoutedLine =
+    (s : Sheet) (a : Routed) → s .used + length (routedText a) ≤ length (s .bytes) → textOn (routedOn s a) ≡ textOn s ++ routedText a
+
+-- the first shard and the one after the last are shown as `FIRST AFTER`, a refusal as `refused N PLACE`
+abbrev pub RoutedShown : Type 0
+RoutedShown =
+    ((first after : ℕ) → routedText (routed.Shards first after) ≡ signedText false first ++ (32 ∷ signedText false after ++ (10 ∷ [])))
+    × ((e : Refusal)
+    → routedText (routed.Refused e) ≡ spelt "refused " ++ (signedText false (e .number) ++ (32 ∷ signedText false (e .place) ++ (10 ∷ []))))
+
+-- a worked case of each: shards, none, and a label that is refused
+abbrev pub RoutedWords : Type 0
+RoutedWords =
+    (routedText (routed.Shards 9 256) ≡ spelt "9 256" ++ (10 ∷ []))
+    × (routedText (routed.Shards 0 0) ≡ spelt "0 0" ++ (10 ∷ []))
+    × (routedText (routed.Refused (record { number = 1; place = 10 })) ≡ spelt "refused 1 10" ++ (10 ∷ []))

@@ -22,7 +22,7 @@ pub(crate) fn of_refusal(e: Refusal) -> Shown
 }
 
 // The refusal of a text: `refused`, its number and its place.
-fn of_text_refusal(e: Refusal) -> Shown
+pub(crate) fn of_text_refusal(e: Refusal) -> Shown
     ensures answer { λ r. ⌜ r ≡ ofTextRefusal e ⌝ }
 {
     two_numbers(b'r', e.number as i64, b' ', e.place as u64)

@@ -8,6 +8,7 @@ use written::Written;
 
 mod each;
 mod lists;
+mod route;
 mod why;
 
 pub use each::of_answer;
@@ -18,6 +19,7 @@ pub use each::of_read;
 pub use each::of_ticked;
 pub use each::of_timed;
 pub use lists::show_list;
+pub use route::show_routed;
 pub use why::show_why;
 
 // What is shown: a word (`l` label, `f` footage, `r` refused, `h` the commands in short, `?` not understood, 0 none), and behind it so many
@@ -167,7 +169,9 @@ read_list HEX: N RECORDS
 write_list PLACE ROOM RECORDS: LENGTH HEX
 why RATE FORMAT PLACE ROOM TEXT: NUMBER PLACE COUNT LIMIT VALUE LABEL LENGTH LINE
 A FORMAT of why that is - states none
-A refusal is: refused N; of read and read_as: refused N PLACE
+route RATE SHARDS LENGTH TEXT: FIRST AFTER
+SHARDS of route are FIRST-END,FIRST-END .. or - for none
+A refusal is: refused N; of read, read_as and route: refused N PLACE
 The first RATE of a command, and the second of add, sub and cmp, may have @ before it: a position; a COUNT that is one has it too",
     )
 }

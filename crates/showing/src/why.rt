@@ -13,7 +13,7 @@ use reasons::Reasoned;
 use timecodes::Timecode;
 
 // A space and a number by sign and magnitude.
-fn put_spaced(out: &mut [u8], used: usize, minus: bool, m: u64) -> usize
+pub(crate) fn put_spaced(out: &mut [u8], used: usize, minus: bool, m: u64) -> usize
     ensures answer { λ r. ⌜ r ≡ putsOn (sheet (now (out .entry)) used) (spacedParts minus m) .used ⌝ }
     ensures sheet { λ r. ⌜ now (out .exit) ≡ putsOn (sheet (now (out .entry)) used) (spacedParts minus m) .bytes ⌝ }
 {
