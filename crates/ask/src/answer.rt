@@ -3,6 +3,7 @@ ghost use Prim.Native.Nat.{_≤_};
 use crate::convert;
 use crate::lists;
 use crate::read;
+use crate::route;
 use crate::sheet;
 use crate::why;
 use crate::work;
@@ -38,6 +39,7 @@ fn to_line(line: &[u8], out: &mut [u8], used: usize) -> usize {
         rows::READ_LIST => lists::read_list(line, a.rest, out, used),
         rows::WRITE_LIST => lists::write_list(n, line, a.rest, out, used),
         rows::WHY => why::told(n, line, a.rest, out, used),
+        rows::ROUTE => route::routed(n, line, a.rest, out, used),
         _ => showing::show(out, used, shown(row, tc, n, line, a.rest)),
     }
 }

@@ -1,4 +1,5 @@
-// Commands over shot lists: bytes as HEX, records as words. A line has 4096 bytes at most: that is 2048 bytes of HEX, and 1365 numbers.
+// Commands over shot lists: bytes as HEX, records as words. A line has 8192 bytes at most: that is under 4096 bytes of HEX, and under
+// 2731 numbers, since a record has three bytes of the line for each of its numbers at least.
 ghost use Prim.Native.Nat.{_≤_};
 use asking::Listed;
 use asking::Numbers;
@@ -24,7 +25,7 @@ pub(crate) fn read_list(line: &[u8], from: usize, out: &mut [u8], used: usize) -
     if line.len() < from {
         return not_understood(out, used);
     }
-    let mut bytes = [0u8; 2048];
+    let mut bytes = [0u8; 4096];
     let h = hex::read(&line[from..], &mut bytes);
     shown_list(h, &bytes, out, used)
 }
@@ -67,7 +68,7 @@ pub(crate) fn write_list(
     out: &mut [u8],
     used: usize,
 ) -> usize {
-    let mut given = [0i64; 1400];
+    let mut given = [0i64; 2800];
     let l = asking::records(line, from, &mut given);
     written_list(l, &given, n, out, used)
 }

@@ -9,6 +9,7 @@ mod answer;
 mod convert;
 mod lists;
 mod read;
+mod route;
 mod sheet;
 mod why;
 mod work;
@@ -87,8 +88,9 @@ fn last_answer(buffer: &[u8], out: &mut [u8], g: Gathered) {
     sheet::write(out, used);
 }
 
+// A line may have up to 8192 bytes; what comes behind them is not kept, and the line is not understood.
 fn main() {
-    let mut buffer = io::buffer();
+    let mut buffer = [0u8; 8192];
     let mut out = io::large_buffer();
     let g = read_all(&mut buffer, &mut out);
     last_answer(&buffer, &mut out, g);

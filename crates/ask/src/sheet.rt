@@ -8,7 +8,8 @@ pub(crate) fn write(out: &[u8], used: usize) -> usize {
     0
 }
 
-// Room for the next answer: where fewer than 16384 bytes are left, what is kept is written first.
+// Room for the next answer: where fewer than 16384 bytes are left, what is kept is written first. The longest answer is that of `read_list`
+// to a line of 8192 bytes: 2045 records `rate 12`, 8 bytes each, behind their number, `2045`, and with the line's end: 16,365 bytes.
 pub(crate) fn with_room(out: &[u8], used: usize) -> usize {
     if lent::room(out.len(), used, 16384) {
         return used;
