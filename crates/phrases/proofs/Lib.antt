@@ -1,3 +1,4 @@
 pub mod Laid
 pub mod Statements
+pub mod Room
 pub mod Determined

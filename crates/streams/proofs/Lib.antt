@@ -2,6 +2,7 @@ pub mod Parting
 pub mod Gathering
 pub mod Turns
 pub mod Putting
+pub mod Pieces
 pub mod Standing
 pub mod Statements
 pub mod Whole

@@ -3,4 +3,5 @@ pub mod Parting
 pub mod Gathering
 pub mod Turns
 pub mod Sheet
+pub mod Pieces
 pub mod Statements

@@ -12,7 +12,7 @@ use Rattle.timecodes.specs.declared.Timecode.{Timecode}
 use Rattle.label_writer.specs.declared.TimecodeSections.{TimecodeSections}
 use Rattle.label_writer.specs.Sections.{sectioned}
 use Rattle.time.specs.Ticks.{ticksOf}
-use Rattle.telling.specs.Pieces.{lineEnd}
+use Rattle.streams.specs.Pieces.{lineEnd}
 use Rattle.telling.specs.Shown.{shownPieces, caretPieces, placePieces}
 use Rattle.telling.specs.Facts.{isSign, countText, sectionsAt, labelIn, ticksText, nearestPieces, limitPieces, firstPieces, countedPieces}
 use Rattle.telling.specs.declared.told.Way.{Way}

@@ -1,4 +1,3 @@
-pub mod Putting
 pub mod Lines
 pub mod Cases
 pub mod Telling

@@ -10,9 +10,9 @@ use lib.Seq.{drop-cons}
 use borrow.Author.Tests.{le-leb, lt-leb}
 use Rattle.streams.specs.Sheet.{Sheet, sheet, putOn}
 use Rattle.streams.proofs.Putting.{put-length}
-use Rattle.telling.specs.Pieces.{lineEnd, allOn}
+use Rattle.streams.specs.Pieces.{lineEnd, allOn}
 use Rattle.telling.specs.Shown.{shownByte, shownPieces, caretPieces}
-use Rattle.telling.proofs.Putting.{Leaves, sheet-left}
+use Rattle.streams.proofs.Pieces.{Leaves, sheet-left}
 
 -- ---- a byte as it is shown
 pub shown-control : (b : ℕ) → b < 32 → 63 ≡ shownByte b

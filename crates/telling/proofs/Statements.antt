@@ -1,8 +1,8 @@
 -- What is told, as one text: piece behind piece.
 -- Assumes nothing.
 use Prim.Native.Nat.{ℕ, zero, suc, _+_, _≤_}
-use mathlib.Core.Path.{_≡_, refl, sym, ap, _∙_}
-use mathlib.Core.List.{List, [], _∷_, _++_, map, append-assoc, append-nil}
+use mathlib.Core.Path.{_≡_, refl, ap, _∙_}
+use mathlib.Core.List.{List, [], _∷_, _++_, map, append-assoc}
 use mathlib.Core.Bool.{Bool, true, false, cond, and-eq-true-iff}
 use native.Mathlib.Omega.{arith}
 use lib.ListN.{length, length-append}
@@ -24,11 +24,11 @@ use Rattle.reasons.specs.declared.Fact.the-variants.{Nothing}
 use Rattle.reasons.specs.Facts.{labelFact, footageFact, factBy}
 use Rattle.reasons.specs.Why.{factOf}
 use Rattle.reading.specs.declared.Stated.{Stated}
-use Rattle.streams.specs.Sheet.{Sheet, textOn, putOn}
+use Rattle.streams.specs.Sheet.{Sheet}
 use Rattle.streams.specs.Parting.{together}
-use Rattle.streams.proofs.Putting.{put-is}
+use Rattle.streams.proofs.Pieces.{pieces-stand, together-append}
 use Rattle.telling.specs.declared.told.Way.{Way}
-use Rattle.telling.specs.Pieces.{lineEnd, allOn}
+use Rattle.streams.specs.Pieces.{lineEnd, allOn}
 use Rattle.telling.specs.Shown.{isPrintable, shownByte, shownPieces, hasPlace, caretPieces, placePieces}
 use Rattle.telling.specs.Facts.{limitPieces, firstPieces, countedPieces, factPieces}
 use Rattle.telling.specs.Told.{statedIn, readIn, factIn, phraseIn, frontPieces, reasonPieces, toldPieces}
@@ -38,32 +38,17 @@ use Rattle.telling.specs.Statements.{ToldStands, AnswerStands, WordStand
 use Rattle.telling.proofs.Understanding.{exactly-asked, exactly-texts}
 
 -- ---- with room, each piece stands behind the one before it
-stand : (s : Sheet) (ps : List (List ℕ)) → s .used + length (together ps) ≤ length (s .bytes) → textOn (allOn s ps) ≡ textOn s ++ together ps
-unfolding together
-stand s [] h = sym (append-nil (textOn s))
-stand s (t ∷ ps) h =
-    let n = length-append t (together ps) in
-    let p = put-is s t (omega (arith, h, n)) in
-    stand (putOn s t) ps (omega (arith, h, n, p .more, p .long))
-    ∙ ap (λ z. z ++ together ps) (p .is)
-    ∙ append-assoc (textOn s) t (together ps)
-
 pub told-stands : ToldStands
-told-stands s way text h = stand s (toldPieces way text) h
+told-stands s way text h = pieces-stand s (toldPieces way text) h
 
 pub answer-stands : AnswerStands
-answer-stands s line over = (stand s (questionPieces line over), λ way. stand s (textPieces way line over))
+answer-stands s line over = (pieces-stand s (questionPieces line over), λ way. pieces-stand s (textPieces way line over))
 
 pub word-stands : WordStands
 unfolding together
-word-stands s word h = stand s (wordPieces word) (omega (arith, h, length-append word (32 ∷ [])))
+word-stands s word h = pieces-stand s (wordPieces word) (omega (arith, h, length-append word (32 ∷ [])))
 
 -- ---- pieces joined
-together-append : (ps qs : List (List ℕ)) → together (ps ++ qs) ≡ together ps ++ together qs
-unfolding together
-together-append [] qs = refl
-together-append (t ∷ ps) qs = ap (λ z. t ++ z) (together-append ps qs) ∙ sym (append-assoc t (together ps) (together qs))
-
 shown-text : (text : List ℕ) (rest : List ℕ) → together (shownPieces text) ++ rest ≡ map shownByte text ++ (10 ∷ rest)
 unfolding together shownPieces
 shown-text [] rest = refl

@@ -1,20 +1,16 @@
 -- The reason behind an answer, with its phrase in a line of 128 bytes.
 -- Assumes nothing.
 use Prim.Native.Nat.{ℕ, _+_, _-_, _≤_}
-use mathlib.Core.Path.{_≡_, refl, ap, _∙_}
+use mathlib.Core.Path.{_≡_, ap, _∙_}
 use mathlib.Core.List.{List, _∷_, _++_}
-use mathlib.Core.Bool.{Bool, true, false}
 use native.Mathlib.Omega.{arith}
-use lib.Dec.{leb}
 use lib.ListN.{length, take, drop}
-use borrow.Author.Tests.{leb-true, leb-false}
 use Rattle.lent.proofs.Laws.{splice-there}
 use Rattle.lent.proofs.Statements.{same-length}
 use Rattle.timecodes.specs.declared.kinds.Kind.{Kind}
 use Rattle.written.specs.Written.{Text, lineTo}
 use Rattle.written.proofs.Laws.{text-written}
-use Rattle.phrases.specs.Phrases.{phraseOf}
-use Rattle.phrases.proofs.Statements.{phrases-plain, no-phrase}
+use Rattle.phrases.proofs.Room.{phrase-most}
 use Rattle.answers.specs.declared.Refusal.{Refusal}
 use Rattle.reading.specs.declared.Stated.{Stated}
 use Rattle.reading.specs.declared.Read.{Read}
@@ -26,7 +22,7 @@ use Rattle.reasons.specs.declared.Reasoned.{Reasoned}
 use Rattle.reasons.specs.declared.Reasoned.the-variants.{Told, Refused}
 use Rattle.reasons.specs.Why.{factOf, phraseFor, toldAs, whyOf}
 use Rattle.telling.specs.declared.told.Way.{Way}
-use Rattle.telling.specs.Pieces.{lineEnd}
+use Rattle.streams.specs.Pieces.{lineEnd}
 use Rattle.telling.specs.Shown.{shownPieces, placePieces}
 use Rattle.telling.specs.Facts.{factPieces}
 use Rattle.telling.specs.Told.{kindIn, statedIn, frontPieces, reasonPieces, toldPieces}
@@ -46,6 +42,7 @@ phrase-most n = by (leb n 17) refl
     by false e = rw (no-phrase n (leb-false n 17 e)) (omega arith)
 
 -- so the reason is told, with its phrase at the line's front
+-- ---- every phrase has room in 128 bytes, so the reason is told, with its phrase at the line's front
 module _ (kind : Kind) (text : List ℕ) (stated : Stated) (rate : ℕ) (line : List ℕ) (long : length line ≡ 128) (w : Reasoned)
     (we : w ≡ whyOf kind text stated rate line 0) where
   fits : 0 + length (phraseFor kind text stated rate) ≤ length line

@@ -8,7 +8,7 @@ use Rattle.laws.specs.Spelt.{spelt}
 use Rattle.telling.specs.declared.told.Way.{Way}
 use Rattle.telling.specs.declared.questions.Question.{Question}
 use Rattle.telling.specs.declared.questions.Question.the-variants.{Asked, NoText, NotUnderstood}
-use Rattle.telling.specs.Pieces.{lineEnd}
+use Rattle.streams.specs.Pieces.{lineEnd}
 use Rattle.telling.specs.Shown.{shownPieces}
 use Rattle.telling.specs.Told.{toldPieces}
 use Rattle.telling.specs.Question.{questionOf}

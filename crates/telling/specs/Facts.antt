@@ -23,7 +23,7 @@ use Rattle.reading.specs.declared.Read.{Read}
 use Rattle.reading.specs.declared.Read.the-variants as read
 use Rattle.reasons.specs.declared.Fact.{Fact}
 use Rattle.reasons.specs.declared.Fact.the-variants as fact
-use Rattle.telling.specs.Pieces.{lineEnd}
+use Rattle.streams.specs.Pieces.{lineEnd}
 
 -- ---- numbers and labels
 abbrev pub countText : ℤ → List ℕ

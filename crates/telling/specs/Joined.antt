@@ -6,7 +6,7 @@ use lib.ListN.{length}
 use Rattle.lent.specs.Line.{hasRoom}
 use Rattle.streams.specs.Sheet.{sheet}
 use Rattle.telling.specs.declared.joined.Words.{Words}
-use Rattle.telling.specs.Pieces.{allOn}
+use Rattle.streams.specs.Pieces.{allOn}
 
 -- a word and a space
 abbrev pub wordPieces : (word : List ℕ) → List (List ℕ)

@@ -1,4 +1,3 @@
-pub mod Pieces
 pub mod Shown
 pub mod Facts
 pub mod Told

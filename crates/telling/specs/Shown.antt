@@ -4,7 +4,7 @@ use Prim.Native.Nat.{ℕ, zero, suc}
 use mathlib.Core.List.{List, [], _∷_}
 use mathlib.Core.Bool.{Bool, cond, _&&_, _||_}
 use lib.Dec.{leb, eqb}
-use Rattle.telling.specs.Pieces.{lineEnd}
+use Rattle.streams.specs.Pieces.{lineEnd}
 
 -- printable ASCII as it is, any other byte as `?`
 abbrev pub isPrintable : ℕ → Bool

@@ -18,7 +18,7 @@ use Rattle.reasons.specs.declared.Fact.{Fact}
 use Rattle.reasons.specs.Why.{factOf, phraseFor}
 use Rattle.streams.specs.Parting.{together}
 use Rattle.telling.specs.declared.told.Way.{Way}
-use Rattle.telling.specs.Pieces.{lineEnd}
+use Rattle.streams.specs.Pieces.{lineEnd}
 use Rattle.telling.specs.Shown.{shownPieces, placePieces}
 use Rattle.telling.specs.Facts.{factPieces}
 

@@ -2,7 +2,7 @@
 ghost use mathlib.Core.Path.{_≡_};
 ghost use mathlib.Core.Bool.{cond};
 ghost use Rattle.streams.specs.Sheet.{sheet};
-ghost use Rattle.telling.specs.Pieces.{allOn};
+ghost use Rattle.streams.specs.Pieces.{allOn};
 ghost use Rattle.telling.specs.Told.{toldPieces};
 ghost use Rattle.telling.specs.Question.{questionOf};
 ghost use Rattle.telling.specs.Answered.{otherPieces, askedPieces, questionPieces, textPieces};

@@ -3,7 +3,7 @@ ghost use mathlib.Core.Path.{_≡_};
 ghost use Rattle.streams.specs.Sheet.{sheet, putOn};
 ghost use Rattle.label_writer.specs.Sections.{sectioned};
 ghost use Rattle.time.specs.Ticks.{ticksOf};
-ghost use Rattle.telling.specs.Pieces.{allOn};
+ghost use Rattle.streams.specs.Pieces.{allOn};
 ghost use Rattle.telling.specs.Facts.{fieldWord, isSign, labelIn, ticksText, limitPieces, firstPieces, countedPieces, acceptedPieces, factPieces};
 use crate::pieces;
 use faults::Fault;

@@ -1,7 +1,7 @@
 // Words joined by single spaces, as a program's arguments are.
 ghost use mathlib.Core.Path.{_≡_};
 ghost use Rattle.streams.specs.Sheet.{sheet};
-ghost use Rattle.telling.specs.Pieces.{allOn};
+ghost use Rattle.streams.specs.Pieces.{allOn};
 ghost use Rattle.telling.specs.Joined.{wordPieces, joinedIn};
 
 // How many bytes of the buffer are used, and whether all words had room, a space behind each.

@@ -1,7 +1,7 @@
 // Texts put on a sheet: a text byte by byte, a caret, numbers, and sections. The answer: how many bytes are used then.
 ghost use mathlib.Core.Path.{_≡_};
 ghost use Rattle.streams.specs.Sheet.{sheet, putOn};
-ghost use Rattle.telling.specs.Pieces.{allOn};
+ghost use Rattle.streams.specs.Pieces.{allOn};
 ghost use Rattle.telling.specs.Shown.{shownByte, shownPieces, caretPieces};
 ghost use Rattle.telling.specs.Facts.{countText, sectionsAt};
 use label_writer::TimecodeSections;

@@ -2,7 +2,7 @@
 ghost use mathlib.Core.Path.{_≡_};
 ghost use Rattle.streams.specs.Sheet.{sheet};
 ghost use Rattle.reading.specs.Answer.{placeOf};
-ghost use Rattle.telling.specs.Pieces.{allOn};
+ghost use Rattle.streams.specs.Pieces.{allOn};
 ghost use Rattle.telling.specs.Shown.{placePieces};
 ghost use Rattle.telling.specs.Told.{statedIn, frontPieces, reasonPieces, toldPieces};
 use crate::facts;

@@ -7,7 +7,7 @@ use lib.ListN.{length}
 use Rattle.streams.specs.Sheet.{sheet}
 use Rattle.telling.specs.Told.{toldPieces}
 use Rattle.telling.specs.Answered.{askedPieces}
-use Rattle.telling.proofs.Putting.{pieces-same}
+use Rattle.streams.proofs.Pieces.{pieces-same}
 use Rattle.telling.proofs.Asked.{asked-within, rest-whole}
 use borrow.Author.Needs.{needs}
 use Rattle.telling.proofs.answered.put_asked.Statement.{statement}

@@ -3,9 +3,9 @@
 use mathlib.Core.List.{[], _∷_, _++_}
 use Rattle.laws.specs.Spelt.{spelt}
 use Rattle.streams.specs.Sheet.{sheet}
-use Rattle.telling.specs.Pieces.{lineEnd}
+use Rattle.streams.specs.Pieces.{lineEnd}
 use Rattle.telling.specs.Shown.{shownPieces}
-use Rattle.telling.proofs.Putting.{puts-same, no-more, on-piece, on-pieces}
+use Rattle.streams.proofs.Pieces.{puts-same, no-more, on-piece, on-pieces}
 use Rattle.telling.proofs.Cases.{other-is}
 use borrow.Author.Needs.{needs}
 use Rattle.telling.proofs.answered.put_other.Statement.{statement}

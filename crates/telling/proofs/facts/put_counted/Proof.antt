@@ -5,7 +5,7 @@ use mir.Val.{toZ, ofZ}
 use mathlib.Core.Path.{_≡_, ap}
 use Rattle.streams.specs.Sheet.{sheet, putOn}
 use Rattle.telling.specs.Facts.{countText}
-use Rattle.telling.proofs.Putting.{leaves-same, puts-same, no-more, on-piece}
+use Rattle.streams.proofs.Pieces.{leaves-same, puts-same, no-more, on-piece}
 use Rattle.telling.proofs.Cases.{counted-is}
 use borrow.Author.Needs.{needs}
 use Rattle.telling.proofs.facts.put_counted.Statement.{statement}

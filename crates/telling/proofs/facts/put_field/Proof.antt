@@ -3,7 +3,7 @@
 use mathlib.Core.Path.{sym, ap}
 use Rattle.streams.specs.Sheet.{sheet, putOn}
 use Rattle.telling.specs.Facts.{fieldWord}
-use Rattle.telling.proofs.Putting.{leaves-same}
+use Rattle.streams.proofs.Pieces.{leaves-same}
 use borrow.Author.Needs.{needs}
 use Rattle.telling.proofs.facts.put_field.Statement.{statement}
 use Rattle.telling.proofs.facts.put_field.Tie as tie

@@ -1,7 +1,7 @@
 -- `telling::facts::put_first` meets its contract: each part behind the one before it.
 -- Assumes nothing.
 use Rattle.streams.specs.Sheet.{sheet}
-use Rattle.telling.proofs.Putting.{puts-same, no-more, on-piece}
+use Rattle.streams.proofs.Pieces.{puts-same, no-more, on-piece}
 use Rattle.telling.proofs.Cases.{first-is}
 use borrow.Author.Needs.{needs}
 use Rattle.telling.proofs.facts.put_first.Statement.{statement}

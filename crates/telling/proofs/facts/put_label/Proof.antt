@@ -3,7 +3,7 @@
 use mathlib.Core.Path.{sym, ap, _∙_}
 use Rattle.streams.specs.Sheet.{sheet, putOn}
 use Rattle.telling.specs.Facts.{labelIn}
-use Rattle.telling.proofs.Putting.{leaves-same}
+use Rattle.streams.proofs.Pieces.{leaves-same}
 use borrow.Author.Needs.{needs}
 use Rattle.telling.proofs.facts.put_label.Statement.{statement}
 use Rattle.telling.proofs.facts.put_label.Tie as tie

@@ -2,7 +2,7 @@
 -- Assumes nothing.
 use mathlib.Core.Path.{sym, _∙_}
 use Rattle.streams.specs.Sheet.{sheet}
-use Rattle.telling.proofs.Putting.{pieces-same, puts-same, no-more, on-piece}
+use Rattle.streams.proofs.Pieces.{pieces-same, puts-same, no-more, on-piece}
 use Rattle.telling.proofs.Cases.{limit-sign, limit-nearest}
 use borrow.Author.Needs.{needs}
 use Rattle.telling.proofs.facts.put_limit.Statement.{statement}

@@ -5,7 +5,7 @@ use mir.Val.{toZ, ofZ}
 use mathlib.Core.Path.{_≡_, sym, ap, _∙_}
 use Rattle.streams.specs.Sheet.{sheet, putOn}
 use Rattle.telling.specs.Facts.{countText, ticksText}
-use Rattle.telling.proofs.Putting.{leaves-same}
+use Rattle.streams.proofs.Pieces.{leaves-same}
 use borrow.Author.Needs.{needs}
 use Rattle.telling.proofs.facts.put_ticks.Statement.{statement}
 use Rattle.telling.proofs.facts.put_ticks.Tie as tie

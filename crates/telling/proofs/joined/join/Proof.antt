@@ -6,7 +6,7 @@ use mathlib.Core.Bool.{Bool}
 use mathlib.Core.List.{[], _∷_}
 use Rattle.streams.specs.Sheet.{sheet}
 use Rattle.telling.specs.declared.joined.Words.{Words}
-use Rattle.telling.proofs.Putting.{no-more, on-piece}
+use Rattle.streams.proofs.Pieces.{no-more, on-piece}
 use borrow.Author.Needs.{needs}
 use Rattle.telling.proofs.joined.join.Statement.{statement}
 use Rattle.telling.proofs.joined.join.Tie as tie

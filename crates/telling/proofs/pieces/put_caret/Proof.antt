@@ -1,7 +1,7 @@
 -- `telling::pieces::put_caret` meets its contract: what is wanted is what the sheet has, with the spaces that are left.
 -- Assumes nothing.
 use Rattle.streams.specs.Sheet.{sheet}
-use Rattle.telling.proofs.Putting.{leaves-same}
+use Rattle.streams.proofs.Pieces.{leaves-same}
 use Rattle.telling.proofs.Lines.{Spacing, spacing-start, spacing-turn, spacing-done}
 use borrow.Author.Needs.{needs}
 use Rattle.telling.proofs.pieces.put_caret.Statement.{statement}

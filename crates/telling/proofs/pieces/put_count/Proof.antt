@@ -8,7 +8,7 @@ use mir.Facts.{toZ-ofZ}
 use Rattle.numbers.specs.Sign.{isNeg}
 use Rattle.written.specs.Parts.{signedText}
 use Rattle.streams.specs.Sheet.{sheet, putOn}
-use Rattle.telling.proofs.Putting.{leaves-same}
+use Rattle.streams.proofs.Pieces.{leaves-same}
 use borrow.Author.Needs.{needs}
 use Rattle.telling.proofs.pieces.put_count.Statement.{statement}
 use Rattle.telling.proofs.pieces.put_count.Tie as tie

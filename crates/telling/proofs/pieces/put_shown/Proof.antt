@@ -3,7 +3,7 @@
 use Prim.Native.Nat.{_-_}
 use lib.ListN.{length}
 use Rattle.streams.specs.Sheet.{sheet}
-use Rattle.telling.proofs.Putting.{leaves-same}
+use Rattle.streams.proofs.Pieces.{leaves-same}
 use Rattle.telling.proofs.Lines.{Showing, showing-start, showing-turn, showing-done}
 use borrow.Author.Needs.{needs}
 use Rattle.telling.proofs.pieces.put_shown.Statement.{statement}

@@ -3,7 +3,7 @@
 use mathlib.Core.Path.{refl}
 use mathlib.Core.List.{[]}
 use Rattle.streams.specs.Sheet.{sheet}
-use Rattle.telling.proofs.Putting.{pieces-same, puts-same, no-more, on-piece}
+use Rattle.streams.proofs.Pieces.{pieces-same, puts-same, no-more, on-piece}
 use Rattle.telling.proofs.Cases.{front-none, front-some}
 use borrow.Author.Needs.{needs}
 use Rattle.telling.proofs.told.put_front.Statement.{statement}

@@ -3,7 +3,7 @@
 use mathlib.Core.Path.{refl}
 use mathlib.Core.List.{[]}
 use Rattle.streams.specs.Sheet.{sheet}
-use Rattle.telling.proofs.Putting.{pieces-same}
+use Rattle.streams.proofs.Pieces.{pieces-same}
 use Rattle.telling.proofs.Cases.{place-one, place-two, place-none}
 use borrow.Author.Needs.{needs}
 use Rattle.telling.proofs.told.put_place.Statement.{statement}

@@ -2,11 +2,11 @@
 -- Assumes nothing.
 use mathlib.Core.List.{_∷_, _++_}
 use Rattle.streams.specs.Sheet.{sheet}
-use Rattle.telling.specs.Pieces.{lineEnd}
+use Rattle.streams.specs.Pieces.{lineEnd}
 use Rattle.telling.specs.Shown.{shownPieces, placePieces}
 use Rattle.telling.specs.Facts.{factPieces}
 use Rattle.telling.specs.Told.{frontPieces}
-use Rattle.telling.proofs.Putting.{puts-same, on-piece, on-pieces}
+use Rattle.streams.proofs.Pieces.{puts-same, on-piece, on-pieces}
 use Rattle.telling.proofs.Telling.{reason-is}
 use borrow.Author.Needs.{needs}
 use Rattle.telling.proofs.told.put_reason.Statement.{statement}

@@ -2,7 +2,7 @@
 -- Assumes nothing.
 use mathlib.Core.Path.{refl, _∙_}
 use Rattle.streams.specs.Sheet.{sheet}
-use Rattle.telling.proofs.Putting.{pieces-same}
+use Rattle.streams.proofs.Pieces.{pieces-same}
 use Rattle.telling.proofs.Telling.{never-refused, told-within, told-pieces, told-so}
 use borrow.Author.Needs.{needs}
 use Rattle.telling.proofs.told.tell.Statement.{statement}

@@ -1,10 +1,14 @@
 -- Pieces put on a sheet one behind the other: each goes on from what the one before it left.
 -- Assumes nothing.
-use Prim.Native.Nat.{ℕ}
-use mathlib.Core.Path.{_≡_, refl, ap, subst, _∙_}
-use mathlib.Core.List.{List, [], _∷_, _++_}
-use Rattle.streams.specs.Sheet.{Sheet, sheet, putOn}
-use Rattle.telling.specs.Pieces.{allOn}
+use Prim.Native.Nat.{ℕ, _+_, _≤_}
+use mathlib.Core.Path.{_≡_, refl, sym, ap, subst, _∙_}
+use mathlib.Core.List.{List, [], _∷_, _++_, append-assoc, append-nil}
+use native.Mathlib.Omega.{arith}
+use lib.ListN.{length, length-append}
+use Rattle.streams.specs.Sheet.{Sheet, sheet, textOn, putOn}
+use Rattle.streams.specs.Parting.{together}
+use Rattle.streams.specs.Pieces.{allOn}
+use Rattle.streams.proofs.Putting.{put-is}
 
 -- what a function leaves: so many bytes used, and these bytes
 abbrev pub Leaves : Sheet → ℕ → List ℕ → Type 0
@@ -51,3 +55,20 @@ on-pieces s ps qs r r′ out out′ p q =
           leaves-same _ _ _ _ (all-append s ps qs)
           (subst (λ z. Leaves (allOn z qs) r′ out′) (sheet-left (allOn s ps) r out p) (q .leaves));
     }
+
+-- ---- with room, each piece stands behind the one before it
+pub pieces-stand : (s : Sheet) (ps : List (List ℕ)) → s .used + length (together ps) ≤ length (s .bytes) → textOn (allOn s ps) ≡ textOn s ++ together ps
+unfolding together
+pieces-stand s [] h = sym (append-nil (textOn s))
+pieces-stand s (t ∷ ps) h =
+    let n = length-append t (together ps) in
+    let p = put-is s t (omega (arith, h, n)) in
+    pieces-stand (putOn s t) ps (omega (arith, h, n, p .more, p .long))
+    ∙ ap (λ z. z ++ together ps) (p .is)
+    ∙ append-assoc (textOn s) t (together ps)
+
+-- pieces joined
+pub together-append : (ps qs : List (List ℕ)) → together (ps ++ qs) ≡ together ps ++ together qs
+unfolding together
+together-append [] qs = refl
+together-append (t ∷ ps) qs = ap (λ z. t ++ z) (together-append ps qs) ∙ sym (append-assoc t (together ps) (together qs))
