@@ -12,6 +12,8 @@ use Rattle.asking.proofs.sharded.shards as shards
 use Rattle.asking.proofs.sharded.shards.Reads as shards-reads
 use Rattle.asking.proofs.values.number as number
 use Rattle.asking.proofs.values.number.Reads as number-reads
+use Rattle.asking.proofs.values.signed_at as signed-at
+use Rattle.asking.proofs.values.signed_at.Reads as signed-at-reads
 use Rattle.asking.proofs.values.stands as stands
 use Rattle.asking.proofs.values.stands.Reads as stands-reads
 use Rattle.asking.proofs.values.word_stands as word-stands
@@ -21,6 +23,9 @@ use Rattle.asking.proofs.words.understand.Reads as understand-reads
 
 pub number-determined : Determined number.ended number-reads.Asked number-reads.Learnt
 number-determined κs a asked x y p q = ap (λ z. (z, x .1)) (p ∙ sym q)
+
+pub signed-at-determined : Determined signed-at.ended signed-at-reads.Asked signed-at-reads.Learnt
+signed-at-determined κs a asked x y p q = ap (λ z. (z, x .1)) (p ∙ sym q)
 
 pub stands-determined : Determined stands.ended stands-reads.Asked stands-reads.Learnt
 stands-determined κs a asked x y p q = ap (λ z. (z, x .1)) (p ∙ sym q)

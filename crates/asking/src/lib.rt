@@ -16,6 +16,7 @@ pub use recorded::records;
 pub use sharded::shards;
 pub use values::Word;
 pub use values::number;
+pub use values::signed_at;
 pub use values::stands;
 pub use values::word_stands;
 pub use words::Asked;

@@ -101,7 +101,7 @@ pub fn word_stands(line: &[u8], at: usize, word: &[u8]) -> bool
 }
 
 // An optional `-` at a place, and the digits behind it.
-pub(crate) fn signed_at(line: &[u8], at: usize) -> Word
+pub fn signed_at(line: &[u8], at: usize) -> Word
     ensures answer { λ r. ⌜ r ≡ signedAt at (drop at (now (line .entry))) ⌝ }
 {
     if stands(line, at, b'-') {
