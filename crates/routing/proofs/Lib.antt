@@ -1,0 +1,4 @@
+pub mod Reading
+pub mod Spelt
+pub mod Taking
+pub mod Asking

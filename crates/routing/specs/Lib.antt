@@ -1,0 +1,5 @@
+pub mod Entries
+pub mod Grammar
+pub mod Loading
+pub mod Queries
+pub mod Statements

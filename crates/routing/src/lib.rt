@@ -1,0 +1,14 @@
+// What the program `route` reads and tells (docs/ROUTING.md): a line of a directory file, the directory that its lines make, a line that is
+// a query, and the shards that are told. Refuses nothing itself: what the router refuses is told with its number.
+mod entries;
+mod loading;
+mod queries;
+
+pub use entries::Entry;
+pub use entries::entry_of;
+pub use loading::Flaw;
+pub use loading::Loaded;
+pub use loading::Loading;
+pub use loading::load;
+pub use queries::Query;
+pub use queries::query_of;
