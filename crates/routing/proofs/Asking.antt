@@ -1,6 +1,6 @@
 -- A query by the code's tests, and that it is read exactly as the grammar has it.
 -- Assumes nothing.
-use Prim.Native.Nat.{ℕ, _+_}
+use Prim.Native.Nat.{ℕ, _+_, _≤_}
 use mathlib.Core.Path.{_≡_, refl, sym, ap, subst, _∙_}
 use mathlib.Core.List.{List, [], _∷_, _++_}
 use mathlib.Core.Bool.{Bool, true, false, cond}
@@ -12,6 +12,7 @@ use Rattle.digits.specs.Digits.{isByte, firstIs}
 use Rattle.asking.specs.declared.values.Word.{Word}
 use Rattle.asking.specs.declared.values.Word.the-variants.{Number, Nothing}
 use Rattle.asking.specs.Numbers.{signedAt}
+use Rattle.asking.proofs.Numbers.{stands-within}
 use Rattle.asking.proofs.Numerals.{signed-taken, signed-left, signed-told}
 use Rattle.routing.specs.declared.queries.Query.the-variants.{Asked, NotUnderstood}
 use Rattle.routing.specs.Queries.{askedAt, askedBy, queryOf}
@@ -77,3 +78,7 @@ only line z at e =
 
 pub query-understood : QueryUnderstood
 query-understood line z t = (understood, λ u. subst (Asks line z) (u .rest) (only line z (u .at) (u .asked)))
+
+-- the label begins within the line
+pub query-within : (line : List ℕ) (z : ℤ) (at : ℕ) → queryOf line ≡ Asked z at → at ≤ length line
+query-within line z at e = let t = told line z at e in omega (arith, t .at-is, stands-within line (t .next) 32 (t .space))

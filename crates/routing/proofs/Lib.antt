@@ -2,3 +2,4 @@ pub mod Reading
 pub mod Spelt
 pub mod Taking
 pub mod Asking
+pub mod Putting
