@@ -3,3 +3,4 @@ pub mod Spelt
 pub mod Taking
 pub mod Asking
 pub mod Putting
+pub mod Files

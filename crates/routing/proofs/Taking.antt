@@ -16,10 +16,10 @@ use Rattle.routing.specs.declared.loading.Flaw.the-variants.{TooLong, No
 use Rattle.routing.specs.declared.loading.Loaded.{Loaded}
 use Rattle.routing.specs.declared.loading.Loaded.the-variants.{Skipped, Head, Shard, Bad}
 use Rattle.routing.specs.Entries.{entryOf}
-use Rattle.routing.specs.Grammar.{SaysTwo}
+use Rattle.routing.specs.Grammar.{SaysNothing, SaysTwo}
 use Rattle.routing.specs.Loading.{withHead, withShard, headOf, shardOf, numbersOf, loadedBy, loadOf}
 use Rattle.routing.specs.Statements.{IsHead, IsShard, HeadLoaded, ShardLoaded}
-use Rattle.routing.proofs.Spelt.{line-taken}
+use Rattle.routing.proofs.Spelt.{line-skipped, line-taken}
 
 -- ---- rate and reel
 module _ (rate reel : ℕ) where
@@ -125,7 +125,7 @@ two-load s line m n k = ap (loadedBy s) (line-taken line m n .0 k)
 pub data Told (s : Loading) (line : List ℕ) : Loaded → Type 0 where
   head : {rate reel : ℕ} → SaysTwo line rate reel → s .headed ≡ false → isRate rate ≡ true → reel ≤ 4294967295 → Told s line (Head (withHead rate reel))
   shard : {first end : ℕ} → SaysTwo line first end → s .headed ≡ true → Fits s first end → Told s line (Shard first end (withShard s end))
-  skipped : Told s line Skipped
+  skipped : SaysNothing line → Told s line Skipped
   bad : {f : _} → Told s line (Bad f)
 
 pub told : (s : Loading) (line : List ℕ) → Told s line (loadOf s line false)
@@ -145,7 +145,7 @@ told s line = by (entryOf line) refl
     numbers m n k false e = headed m n k e (head-by m n)
 
     by : (e : Entry) → entryOf line ≡ e → Told s line (loadedBy s e)
-    by entry.Skipped p = skipped
+    by entry.Skipped p = skipped (line-skipped line .1 p)
     by (entry.Numbers m n) p = numbers m n (line-taken line m n .1 p) (s .headed) refl
     by entry.Bad p = bad
 
@@ -153,7 +153,7 @@ told s line = by (entryOf line) refl
 head-is : (s : Loading) (line : List ℕ) (t : Loading) {r : Loaded} → Told s line r → r ≡ Head t → IsHead s line t
 head-is s line t (head {rate = rate} {reel = reel} k e p q) f = record { rate = rate; reel = reel; says = k; none = e; rated = p; most = q; is = cc }
 head-is s line t (shard k e p) f = let z : _≡_ {A = ℕ} 0 1 = cc in absurd (omega arith)
-head-is s line t skipped f = let z : _≡_ {A = ℕ} 0 1 = cc in absurd (omega arith)
+head-is s line t (skipped n) f = let z : _≡_ {A = ℕ} 0 1 = cc in absurd (omega arith)
 head-is s line t bad f = let z : _≡_ {A = ℕ} 0 1 = cc in absurd (omega arith)
 
 pub head-loaded : HeadLoaded
@@ -181,7 +181,7 @@ shard-is s line first end t (shard {first = m} {end = n} k e p) f =
       is = sym u ∙ ap (withShard s) b;
     }
 shard-is s line first end t (head k e p q) f = let z : _≡_ {A = ℕ} 0 1 = cc in absurd (omega arith)
-shard-is s line first end t skipped f = let z : _≡_ {A = ℕ} 0 1 = cc in absurd (omega arith)
+shard-is s line first end t (skipped n) f = let z : _≡_ {A = ℕ} 0 1 = cc in absurd (omega arith)
 shard-is s line first end t bad f = let z : _≡_ {A = ℕ} 0 1 = cc in absurd (omega arith)
 
 pub shard-loaded : ShardLoaded

@@ -1,9 +1,12 @@
 -- What a line of a directory file and a query are made of (docs/ROUTING.md), as a grammar: no reader stands in it.
 -- Assumes nothing.
 use Prim.Native.Nat.{ℕ, _<_}
+use mathlib.Core.Path.{_≡_}
 use mathlib.Core.List.{List, [], _∷_, _++_}
+use mathlib.Core.Bool.{false}
 use lib.IntN.{ℤ}
 use Rattle.digits.specs.Digits.{IsField, valueOf}
+use Rattle.streams.specs.Gathering.{Kept}
 use Rattle.asking.specs.Grammar as asking
 
 -- ---- a directory file
@@ -41,3 +44,19 @@ pub data SaysTwo : (line : List ℕ) → (first second : ℕ) → Type 0 where
 -- an optional `-` and digits, within 64 bits signed; one space; the label, any bytes, perhaps none
 pub data Asks : (line : List ℕ) → (length : ℤ) → (label : List ℕ) → Type 0 where
   asks : {d t : List ℕ} {z : ℤ} → asking.Numeral d z → Asks (d ++ (32 ∷ t)) z t
+
+-- ---- a whole directory file, line by line, each kept whole
+-- behind the rate and the reel a shard a line, or nothing
+pub data SpellsShards : (lines : List Kept) → (firsts ends : List ℕ) → Type 0 where
+  no-shard : SpellsShards [] [] []
+  empty-line : {k : Kept} {lines : List Kept} {firsts ends : List ℕ}
+      → k .over ≡ false → SaysNothing (k .bytes) → SpellsShards lines firsts ends → SpellsShards (k ∷ lines) firsts ends
+  shard-line : {k : Kept} {lines : List Kept} {first end : ℕ} {firsts ends : List ℕ}
+      → k .over ≡ false → SaysTwo (k .bytes) first end → SpellsShards lines firsts ends → SpellsShards (k ∷ lines) (first ∷ firsts) (end ∷ ends)
+
+-- the first two numbers are the rate and the reel
+pub data Spells : (lines : List Kept) → (rate reel : ℕ) → (firsts ends : List ℕ) → Type 0 where
+  front-line : {k : Kept} {lines : List Kept} {rate reel : ℕ} {firsts ends : List ℕ}
+      → k .over ≡ false → SaysNothing (k .bytes) → Spells lines rate reel firsts ends → Spells (k ∷ lines) rate reel firsts ends
+  head-line : {k : Kept} {lines : List Kept} {rate reel : ℕ} {firsts ends : List ℕ}
+      → k .over ≡ false → SaysTwo (k .bytes) rate reel → SpellsShards lines firsts ends → Spells (k ∷ lines) rate reel firsts ends

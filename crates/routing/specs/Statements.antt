@@ -10,12 +10,15 @@ use lib.ListN.{length, drop}
 use Rattle.rates.specs.Rates.{isRate}
 use Rattle.rates.specs.Day.{dayFrames}
 use Rattle.streams.specs.Gathering.{Kept}
+use Rattle.answers.specs.declared.Verdict.the-variants.{Passed}
+use Rattle.router.specs.Directory.{Rules}
+use Rattle.router.specs.Tested.{directoryOf}
 use Rattle.routing.specs.declared.entries.Entry.the-variants as entry
 use Rattle.routing.specs.declared.loading.Loading.{Loading}
 use Rattle.routing.specs.declared.loading.Loaded.the-variants as loaded
 use Rattle.routing.specs.declared.queries.Query.the-variants.{Asked}
 use Rattle.routing.specs.Entries.{entryOf}
-use Rattle.routing.specs.Grammar.{SaysNothing, SaysTwo, Asks}
+use Rattle.routing.specs.Grammar.{SaysNothing, SaysTwo, Spells, Asks}
 use Rattle.routing.specs.Loading.{withHead, withShard, loadOf, whole, loadedOf}
 use Rattle.routing.specs.Queries.{queryOf}
 
@@ -59,6 +62,33 @@ abbrev pub ShardLoaded : Type 0
 ShardLoaded =
     (s : Loading) (line : List ℕ) (first end : ℕ) (t : Loading)
     → IsShard s line first end t ↔ (loadOf s line false ≡ loaded.Shard first end t)
+
+-- what the lines of a file made: its rate, its reel and its shards, in order
+pub record Loads (lines : List Kept) (rate reel : ℕ) (firsts ends : List ℕ) : Type 0 where
+  pub state : Loading
+  pub is : loadedOf lines ≡ whole state firsts ends
+  pub headed : state .headed ≡ true
+  pub rate-is : state .rate ≡ rate
+  pub reel-is : state .reel ≡ reel
+  pub count : state .shards ≡ length firsts
+
+-- what is right of a file: its lines spell a directory, there is such a rate and such a reel, and the router's rules are kept
+pub record Right (lines : List Kept) (rate reel : ℕ) (firsts ends : List ℕ) : Type 0 where
+  pub spells : Spells lines rate reel firsts ends
+  pub rated : isRate rate ≡ true
+  pub most : reel ≤ 4294967295
+  pub rules : Rules (dayFrames rate) firsts ends
+
+-- a file is loaded exactly when all that is right of it: no line of it is bad, and the shards are those that it spells
+abbrev pub FileLoaded : Type 0
+FileLoaded =
+    (lines : List Kept) (rate reel : ℕ) (firsts ends : List ℕ) → Loads lines rate reel firsts ends ↔ Right lines rate reel firsts ends
+
+-- so the router's test of what was loaded passes
+abbrev pub LoadedPasses : Type 0
+LoadedPasses =
+    (lines : List Kept) (rate reel : ℕ) (firsts ends : List ℕ) → Loads lines rate reel firsts ends
+    → directoryOf rate firsts ends .verdict ≡ Passed
 
 -- ---- a query
 -- it is understood, and the label is what stands from its place on
