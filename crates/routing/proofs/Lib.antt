@@ -4,3 +4,5 @@ pub mod Taking
 pub mod Asking
 pub mod Putting
 pub mod Files
+pub mod Statements
+pub mod Determined

@@ -1,26 +1,41 @@
 -- What holds of what the program `route` reads and tells (docs/ROUTING.md). Proofs: proofs/Statements.antt.
 -- Assumes nothing.
-use Prim.Native.Nat.{ℕ, _+_, _≤_, _<_}
+use Prim.Native.Nat.{ℕ, _+_, _-_, _^_, _≤_, _<_}
 use mathlib.Core.Path.{_≡_}
 use mathlib.Core.Logic.{_↔_}
-use mathlib.Core.Bool.{true, false}
-use mathlib.Core.List.{List}
+use mathlib.Core.Bool.{Bool, true, false}
+use mathlib.Core.List.{List, [], _∷_, _++_}
 use lib.IntN.{ℤ}
 use lib.ListN.{length, drop}
+use Rattle.laws.specs.Spelt.{spelt}
 use Rattle.rates.specs.Rates.{isRate}
 use Rattle.rates.specs.Day.{dayFrames}
+use Rattle.written.specs.Parts.{signedText}
+use Rattle.phrases.specs.Phrases.{phraseOf}
 use Rattle.streams.specs.Gathering.{Kept}
+use Rattle.streams.specs.Parting.{together}
+use Rattle.streams.specs.Sheet.{Sheet, textOn}
+use Rattle.streams.specs.Pieces.{allOn}
+use Rattle.answers.specs.declared.Refusal.{Refusal}
 use Rattle.answers.specs.declared.Verdict.the-variants.{Passed}
+use Rattle.router.specs.declared.many.Directory.{Directory}
+use Rattle.router.specs.declared.Routed.{Routed}
+use Rattle.router.specs.declared.Routed.the-variants.{Shards, Refused}
+use Rattle.router.specs.Route.{routeOf}
 use Rattle.router.specs.Directory.{Rules}
 use Rattle.router.specs.Tested.{directoryOf}
 use Rattle.routing.specs.declared.entries.Entry.the-variants as entry
 use Rattle.routing.specs.declared.loading.Loading.{Loading}
 use Rattle.routing.specs.declared.loading.Loaded.the-variants as loaded
+use Rattle.routing.specs.declared.loading.Flaw.{Flaw}
+use Rattle.routing.specs.declared.loading.Flaw.the-variants.{TooLong, NotTwoNumbers, NoSuchRate, NoSuchReel, ManyShards, EmptyShard, EarlyShard, PastDay}
 use Rattle.routing.specs.declared.queries.Query.the-variants.{Asked}
 use Rattle.routing.specs.Entries.{entryOf}
 use Rattle.routing.specs.Grammar.{SaysNothing, SaysTwo, Spells, Asks}
 use Rattle.routing.specs.Loading.{withHead, withShard, loadOf, whole, loadedOf}
 use Rattle.routing.specs.Queries.{queryOf}
+use Rattle.routing.specs.Flaws.{flawPieces}
+use Rattle.routing.specs.Told.{routedPieces, answerPieces}
 
 -- ---- a line of a directory file
 -- a line is skipped exactly when the grammar has nothing in it
@@ -100,3 +115,96 @@ pub record Understood (line : List ℕ) (length : ℤ) (label : List ℕ) : Type
 -- a line is understood as a query exactly when the grammar has it so
 abbrev pub QueryUnderstood : Type 0
 QueryUnderstood = (line : List ℕ) (length : ℤ) (label : List ℕ) → Asks line length label ↔ Understood line length label
+
+-- ---- what is told
+-- behind the text that the sheet has stands the answer, where it has room, and nothing else
+abbrev pub AnswerStands : Type 0
+AnswerStands =
+    (s : Sheet) (d : Directory) (reel : ℕ) (line : List ℕ) (over : Bool)
+    → s .used + length (together (answerPieces d reel line over)) ≤ length (s .bytes)
+    → textOn (allOn s (answerPieces d reel line over)) ≡ textOn s ++ together (answerPieces d reel line over)
+
+-- so it is with what is told of a bad line
+abbrev pub FlawStands : Type 0
+FlawStands =
+    (s : Sheet) (line : ℕ) (flaw : Flaw) → s .used + length (together (flawPieces line flaw)) ≤ length (s .bytes)
+    → textOn (allOn s (flawPieces line flaw)) ≡ textOn s ++ together (flawPieces line flaw)
+
+-- the answer to a line, asked of the directory of a file
+abbrev pub answerText : (rate : ℕ) (firsts ends : List ℕ) (reel : ℕ) (line : List ℕ) → List ℕ
+answerText rate firsts ends reel line = together (answerPieces (directoryOf rate firsts ends) reel line false)
+
+-- of several shards the first and the last that the router gives are told, both of them asked, and the reel
+abbrev pub SomeTold : Type 0
+SomeTold =
+    (rate : ℕ) (firsts ends : List ℕ) (reel : ℕ) (line : List ℕ) (z : ℤ) (label : List ℕ) (first after : ℕ) → Asks line z label
+    → routeOf rate firsts ends z label ≡ Shards first after → first + 1 < after
+    → answerText rate firsts ends reel line
+    ≡ spelt "shards "
+    ++ (signedText false first
+    ++ (spelt " to " ++ (signedText false (after - 1) ++ (spelt " of reel " ++ (signedText false reel ++ (10 ∷ []))))))
+
+-- of one alone it is told
+abbrev pub OneTold : Type 0
+OneTold =
+    (rate : ℕ) (firsts ends : List ℕ) (reel : ℕ) (line : List ℕ) (z : ℤ) (label : List ℕ) (first : ℕ) → Asks line z label
+    → routeOf rate firsts ends z label ≡ Shards first (first + 1)
+    → answerText rate firsts ends reel line
+    ≡ spelt "shard " ++ (signedText false first ++ (spelt " of reel " ++ (signedText false reel ++ (10 ∷ []))))
+
+-- and where the router gives none, that there is none
+abbrev pub NoneTold : Type 0
+NoneTold =
+    (rate : ℕ) (firsts ends : List ℕ) (reel : ℕ) (line : List ℕ) (z : ℤ) (label : List ℕ) (first after : ℕ) → Asks line z label
+    → routeOf rate firsts ends z label ≡ Shards first after → after ≤ first
+    → answerText rate firsts ends reel line ≡ spelt "no shard of reel " ++ (signedText false reel ++ (10 ∷ []))
+
+-- of a refusal the router's number, its place, and the phrase of the number
+abbrev pub RefusedTold : Type 0
+RefusedTold =
+    (rate : ℕ) (firsts ends : List ℕ) (reel : ℕ) (line : List ℕ) (z : ℤ) (label : List ℕ) (e : Refusal) → Asks line z label
+    → routeOf rate firsts ends z label ≡ Refused e
+    → answerText rate firsts ends reel line
+    ≡ spelt "refused "
+    ++ (signedText false (e .number) ++ (32 ∷ signedText false (e .place) ++ (spelt ": " ++ (phraseOf (e .number) ++ (10 ∷ [])))))
+
+-- a line that the grammar does not have is not understood
+abbrev pub OtherTold : Type 0
+OtherTold =
+    (rate : ℕ) (firsts ends : List ℕ) (reel : ℕ) (line : List ℕ) → ((z : ℤ) (label : List ℕ) → Asks line z label → ⊥)
+    → answerText rate firsts ends reel line ≡ spelt "not understood: a query is LENGTH LABEL" ++ (10 ∷ [])
+
+-- nor is one that has more bytes than are kept
+abbrev pub LongTold : Type 0
+LongTold =
+    (d : Directory) (reel : ℕ) (line : List ℕ)
+    → together (answerPieces d reel line true) ≡ spelt "not understood: a query is LENGTH LABEL" ++ (10 ∷ [])
+
+-- numbers of an answer that have room in 64 bits, as all that are computed have
+abbrev pub Wide : Routed → Type 0
+Wide (Shards first after) = (first < 2 ^ 64) × (after < 2 ^ 64)
+Wide (Refused e) = (e .number < 2 ^ 64) × (e .place < 2 ^ 64)
+
+-- so no answer has over 256 bytes
+abbrev pub AnswerShort : Type 0
+AnswerShort = (reel : ℕ) (r : Routed) → reel < 2 ^ 64 → Wide r → length (together (routedPieces reel r)) ≤ 256
+
+-- the answers read so in plain words, one case of each
+pub record AnswersRead : Type 0 where
+  pub some : together (routedPieces 12 (Shards 3 8)) ≡ spelt "shards 3 to 7 of reel 12" ++ (10 ∷ [])
+  pub two : together (routedPieces 0 (Shards 0 2)) ≡ spelt "shards 0 to 1 of reel 0" ++ (10 ∷ [])
+  pub one : together (routedPieces 12 (Shards 3 4)) ≡ spelt "shard 3 of reel 12" ++ (10 ∷ [])
+  pub none : together (routedPieces 4294967295 (Shards 0 0)) ≡ spelt "no shard of reel 4294967295" ++ (10 ∷ [])
+  pub refused : together (routedPieces 12 (Refused (record { number = 1; place = 10 }))) ≡ spelt "refused 1 10: not in a form that can be read" ++ (10 ∷ [])
+  pub past : together (routedPieces 12 (Refused (record { number = 17; place = 0 }))) ≡ spelt "refused 17 0: a query that ends past the day" ++ (10 ∷ [])
+
+-- and what is told of a bad line
+pub record FlawsRead : Type 0 where
+  pub long : together (flawPieces 1 TooLong) ≡ spelt "line 1: too long" ++ (10 ∷ [])
+  pub numbers : together (flawPieces 2 NotTwoNumbers) ≡ spelt "line 2: not two numbers" ++ (10 ∷ [])
+  pub rate : together (flawPieces 3 NoSuchRate) ≡ spelt "line 3: no such rate (refused 6)" ++ (10 ∷ [])
+  pub reel : together (flawPieces 3 NoSuchReel) ≡ spelt "line 3: no such reel" ++ (10 ∷ [])
+  pub many : together (flawPieces 259 ManyShards) ≡ spelt "line 259: more than 256 shards (refused 16)" ++ (10 ∷ [])
+  pub empty : together (flawPieces 4 EmptyShard) ≡ spelt "line 4: the shard's end is not after its first frame (refused 16)" ++ (10 ∷ [])
+  pub early : together (flawPieces 4 EarlyShard) ≡ spelt "line 4: the shard begins before the one before it ends (refused 16)" ++ (10 ∷ [])
+  pub past : together (flawPieces 10 PastDay) ≡ spelt "line 10: the shard ends past the day (refused 16)" ++ (10 ∷ [])
