@@ -33,15 +33,6 @@ pub reason-is : (rate : ℕ) (text : List ℕ) (r : Read) (f : Fact) (phrase : L
 unfolding reasonPieces
 reason-is rate text r f phrase number place e p = rw (e, p)
 
--- ---- every phrase has room in 128 bytes
-phrase-most : (n : ℕ) → length (phraseOf n) ≤ 128
-phrase-most n = by (leb n 17) refl
-  where
-    by : (t : Bool) → leb n 17 ≡ t → length (phraseOf n) ≤ 128
-    by true e = phrases-plain n (leb-true n 17 e) .1 .1
-    by false e = rw (no-phrase n (leb-false n 17 e)) (omega arith)
-
--- so the reason is told, with its phrase at the line's front
 -- ---- every phrase has room in 128 bytes, so the reason is told, with its phrase at the line's front
 module _ (kind : Kind) (text : List ℕ) (stated : Stated) (rate : ℕ) (line : List ℕ) (long : length line ≡ 128) (w : Reasoned)
     (we : w ≡ whyOf kind text stated rate line 0) where
