@@ -21,7 +21,7 @@ use Rattle.asking.specs.Grammar.{Numeral, ShardsText, Behind, own, numbe
 use Rattle.asking.specs.Grammar as grammar
 use Rattle.asking.specs.Statements.{placedFrom}
 use Rattle.asking.specs.RouteStatements.{SpeltAt, listedShards, AreShards, ShardsExactly}
-use Rattle.asking.specs.RouteStatements.{RouteLine, noText, text, askedRoute, IsRoute, RouteExactly}
+use Rattle.asking.specs.RouteStatements.{RouteLine, noText, text, askedRoute, IsRoute, RouteUnderstood}
 use Rattle.asking.proofs.Placed.{placed-front}
 use Rattle.asking.proofs.Numerals.{signed-left}
 use Rattle.asking.proofs.ShardTexts.{true-false, byte-on, spelledAs, spelled-read, spelled-told, shards-few}
@@ -240,5 +240,5 @@ route-back line e =
       is = route-there line (t .rate) (t .place) (t .firsts) (t .ends) (t .frames) (a .rest) (askedOf line .rest) (t .made) (a .begins) .0;
     }
 
-pub route-exactly : RouteExactly
-route-exactly line = (route-there line, route-back line)
+pub route-understood : RouteUnderstood
+route-understood line = (route-there line, route-back line)

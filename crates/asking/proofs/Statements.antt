@@ -3,7 +3,7 @@
 use mathlib.Core.Path.{refl}
 use Rattle.asking.specs.Statements.{marksFrom, Understood, OnlyUnderstood, MarksBelong, WhyAsked, RouteAsked}
 use Rattle.asking.specs.RecordStatements.{RecordsExactly}
-use Rattle.asking.specs.RouteStatements.{ShardsExactly, OneListSpelt, FewShards, RouteExactly}
+use Rattle.asking.specs.RouteStatements.{ShardsExactly, OneListSpelt, FewShards, RouteUnderstood}
 use Rattle.asking.proofs.Understanding as there
 use Rattle.asking.proofs.Told as back
 use Rattle.asking.proofs.RecordsListed as listed
@@ -42,8 +42,8 @@ one-list-spelt word ys zs us vs s t = texts.shards-one s t refl
 pub few-shards : FewShards
 few-shards word ys zs s = texts.shards-few s
 
-pub route-exactly : RouteExactly
-route-exactly = routes.route-exactly
+pub route-understood : RouteUnderstood
+route-understood = routes.route-understood
 
 pub route-asked : RouteAsked
 unfolding askedOf wordOf rows rowFrom same wordsFrom endedAt restAt isInRange valueAt wordAt isMarked isUnstated isPosition wordFirst isOver numberAt

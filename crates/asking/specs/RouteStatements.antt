@@ -86,8 +86,8 @@ pub record IsRoute (line : List ℕ) : Type 0 where
 
 -- a line that is made so asks `route`, with its rate, the place of its shards, its length and where its text begins, and at that place stands a
 -- word that spells its shards; and a line that asks `route` is made so
-abbrev pub RouteExactly : Type 0
-RouteExactly =
+abbrev pub RouteUnderstood : Type 0
+RouteUnderstood =
     (line : List ℕ)
     → ((rate : ℤ) (place : ℕ) (firsts ends : List ℤ) (frames : ℤ) (text : List ℕ) (begins : ℕ)
     → RouteLine line rate place firsts ends frames text → begins + length text ≡ length line

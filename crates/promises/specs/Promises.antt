@@ -378,7 +378,7 @@ pub record Promises : Type 1 where
   pub records-exactly : asking-records.RecordsExactly
   pub shards-exactly : asking-routes.ShardsExactly
   pub one-list-spelt : asking-routes.OneListSpelt
-  pub route-exactly : asking-routes.RouteExactly
+  pub route-understood : asking-routes.RouteUnderstood
   pub few-shards : asking-routes.FewShards
   pub hex-exactly : hex.HexExactly
   pub hex-one : hex.HexOne
