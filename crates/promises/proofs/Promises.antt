@@ -162,6 +162,7 @@ promises = record {
   end-frame = router.end-frame;
   range-is = router.range-is;
   halves-walk = router.halves-walk;
+  found-by-halving = router.found-by-halving;
   tested-once = router.tested-once;
   asked-many = asked-many;
   route-for-c = route-for-c;

@@ -165,6 +165,7 @@ pub record Promises : Type 1 where
   pub end-frame : router.EndFrame
   pub range-is : router.RangeIs
   pub halves-walk : router.HalvesWalk
+  pub found-by-halving : router.FoundByHalving
   pub tested-once : router.TestedOnce
   pub asked-many : AskedMany
   pub route-for-c : RouteForC

@@ -40,8 +40,8 @@ use Rattle.router.specs.HalvingLaws as halving
 use Rattle.router.specs.TestedLaws.{kept-back}
 use Rattle.router.specs.Statements.{RulesTested, RefusedSix, RefusedSixteen, RefusedByLabel, RefusedFive, RefusedSeventeen, NumbersGiven}
 use Rattle.router.specs.Statements.{Good, LengthOf, BadLength, PastDay, Query, Exactly}
-use Rattle.router.specs.Statements.{RouteExactly, PrunedExactly, NothingAsked, EndFrame, RangeIs, HalvesWalk, TestedOnce}
-use Rattle.router.proofs.Outcomes.{Outcome, no-rate, broken, own, bad-length, past, asked, outcome, route-no-rate, route-broken, route-label, route-length, route-past, route-query, range-label, range-start, length-held}
+use Rattle.router.specs.Statements.{RouteExactly, PrunedExactly, NothingAsked, EndFrame, RangeIs, HalvesWalk, FoundByHalving, TestedOnce}
+use Rattle.router.proofs.Outcomes.{Outcome, no-rate, broken, own, bad-length, past, asked, outcome, route-no-rate, route-broken, route-good, route-label, route-length, route-past, route-query, range-label, range-start, length-held}
 use Rattle.router.proofs.Exact.{span-exactly, exactly-one}
 
 pub rules-tested : RulesTested
@@ -305,6 +305,10 @@ range-is rate z text start end r = (
 -- ---- how they are found
 pub halves-walk : HalvesWalk
 halves-walk day firsts ends start end r = halving.halves-walk day start end firsts ends r
+
+pub found-by-halving : FoundByHalving
+found-by-halving rate firsts ends z text g =
+    halving.found-asked (dayFrames rate) firsts ends (g .rules) (rangeOf rate z text) ∙ sym (route-good rate firsts ends z text g)
 
 pub tested-once : TestedOnce
 unfolding routedIn directoryOf routeOf

@@ -22,7 +22,7 @@ use Rattle.router.specs.declared.query.Ranged.the-variants.{Frames}
 use Rattle.router.specs.Directory.{InShard, Rules, isDirectory}
 use Rattle.router.specs.Query.{rangeOf}
 use Rattle.router.specs.Route.{Common, askedSpan, routeOf}
-use Rattle.router.specs.Halving.{halvedSpan}
+use Rattle.router.specs.Halving.{halvedSpan, foundIn}
 use Rattle.router.specs.Tested.{directoryOf, routedIn}
 
 -- ---- the refusals, in their order
@@ -157,6 +157,12 @@ RangeIs =
 abbrev pub HalvesWalk : Type 0
 HalvesWalk =
     (day : ℕ) (firsts ends : List ℕ) (start end : ℕ) → Rules day firsts ends → halvedSpan start end firsts ends ≡ askedSpan start end firsts ends
+
+-- so what is found by halving in a good directory is what is answered
+abbrev pub FoundByHalving : Type 0
+FoundByHalving =
+    (rate : ℕ) (firsts ends : List ℕ) (z : ℤ) (text : List ℕ) → Good rate firsts ends
+    → foundIn firsts ends (rangeOf rate z text) ≡ routeOf rate firsts ends z text
 
 -- a directory that is tested once answers every query as one that is tested each time
 abbrev pub TestedOnce : Type 0
