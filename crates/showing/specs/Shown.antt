@@ -61,7 +61,7 @@ helpText =
     ∷ spelt "route RATE SHARDS LENGTH TEXT: FIRST AFTER" ++ (10
     ∷ spelt "SHARDS of route are FIRST-END,FIRST-END .. or - for none" ++ (10
     ∷ spelt "A refusal is: refused N; of read, read_as and route: refused N PLACE" ++ (10
-    ∷ spelt "The first RATE of a command, and the second of add, sub and cmp, may have @ before it: a position; a COUNT that is one has it too"))))))))))))))))))))))))))
+    ∷ spelt "The first RATE of a command other than route, and the second of add, sub and cmp, may have @ before it: a position; a COUNT that is one has it too"))))))))))))))))))))))))))
 
 -- a word alone
 unfoldable pub saidText : (word : ℕ) → List ℕ

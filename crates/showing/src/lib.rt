@@ -172,7 +172,7 @@ A FORMAT of why that is - states none
 route RATE SHARDS LENGTH TEXT: FIRST AFTER
 SHARDS of route are FIRST-END,FIRST-END .. or - for none
 A refusal is: refused N; of read, read_as and route: refused N PLACE
-The first RATE of a command, and the second of add, sub and cmp, may have @ before it: a position; a COUNT that is one has it too",
+The first RATE of a command other than route, and the second of add, sub and cmp, may have @ before it: a position; a COUNT that is one has it too",
     )
 }
 
