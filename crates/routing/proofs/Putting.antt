@@ -51,9 +51,9 @@ module _ (first after : ℕ) where
     unfolding whichPieces
     which-one e = rw (lt-leb after first h, eq-eqb (after - first) 1 e)
 
-    pub which-some : (after - first ≡ 1 → ⊥) → somePieces first (after - 1) ≡ whichPieces first after
+    pub which-some : (last : ℕ) → (after - first ≡ 1 → ⊥) → last ≡ after - 1 → somePieces first last ≡ whichPieces first after
     unfolding whichPieces
-    which-some e = rw (lt-leb after first h, ne-eqb (after - first) 1 e)
+    which-some last e l = rw (lt-leb after first h, ne-eqb (after - first) 1 e, l)
 
 -- ---- a line
 module _ (d : Directory) (reel : ℕ) (line : List ℕ) (over : Bool) where

@@ -86,7 +86,7 @@ pub some-told : SomeTold
 unfolding together
 some-told rate firsts ends reel line z label first after a e h =
     told rate firsts ends reel line z label (Shards first after) a e
-    ∙ found-text reel first after (somePieces first (after - 1)) (which-some first after (omega arith) (λ y. omega (arith, y)))
+    ∙ found-text reel first after (somePieces first (after - 1)) (which-some first after (omega arith) (after - 1) (λ y. omega (arith, y)) refl)
 
 pub one-told : OneTold
 unfolding together

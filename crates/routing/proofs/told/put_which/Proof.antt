@@ -32,7 +32,7 @@ returns-3 c =
     let t = p .before .before in
     let u = t .before in
     let a = u .before .before .args in
-    pieces-same (sheet (a .out .now) (a .used)) _ _ _ _ (which-some (a .first) (a .after) (u .if1 .left) (t .if2 .left)) (p .put-some .ensures)
+    pieces-same (sheet (a .out .now) (a .used)) _ _ _ _ (which-some (a .first) (a .after) (u .if1 .left) _ (t .if2 .left) (omega arith)) (p .put-some .ensures)
 
 pub put-which-spec : {M : Type 1} → statement M
 put-which-spec =
