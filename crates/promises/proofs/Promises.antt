@@ -46,6 +46,7 @@ use Rattle.asking.proofs.Statements as asking
 use Rattle.showing.proofs.Statements as showing
 use Rattle.telling.proofs.Statements as telling
 use Rattle.showing.proofs.WhyStatements as showing-why
+use Rattle.showing.proofs.RouteStatements as showing-route
 use Rattle.promises.proofs.Calls.{one-answer}
 use Rattle.promises.proofs.CallsC.{one-answer-c}
 use Rattle.promises.proofs.Ties.{ties}
@@ -390,4 +391,7 @@ promises = record {
   why-first-shown = showing-why.why-first-shown;
   why-no-room-shown = showing-why.why-no-room-shown;
   why-words = showing-why.why-words;
+  routed-line = showing-route.routed-line;
+  routed-shown = showing-route.routed-shown;
+  routed-words = showing-route.routed-words;
 }

@@ -44,6 +44,7 @@ ties = record {
   verdict = λ κs a x p. p;
   route-tested = λ κs a x p. p;
   show-why = λ κs a x p. p;
+  show-routed = λ κs a x p. p;
   answers-number = λ κs a x p. p;
   answers-count = λ κs a x p. p;
   reading-number = λ κs a x p. p;

@@ -401,3 +401,6 @@ pub record Promises : Type 1 where
   pub why-first-shown : showing.WhyFirstShown
   pub why-no-room-shown : showing.WhyNoRoomShown
   pub why-words : showing.WhyWords
+  pub routed-line : showing.RoutedLine
+  pub routed-shown : showing.RoutedShown
+  pub routed-words : showing.RoutedWords

@@ -22,6 +22,7 @@ use Rattle.timecodes.specs.Made.{settled}
 use Rattle.reading.specs.For.{readFor, labelFor}
 use Rattle.reading.specs.Answer as reading
 use Rattle.showing.specs.Why.{whyOn}
+use Rattle.showing.specs.Routes.{routedOn}
 use Rattle.streams.specs.Sheet.{sheet}
 use Rattle.phrases.specs.Phrases.{phraseOf}
 use Rattle.reasons.specs.Why.{phraseFor, whyOf}
@@ -52,6 +53,8 @@ use Rattle.reading.proofs.number.Reads as reading-number-reads
 use Rattle.reasons.proofs.why as why
 use Rattle.showing.proofs.show_why as show-why
 use Rattle.showing.proofs.show_why.Reads as show-why-reads
+use Rattle.showing.proofs.show_routed as show-routed
+use Rattle.showing.proofs.show_routed.Reads as show-routed-reads
 use Rattle.reasons.proofs.why.Reads as why-reads
 use Rattle.phrases.proofs.write_phrase as write-phrase
 use Rattle.phrases.proofs.write_phrase.Reads as write-phrase-reads
@@ -208,6 +211,8 @@ pub record Ties : Type 0 where
   pub show-why : Gives show-why.ended show-why-reads.Learnt (λ κs a x.
       (x .0 ≡ whyOn (sheet (a .0 .now) (a .1 .0)) (a .1 .1 .1 .0) (a .1 .1 .0) (a .1 .1 .1 .1 .0 .now) .used)
       × (x .1 .0 ≡ whyOn (sheet (a .0 .now) (a .1 .0)) (a .1 .1 .1 .0) (a .1 .1 .0) (a .1 .1 .1 .1 .0 .now) .bytes))
+  pub show-routed : Gives show-routed.ended show-routed-reads.Learnt (λ κs a x.
+      (x .0 ≡ routedOn (sheet (a .0 .now) (a .1 .0)) (a .1 .1 .0) .used) × (x .1 .0 ≡ routedOn (sheet (a .0 .now) (a .1 .0)) (a .1 .1 .0) .bytes))
   -- what an answer holds
   pub answers-number : Gives answers-number.ended answers-number-reads.Learnt (λ κs a x. x .0 ≡ answers.numberOf (a .0))
   pub answers-count : Gives answers-count.ended answers-count-reads.Learnt (λ κs a x. x .0 ≡ answers.countOf (a .0))
