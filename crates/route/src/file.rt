@@ -1,4 +1,4 @@
-// The directory file, line by line. Behind a bad line no other is looked at.
+// The directory file, line by line, up to its end or a bad line.
 ghost use mathlib.Core.Path.{_≡_};
 ghost use Rattle.streams.specs.Turns.{waitingBehind};
 use routing::Flaw;
@@ -147,7 +147,7 @@ fn feed(chunk: &[u8], buffer: &mut [u8], first: Gathered, before: Loads) -> Fed
     }
 }
 
-// One read, and what came of it.
+// One read, and what came of it. Behind a bad line nothing more is read.
 fn one_read(fd: i32, buffer: &mut [u8], g: Gathered, l: Loads) -> Turn {
     let mut chunk = io::buffer();
     let got = libc::read(fd, &mut chunk);
@@ -164,10 +164,11 @@ fn one_read(fd: i32, buffer: &mut [u8], g: Gathered, l: Loads) -> Turn {
     let f = feed(&chunk[..n], buffer, g, l);
     let gathered = f.gathered;
     let loads = f.loads;
+    let bad = loads.bad;
     Turn {
         gathered,
         loads,
-        more: true,
+        more: !bad,
     }
 }
 
