@@ -9,6 +9,7 @@ use Rattle.shot_lists.proofs.RefusalStatements as shot-refusals
 use Rattle.shot_writer.proofs.Statements as shot-writer
 use Rattle.reading.proofs.LabelOnly as reading-label
 use Rattle.router.proofs.Statements as router
+use Rattle.routing.proofs.Statements as routing
 use Rattle.router.proofs.Exact as router-exact
 use Rattle.hex.proofs.Statements as hex
 use Rattle.promises.specs.Promises.{Promises}
@@ -182,6 +183,24 @@ promises = record {
   facts-read = telling.facts-read;
   question-understood = telling.question-understood;
   texts-understood = telling.texts-understood;
+  line-skipped = routing.line-skipped;
+  line-taken = routing.line-taken;
+  head-loaded = routing.head-loaded;
+  shard-loaded = routing.shard-loaded;
+  file-loaded = routing.file-loaded;
+  loaded-passes = routing.loaded-passes;
+  query-understood = routing.query-understood;
+  routing-answer-stands = routing.answer-stands;
+  flaw-stands = routing.flaw-stands;
+  some-told = routing.some-told;
+  one-told = routing.one-told;
+  none-told = routing.none-told;
+  routing-refused-told = routing.refused-told;
+  other-told = routing.other-told;
+  long-told = routing.long-told;
+  answer-short = routing.answer-short;
+  answers-read = routing.answers-read;
+  flaws-read = routing.flaws-read;
   nearest-is = numbers.nearest-is;
   nearest-one = numbers.nearest-one;
   within-half = numbers.within-half;

@@ -32,6 +32,7 @@ use Rattle.shot_lists.specs.Statements as shot-lists
 use Rattle.shot_lists.specs.RefusalStatements as shot-refusals
 use Rattle.shot_writer.specs.Statements as shot-writer
 use Rattle.router.specs.Statements as router
+use Rattle.routing.specs.Statements as routing
 use Rattle.hex.specs.Statements as hex
 use Rattle.asking.specs.RecordStatements as asking-records
 use Rattle.asking.specs.RouteStatements as asking-routes
@@ -185,6 +186,25 @@ pub record Promises : Type 1 where
   pub facts-read : telling.FactsRead
   pub question-understood : telling.QuestionUnderstood
   pub texts-understood : telling.TextsUnderstood
+  -- the program of the router
+  pub line-skipped : routing.LineSkipped
+  pub line-taken : routing.LineTaken
+  pub head-loaded : routing.HeadLoaded
+  pub shard-loaded : routing.ShardLoaded
+  pub file-loaded : routing.FileLoaded
+  pub loaded-passes : routing.LoadedPasses
+  pub query-understood : routing.QueryUnderstood
+  pub routing-answer-stands : routing.AnswerStands
+  pub flaw-stands : routing.FlawStands
+  pub some-told : routing.SomeTold
+  pub one-told : routing.OneTold
+  pub none-told : routing.NoneTold
+  pub routing-refused-told : routing.RefusedTold
+  pub other-told : routing.OtherTold
+  pub long-told : routing.LongTold
+  pub answer-short : routing.AnswerShort
+  pub answers-read : routing.AnswersRead
+  pub flaws-read : routing.FlawsRead
   -- numbers and lines
   pub nearest-is : numbers.NearestIs
   pub nearest-one : numbers.NearestOne
