@@ -28,4 +28,5 @@ unfolding valueFrom span held rates isRate rateRow dropFrames isDrop dayFrames l
 route-cases = (
   (refl, (refl, (refl, (refl, (refl, (refl, (refl, (refl, (refl, (refl, (refl, (refl, tt)))))))))))),
   (refl, (refl, (refl, (refl, (refl, (refl, (refl, (refl, (refl, (refl, (refl, (refl, (refl, (refl, (refl, (refl, (refl, tt))))))))))))))))),
+  (refl, (refl, tt)),
 )

@@ -153,6 +153,7 @@ pub record Promises : Type 1 where
   pub label-position : reading-label.LabelPosition
   pub label-or-own : reading-label.LabelOrOwn
   pub rules-tested : router.RulesTested
+  pub directory-checked : router.DirectoryChecked
   pub route-refused-six : router.RefusedSix
   pub route-refused-sixteen : router.RefusedSixteen
   pub route-refused-by-label : router.RefusedByLabel
@@ -165,9 +166,11 @@ pub record Promises : Type 1 where
   pub together : router.Together
   pub end-frame : router.EndFrame
   pub range-is : router.RangeIs
+  pub range-refused : router.RangeRefused
   pub halves-walk : router.HalvesWalk
   pub found-by-halving : router.FoundByHalving
   pub tested-once : router.TestedOnce
+  pub verdict-kept : router.VerdictKept
   pub asked-many : AskedMany
   pub route-for-c : RouteForC
   pub route-cases : RouteCases
@@ -191,6 +194,7 @@ pub record Promises : Type 1 where
   pub line-taken : routing.LineTaken
   pub head-loaded : routing.HeadLoaded
   pub shard-loaded : routing.ShardLoaded
+  pub line-bad : routing.LineBad
   pub file-loaded : routing.FileLoaded
   pub loaded-passes : routing.LoadedPasses
   pub query-understood : routing.QueryUnderstood

@@ -1,6 +1,6 @@
 -- The worked cases of the router: rows of a single table, under one statement.
 -- Assumes nothing.
-use Prim.Native.Nat.{ℕ}
+use Prim.Native.Nat.{ℕ, zero, suc}
 use Prim.Native.String.{String}
 use mathlib.Core.Path.{_≡_}
 use mathlib.Core.List.{List, [], _∷_}
@@ -68,6 +68,18 @@ refusedCases =
     ∷ row 11 [] [] (pos 5178816) "1" (Refused (refusal 17))
     ∷ []
 
+-- n shards of a frame each, from a frame on: their firsts, and from one later their ends
+abbrev pub countUp : (from n : ℕ) → List ℕ
+countUp from zero = []
+countUp from (suc n) = from ∷ countUp (suc from) n
+
+-- 256 shards are a directory, and 257 are none
+abbrev pub mostCases : List Case
+mostCases =
+    row 2 (countUp 0 256) (countUp 1 256) (pos 1) "10:15" (Shards 255 256)
+    ∷ row 2 (countUp 0 257) (countUp 1 257) (pos 1) "10:15" (Refused (refusal 16))
+    ∷ []
+
 -- each row holds
 abbrev pub RouteCases : Type 0
-RouteCases = All askedCases × All refusedCases
+RouteCases = All askedCases × All refusedCases × All mostCases

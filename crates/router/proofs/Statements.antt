@@ -3,9 +3,9 @@
 use Prim.Native.Nat.{ℕ, _+_, _-_, _≤_, _<_}
 use native.Mathlib.Omega.{arith}
 use mathlib.Core.Path.{_≡_, refl, sym, ap, ap₂, _∙_, subst}
-use mathlib.Core.Logic.{_⊎_, inl, inr, ⊎-elim}
-use mathlib.Core.List.{List}
-use mathlib.Core.Bool.{Bool, true, false, cond}
+use mathlib.Core.Logic.{_⊎_, inl, inr, ⊎-elim, _↔_}
+use mathlib.Core.List.{List, []}
+use mathlib.Core.Bool.{Bool, true, false, cond, false≢true}
 use lib.Dec.{eqb, ltb}
 use borrow.Author.Tests.{ltb-true, ltb-false}
 use lib.IntN.{ℤ, pos, natAbs}
@@ -13,7 +13,7 @@ use lib.ListN.{length, take}
 use Rattle.answers.specs.declared.Refusal.{Refusal}
 use Rattle.answers.specs.declared.Verdict.{Verdict}
 use Rattle.answers.specs.declared.Verdict.the-variants as verdict
-use Rattle.answers.specs.Refusals.{refusal}
+use Rattle.answers.specs.Refusals.{refusal, noSuch}
 use Rattle.answers.specs.Order.{judged}
 use Rattle.answers.specs.OrderLaws.{judged-refused, judged-clear, unless-clear, not-in}
 use Rattle.rates.specs.Rates.{isRate}
@@ -24,13 +24,13 @@ use Rattle.reading.specs.declared.Read.the-variants as read
 use Rattle.reading.specs.For.{labelFor}
 use Rattle.reading.specs.Positions.{DayText}
 use Rattle.reading.specs.LabelOnly.{LabelsOwn}
-use Rattle.reading.proofs.LabelOnly.{label-position, label-or-own}
+use Rattle.reading.proofs.LabelOnly.{label-no-rate, label-position, label-or-own}
 use Rattle.router.specs.declared.Routed.{Routed}
 use Rattle.router.specs.declared.Routed.the-variants.{Shards, Refused}
 use Rattle.router.specs.declared.query.Ranged.{Ranged}
 use Rattle.router.specs.declared.query.Ranged.the-variants as ranged
 use Rattle.router.specs.Directory.{Rules, isDirectory, directoryWhen}
-use Rattle.router.specs.Query.{isLength, rangeOf}
+use Rattle.router.specs.Query.{isLength, rangeFrom, rangeOf}
 use Rattle.router.specs.Route.{firstAsked, afterAsked, askedSpan, askedIn, routeOf, numberOf}
 use Rattle.router.specs.Halving.{foundIn}
 use Rattle.router.specs.Tested.{keptOf, directoryOf, routedBy, routedIn}
@@ -38,9 +38,9 @@ use Rattle.router.specs.RuleLaws.{rules-told, rules-pass}
 use Rattle.router.specs.QueryLaws.{length-told, range-out, range-past, range-in}
 use Rattle.router.specs.HalvingLaws as halving
 use Rattle.router.specs.TestedLaws.{kept-back}
-use Rattle.router.specs.Statements.{RulesTested, RefusedSix, RefusedSixteen, RefusedByLabel, RefusedFive, RefusedSeventeen, NumbersGiven}
+use Rattle.router.specs.Statements.{RulesTested, DirectoryChecked, RefusedSix, RefusedSixteen, RefusedByLabel, RefusedFive, RefusedSeventeen, NumbersGiven}
 use Rattle.router.specs.Statements.{Good, LengthOf, BadLength, PastDay, Query, Exactly}
-use Rattle.router.specs.Statements.{RouteExactly, PrunedExactly, NothingAsked, EndFrame, RangeIs, HalvesWalk, FoundByHalving, TestedOnce}
+use Rattle.router.specs.Statements.{RouteExactly, PrunedExactly, NothingAsked, EndFrame, RangeIs, RangeRefused, HalvesWalk, FoundByHalving, TestedOnce, VerdictKept}
 use Rattle.router.proofs.Outcomes.{Outcome, no-rate, broken, own, bad-length, past, asked, outcome, route-no-rate, route-broken, route-good, route-label, route-length, route-past, route-query, range-label, range-start, length-held}
 use Rattle.router.proofs.Exact.{span-exactly, exactly-one}
 
@@ -164,6 +164,79 @@ module _ (rate : ℕ) (firsts ends : List ℕ) (z : ℤ) (text : List ℕ) where
       span-exactly (dayFrames rate) firsts ends start (start + n) (q .asks .good .rules) first after
       (sym (route-query rate firsts ends z text start n q) ∙ e)
 
+-- ---- the test of a directory
+-- by its two tests
+data Tested (rate : ℕ) (firsts ends : List ℕ) : Verdict → Type 0 where
+  no-such : isRate rate ≡ false → Tested rate firsts ends (verdict.Refused (refusal 6))
+  breaks : isRate rate ≡ true → (¬ Rules (dayFrames rate) firsts ends) → Tested rate firsts ends (verdict.Refused (refusal 16))
+  keeps : Good rate firsts ends → Tested rate firsts ends verdict.Passed
+
+abbrev verdictNumber : Verdict → ℕ
+verdictNumber verdict.Passed = 0
+verdictNumber (verdict.Refused e) = e .number
+
+module _ (rate : ℕ) (firsts ends : List ℕ) where
+  abbrev given : Verdict
+  given = judged (directoryWhen rate firsts ends)
+
+  given-six : isRate rate ≡ false → given ≡ verdict.Refused (refusal 6)
+  given-six e = simp e
+
+  given-sixteen : isRate rate ≡ true → isDirectory (dayFrames rate) firsts ends ≡ false → given ≡ verdict.Refused (refusal 16)
+  given-sixteen r e = simp (r, e)
+
+  given-passed : isRate rate ≡ true → isDirectory (dayFrames rate) firsts ends ≡ true → given ≡ verdict.Passed
+  given-passed r e = simp (r, e)
+
+  by-test : isRate rate ≡ true → (t : Bool) → isDirectory (dayFrames rate) firsts ends ≡ t → Tested rate firsts ends given
+  by-test r true e =
+      subst (Tested rate firsts ends) (sym (given-passed r e)) (keeps (record { rated = r; rules = rules-told (dayFrames rate) firsts ends e }))
+  by-test r false e =
+      subst (Tested rate firsts ends) (sym (given-sixteen r e)) (breaks r (λ k. false≢true (sym e ∙ rules-pass (dayFrames rate) firsts ends k)))
+
+  by-rate : (t : Bool) → isRate rate ≡ t → Tested rate firsts ends given
+  by-rate true r = by-test r (isDirectory (dayFrames rate) firsts ends) refl
+  by-rate false r = subst (Tested rate firsts ends) (sym (given-six r)) (no-such r)
+
+  told-passed : (v : Verdict) → Tested rate firsts ends v → verdictNumber v ≡ 0 → Good rate firsts ends
+  told-passed v (no-such h) k = absurd (omega (arith, k))
+  told-passed v (breaks h b) k = absurd (omega (arith, k))
+  told-passed v (keeps g) k = g
+
+  told-six : (v : Verdict) → Tested rate firsts ends v → verdictNumber v ≡ 6 → isRate rate ≡ false
+  told-six v (no-such h) k = h
+  told-six v (breaks h b) k = absurd (omega (arith, k))
+  told-six v (keeps g) k = absurd (omega (arith, k))
+
+  told-sixteen : (v : Verdict) → Tested rate firsts ends v → verdictNumber v ≡ 16 → (isRate rate ≡ true) × (¬ Rules (dayFrames rate) firsts ends)
+  told-sixteen v (no-such h) k = absurd (omega (arith, k))
+  told-sixteen v (breaks h b) k = (h, b)
+  told-sixteen v (keeps g) k = absurd (omega (arith, k))
+
+-- what breaks a rule fails the test
+fails-test : (day : ℕ) (firsts ends : List ℕ) → (¬ Rules day firsts ends) → isDirectory day firsts ends ≡ false
+fails-test day firsts ends b = by (isDirectory day firsts ends) refl
+  where
+    by : (t : Bool) → isDirectory day firsts ends ≡ t → t ≡ false
+    by true e = absurd (b (rules-told day firsts ends e))
+    by false e = refl
+
+pub directory-checked : DirectoryChecked
+directory-checked = record {
+  passed = λ rate firsts ends. (
+    λ e. told-passed rate firsts ends _ (by-rate rate firsts ends (isRate rate) refl) (ap verdictNumber e),
+    λ g. given-passed rate firsts ends (g .rated) (rules-pass (dayFrames rate) firsts ends (g .rules)),
+  );
+  six = λ rate firsts ends. (
+    λ e. told-six rate firsts ends _ (by-rate rate firsts ends (isRate rate) refl) (ap verdictNumber e),
+    λ h. given-six rate firsts ends h,
+  );
+  sixteen = λ rate firsts ends. (
+    λ e. told-sixteen rate firsts ends _ (by-rate rate firsts ends (isRate rate) refl) (ap verdictNumber e),
+    λ h. given-sixteen rate firsts ends (h .0) (fails-test (dayFrames rate) firsts ends (h .1)),
+  );
+}
+
 -- ---- the refusals
 pub refused-six : RefusedSix
 refused-six rate firsts ends z text = (
@@ -174,12 +247,8 @@ refused-six rate firsts ends z text = (
 pub refused-sixteen : RefusedSixteen
 refused-sixteen rate firsts ends z text = (
   λ e. sixteen rate firsts ends z text _ (outcome rate firsts ends z text) (ap numberOf e),
-  λ h. route-broken rate firsts ends z text (h .0) (out (isDirectory (dayFrames rate) firsts ends) refl (h .1)),
+  λ h. route-broken rate firsts ends z text (h .0) (fails-test (dayFrames rate) firsts ends (h .1)),
 )
-  where
-    out : (t : Bool) → isDirectory (dayFrames rate) firsts ends ≡ t → (¬ Rules (dayFrames rate) firsts ends) → t ≡ false
-    out true e b = absurd (b (rules-told (dayFrames rate) firsts ends e))
-    out false e b = refl
 
 pub refused-by-label : RefusedByLabel
 refused-by-label rate firsts ends z text e o = (
@@ -302,6 +371,43 @@ range-is rate z text start end r = (
       ∙ ap (ranged.Frames start) b,
 )
 
+-- ---- what a range is refused
+-- no shards break no rule
+no-shards : (day : ℕ) → Rules day [] []
+no-shards day = record {
+  paired = refl;
+  few = omega arith;
+  some = λ i h. absurd (omega arith);
+  apart = λ i j h k. absurd (omega arith);
+  within = λ i h. absurd (omega arith);
+}
+
+abbrev rangeRefusal : Refusal → Ranged → Refusal
+rangeRefusal other (ranged.Frames start end) = other
+rangeRefusal other (ranged.Refused e) = e
+
+-- through a directory without shards a range is refused what it is refused
+asked-refused : (e : Refusal) (x : Ranged) → askedIn [] [] x ≡ Refused e → x ≡ ranged.Refused e
+asked-refused e (ranged.Frames start end) k = let m = sym (span-kind start end [] []) ∙ ap kindOf k in absurd (omega (arith, m))
+asked-refused e (ranged.Refused f) k = let same : f ≡ e = cc in ap ranged.Refused same
+
+range-no-rate : (rate : ℕ) (z : ℤ) (text : List ℕ) → isRate rate ≡ false → rangeOf rate z text ≡ ranged.Refused noSuch
+unfolding rangeOf
+range-no-rate rate z text r = ap (rangeFrom rate z) (label-no-rate Position text rate r)
+
+pub range-refused : RangeRefused
+range-refused rate z text e = by (isRate rate) refl
+  where
+    by : (t : Bool) → isRate rate ≡ t → (rangeOf rate z text ≡ ranged.Refused e) ↔ (routeOf rate [] [] z text ≡ Refused e)
+    by true r =
+        let good : Good rate [] [] = record { rated = r; rules = no-shards (dayFrames rate) } in
+        let same = route-good rate [] [] z text good in
+        (λ h. same ∙ ap (askedIn [] []) h, λ h. asked-refused e (rangeOf rate z text) (sym same ∙ h))
+    by false r =
+        let a = range-no-rate rate z text r in
+        let b = route-no-rate rate [] [] z text r in
+        (λ h. b ∙ ap Refused (ap (rangeRefusal e) (sym a ∙ h)), λ h. a ∙ ap ranged.Refused (ap (refusal-in rate [] [] z text e) (sym b ∙ h)))
+
 -- ---- how they are found
 pub halves-walk : HalvesWalk
 halves-walk day firsts ends start end r = halving.halves-walk day start end firsts ends r
@@ -325,3 +431,7 @@ tested-once rate firsts ends z text = by (judged (directoryWhen rate firsts ends
         ∙ halving.found-asked (dayFrames rate) firsts ends rules (rangeOf rate z text)
         ∙ sym (unless-clear Refused (directoryWhen rate firsts ends) (askedIn firsts ends (rangeOf rate z text)) clear)
     by (verdict.Refused e) h = sym (judged-refused (directoryWhen rate firsts ends) e h Refused (askedIn firsts ends (rangeOf rate z text)))
+
+pub verdict-kept : VerdictKept
+unfolding directoryOf
+verdict-kept rate firsts ends = refl

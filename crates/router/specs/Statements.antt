@@ -3,11 +3,13 @@
 use Prim.Native.Nat.{ℕ, _+_, _-_, _≤_, _<_}
 use mathlib.Core.Path.{_≡_}
 use mathlib.Core.Logic.{_↔_, _⊎_}
-use mathlib.Core.List.{List}
+use mathlib.Core.List.{List, []}
 use mathlib.Core.Bool.{true, false}
 use lib.IntN.{ℤ, pos}
 use lib.ListN.{length, getD}
 use Rattle.answers.specs.declared.Refusal.{Refusal}
+use Rattle.answers.specs.declared.Verdict.the-variants as verdict
+use Rattle.answers.specs.Order.{judged}
 use Rattle.answers.specs.Refusals.{refusal}
 use Rattle.rates.specs.Rates.{isRate}
 use Rattle.rates.specs.Day.{dayFrames}
@@ -19,11 +21,12 @@ use Rattle.reading.specs.Positions.{DayText}
 use Rattle.reading.specs.LabelOnly.{LabelsOwn}
 use Rattle.router.specs.declared.Routed.the-variants.{Shards, Refused}
 use Rattle.router.specs.declared.query.Ranged.the-variants.{Frames}
-use Rattle.router.specs.Directory.{InShard, Rules, isDirectory}
+use Rattle.router.specs.declared.query.Ranged.the-variants as ranged
+use Rattle.router.specs.Directory.{InShard, Rules, isDirectory, directoryWhen}
 use Rattle.router.specs.Query.{rangeOf}
 use Rattle.router.specs.Route.{Common, askedSpan, routeOf}
 use Rattle.router.specs.Halving.{halvedSpan, foundIn}
-use Rattle.router.specs.Tested.{directoryOf, routedIn}
+use Rattle.router.specs.Tested.{directoryOf, verdictOf, routedIn}
 
 -- ---- the refusals, in their order
 -- what the test of a directory passes keeps the rules, and what keeps them passes
@@ -40,6 +43,13 @@ RefusedSix =
 pub record Good (rate : ℕ) (firsts ends : List ℕ) : Type 0 where
   pub rated : isRate rate ≡ true
   pub rules : Rules (dayFrames rate) firsts ends
+
+-- the test of a directory passes exactly such a one, and refuses any other 6 or 16
+pub record DirectoryChecked : Type 0 where
+  pub passed : (rate : ℕ) (firsts ends : List ℕ) → (judged (directoryWhen rate firsts ends) ≡ verdict.Passed) ↔ Good rate firsts ends
+  pub six : (rate : ℕ) (firsts ends : List ℕ) → (judged (directoryWhen rate firsts ends) ≡ verdict.Refused (refusal 6)) ↔ (isRate rate ≡ false)
+  pub sixteen : (rate : ℕ) (firsts ends : List ℕ)
+      → (judged (directoryWhen rate firsts ends) ≡ verdict.Refused (refusal 16)) ↔ ((isRate rate ≡ true) × (¬ Rules (dayFrames rate) firsts ends))
 
 -- 16 exactly when the directory breaks a rule
 abbrev pub RefusedSixteen : Type 0
@@ -153,6 +163,11 @@ RangeIs =
     → (rangeOf rate z text ≡ Frames start end)
     ↔ (DayText text Nothing rate start × ((n : ℕ) × (LengthOf z n × ((end ≡ start + n) × (end ≤ dayFrames rate)))))
 
+-- it is refused what a query of a directory without shards is refused: 6, the label's own, 5 and 17
+abbrev pub RangeRefused : Type 0
+RangeRefused =
+    (rate : ℕ) (z : ℤ) (text : List ℕ) (e : Refusal) → (rangeOf rate z text ≡ ranged.Refused e) ↔ (routeOf rate [] [] z text ≡ Refused e)
+
 -- in a directory that keeps its rules halving finds what walking along the shards finds
 abbrev pub HalvesWalk : Type 0
 HalvesWalk =
@@ -169,3 +184,7 @@ abbrev pub TestedOnce : Type 0
 TestedOnce =
     (rate : ℕ) (firsts ends : List ℕ) (z : ℤ) (text : List ℕ)
     → routedIn (directoryOf rate firsts ends) z text ≡ routeOf rate firsts ends z text
+
+-- and tells what its test gave
+abbrev pub VerdictKept : Type 0
+VerdictKept = (rate : ℕ) (firsts ends : List ℕ) → verdictOf (directoryOf rate firsts ends) ≡ judged (directoryWhen rate firsts ends)

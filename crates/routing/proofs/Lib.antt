@@ -1,6 +1,7 @@
 pub mod Reading
 pub mod Spelt
 pub mod Taking
+pub mod Flawed
 pub mod Asking
 pub mod Putting
 pub mod Files

@@ -29,9 +29,10 @@ use Rattle.routing.specs.Grammar.{Asks}
 use Rattle.routing.specs.Queries.{queryOf}
 use Rattle.routing.specs.Flaws.{flawPieces}
 use Rattle.routing.specs.Told.{onePieces, somePieces, whichPieces, foundPieces, reasonPieces, routedPieces, otherPieces, askedPieces, answerPieces}
-use Rattle.routing.specs.Statements.{LineSkipped, LineTaken, HeadLoaded, ShardLoaded, FileLoaded, LoadedPasses, QueryUnderstood, AnswerStands, FlawStands, answerText, SomeTold, OneTold, NoneTold, RefusedTold, OtherTold, LongTold, AnswerShort, AnswersRead, FlawsRead}
+use Rattle.routing.specs.Statements.{LineSkipped, LineTaken, HeadLoaded, ShardLoaded, LineBad, FileLoaded, LoadedPasses, QueryUnderstood, AnswerStands, FlawStands, answerText, SomeTold, OneTold, NoneTold, RefusedTold, OtherTold, LongTold, AnswerShort, AnswersRead, FlawsRead}
 use Rattle.routing.proofs.Spelt as lines
 use Rattle.routing.proofs.Taking as taking
+use Rattle.routing.proofs.Flawed as flawed
 use Rattle.routing.proofs.Files as files
 use Rattle.routing.proofs.Asking as asking
 use Rattle.routing.proofs.Putting.{which-none, which-one, which-some}
@@ -48,6 +49,9 @@ head-loaded = taking.head-loaded
 
 pub shard-loaded : ShardLoaded
 shard-loaded = taking.shard-loaded
+
+pub line-bad : LineBad
+line-bad = flawed.line-bad
 
 pub file-loaded : FileLoaded
 file-loaded = files.file-loaded

@@ -117,7 +117,7 @@ shard-by s first end = by (leb 256 (s .shards)) (leb end first) (ltb first (s .l
         })
 
 -- a line of two numbers
-two-load : (s : Loading) (line : List ℕ) (m n : ℕ) → SaysTwo line m n → loadOf s line false ≡ numbersOf s m n
+pub two-load : (s : Loading) (line : List ℕ) (m n : ℕ) → SaysTwo line m n → loadOf s line false ≡ numbersOf s m n
 unfolding loadOf
 two-load s line m n k = ap (loadedBy s) (line-taken line m n .0 k)
 

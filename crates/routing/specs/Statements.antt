@@ -78,6 +78,24 @@ ShardLoaded =
     (s : Loading) (line : List ℕ) (first end : ℕ) (t : Loading)
     → IsShard s line first end t ↔ (loadOf s line false ≡ loaded.Shard first end t)
 
+-- what is wrong with a line, in the order in which it is looked for: it is too long; it is neither nothing nor two numbers; of rate and reel
+-- there is no such rate, or no such reel; of a shard 256 have come, it is empty, it begins before the one before it ends, it ends past the day
+pub data Wrong (s : Loading) (line : List ℕ) : (over : Bool) → Flaw → Type 0 where
+  too-long : Wrong s line true TooLong
+  not-two : (SaysNothing line → ⊥) → ((m n : ℕ) → SaysTwo line m n → ⊥) → Wrong s line false NotTwoNumbers
+  no-rate : (rate reel : ℕ) → SaysTwo line rate reel → s .headed ≡ false → isRate rate ≡ false → Wrong s line false NoSuchRate
+  no-reel : (rate reel : ℕ) → SaysTwo line rate reel → s .headed ≡ false → isRate rate ≡ true → 4294967295 < reel → Wrong s line false NoSuchReel
+  many : (first end : ℕ) → SaysTwo line first end → s .headed ≡ true → 256 ≤ s .shards → Wrong s line false ManyShards
+  empty : (first end : ℕ) → SaysTwo line first end → s .headed ≡ true → s .shards < 256 → end ≤ first → Wrong s line false EmptyShard
+  early : (first end : ℕ) → SaysTwo line first end → s .headed ≡ true → s .shards < 256 → first < end → first < s .last
+      → Wrong s line false EarlyShard
+  past : (first end : ℕ) → SaysTwo line first end → s .headed ≡ true → s .shards < 256 → first < end → s .last ≤ first
+      → dayFrames (s .rate) < end → Wrong s line false PastDay
+
+-- a line is bad exactly when that is wrong with it
+abbrev pub LineBad : Type 0
+LineBad = (s : Loading) (line : List ℕ) (over : Bool) (flaw : Flaw) → Wrong s line over flaw ↔ (loadOf s line over ≡ loaded.Bad flaw)
+
 -- what the lines of a file made: its rate, its reel and its shards, in order
 pub record Loads (lines : List Kept) (rate reel : ℕ) (firsts ends : List ℕ) : Type 0 where
   pub state : Loading
