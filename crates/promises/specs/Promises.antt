@@ -194,7 +194,10 @@ pub record Promises : Type 1 where
   pub line-taken : routing.LineTaken
   pub head-loaded : routing.HeadLoaded
   pub shard-loaded : routing.ShardLoaded
+  pub nothing-loaded : routing.NothingLoaded
+  pub states-are : routing.StatesAre
   pub line-bad : routing.LineBad
+  pub lines-in-turn : routing.LinesInTurn
   pub file-loaded : routing.FileLoaded
   pub loaded-passes : routing.LoadedPasses
   pub query-understood : routing.QueryUnderstood
@@ -209,6 +212,8 @@ pub record Promises : Type 1 where
   pub answer-short : routing.AnswerShort
   pub answers-read : routing.AnswersRead
   pub flaws-read : routing.FlawsRead
+  pub entries-read : routing.EntriesRead
+  pub queries-read : routing.QueriesRead
   -- numbers and lines
   pub nearest-is : numbers.NearestIs
   pub nearest-one : numbers.NearestOne

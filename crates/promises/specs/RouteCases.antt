@@ -55,6 +55,7 @@ refusedCases =
     ∷ row 5 (100 ∷ 0 ∷ []) (200 ∷ 100 ∷ []) (pos 1) "0" (Refused (refusal 16))
     ∷ row 5 (0 ∷ []) (2589409 ∷ []) (pos 1) "0" (Refused (refusal 16))
     ∷ row 5 (0 ∷ 100 ∷ []) (100 ∷ []) (pos 1) "0" (Refused (refusal 16))
+    ∷ row 5 (0 ∷ []) (100 ∷ 200 ∷ []) (pos 1) "0" (Refused (refusal 16))
     ∷ row 5 threeFirsts threeEnds (negsuc 0) "1+00" (Refused (atPlace (refusal 1) 1))
     ∷ row 5 threeFirsts threeEnds (negsuc 0) "00:01:00;0x" (Refused (atPlace (refusal 1) 10))
     ∷ row 5 threeFirsts threeEnds (negsuc 0) "0:0000000001" (Refused (atPlace (refusal 2) 2))

@@ -35,7 +35,7 @@ unfoldable pub rangeAt : (rate : ℕ) (length count : ℤ) → Ranged
 rangeAt rate length count =
     unless Refused (rangeWhen rate length (natAbs count)) (Frames (natAbs count) (natAbs count + natAbs length))
 
--- behind what the label is refused
+-- behind what the label is refused (no footage is read where only a label may stand)
 abbrev pub rangeFrom : (rate : ℕ) (length : ℤ) → Read → Ranged
 rangeFrom rate length (read.Label tc) = rangeAt rate length (tc .count)
 rangeFrom rate length (read.Footage tc format) = rangeAt rate length (tc .count)

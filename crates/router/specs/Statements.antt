@@ -148,7 +148,7 @@ Together =
     → (frame : ℕ) × Common firsts ends start end i frame → (frame : ℕ) × Common firsts ends start end j frame
     → (frame : ℕ) × Common firsts ends start end k frame
 
--- the end frame: for a shard that begins at the query's exclusive end nothing is asked; for one that holds the frame before it, it is
+-- the end frame: a shard that begins at the query's exclusive end is not asked, and one that holds the frame before that end is asked
 abbrev pub EndFrame : Type 0
 EndFrame =
     (rate : ℕ) (firsts ends : List ℕ) (z : ℤ) (text : List ℕ) (start n first after : ℕ) → Query rate firsts ends z text start n

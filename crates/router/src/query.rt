@@ -37,7 +37,7 @@ fn range_at(rate: u64, length: i64, count: i64) -> Ranged
 }
 
 // The frames of a query at a rate. Refuses 6: no such rate; what the label is refused, with its place; 5: the length is out of bounds; 17:
-// it ends past the day.
+// it ends past the day. (That a footage is read where only a label may stand cannot be.)
 pub fn query_range(rate: u64, length: i64, text: &[u8]) -> Ranged
     ensures answer { λ r. ⌜ r ≡ rangeOf rate length (now (text .entry)) ⌝ }
 {

@@ -19,7 +19,7 @@ use Rattle.routing.specs.declared.loading.Loaded.the-variants.{Skipped, 
 use Rattle.routing.specs.Entries.{entryOf}
 use Rattle.routing.specs.Grammar.{SaysNothing, SaysTwo}
 use Rattle.routing.specs.Loading.{withHead, withShard, headOf, shardOf, numbersOf, loadedBy, loadOf}
-use Rattle.routing.specs.Statements.{Wrong, too-long, not-two, no-rate, no-reel, many, empty, early, past, LineBad}
+use Rattle.routing.specs.Statements.{Wrong, too-long, not-two, no-rate, no-reel, many, empty, early, past, NothingLoaded, LineBad}
 use Rattle.routing.proofs.Spelt.{line-skipped, line-taken}
 use Rattle.routing.proofs.Taking.{line-over, two-load, head-no-rate, head-no-reel, shard-many, shard-empty, shard-early, shard-past}
 
@@ -103,6 +103,56 @@ module _ (s : Loading) (line : List ℕ) where
   unfolding flawIn
   is-wrong true flaw e = subst (Wrong s line true) (ap (flawIn flaw) (line-over s line true refl ∙ e)) too-long
   is-wrong false flaw e = subst Says e line-says
+
+-- ---- a line that is passed over
+module _ (s : Loading) (line : List ℕ) where
+  abbrev kindOf : Loaded → ℕ
+  kindOf Skipped = 0
+  kindOf (Head t) = 1
+  kindOf (Shard first end t) = 1
+  kindOf (Bad flaw) = 1
+
+  head-kind : (rate reel : ℕ) → kindOf (headOf rate reel) ≡ 1
+  unfolding headOf
+  head-kind rate reel = by (isRate rate) (ltb 4294967295 reel)
+    where
+      by : (x y : Bool) → kindOf (cond (not x) (Bad NoSuchRate) (cond y (Bad NoSuchReel) (Head (withHead rate reel)))) ≡ 1
+      by false y = refl
+      by true true = refl
+      by true false = refl
+
+  shard-kind : (first end : ℕ) → kindOf (shardOf s first end) ≡ 1
+  unfolding shardOf
+  shard-kind first end = by (leb 256 (s .shards)) (leb end first) (ltb first (s .last)) (ltb (dayFrames (s .rate)) end)
+    where
+      by : (w x y z : Bool)
+          → kindOf (cond w (Bad ManyShards) (cond x (Bad EmptyShard) (cond y (Bad EarlyShard) (cond z (Bad PastDay) (Shard first end (withShard s end)))))) ≡ 1
+      by true x y z = refl
+      by false true y z = refl
+      by false false true z = refl
+      by false false false true = refl
+      by false false false false = refl
+
+  numbers-kind : (m n : ℕ) (t : Bool) → kindOf (cond t (shardOf s m n) (headOf m n)) ≡ 1
+  numbers-kind m n true = shard-kind m n
+  numbers-kind m n false = head-kind m n
+
+  by-kind : (e : Entry) → entryOf line ≡ e → kindOf (loadedBy s e) ≡ 0 → SaysNothing line
+  by-kind entry.Skipped p k = line-skipped line .1 p
+  by-kind (entry.Numbers m n) p k = let z = sym (numbers-kind m n (s .headed)) ∙ k in absurd (omega (arith, z))
+  by-kind entry.Bad p k = absurd (omega (arith, k))
+
+  is-nothing : (over : Bool) → loadOf s line over ≡ Skipped → (over ≡ false) × SaysNothing line
+  unfolding loadOf
+  is-nothing true e = let z = ap kindOf (line-over s line true refl ∙ e) in absurd (omega (arith, z))
+  is-nothing false e = (refl, by-kind (entryOf line) refl (ap kindOf e))
+
+  nothing-is : (over : Bool) → over ≡ false → SaysNothing line → loadOf s line over ≡ Skipped
+  unfolding loadOf
+  nothing-is over f n = rw f (ap (loadedBy s) (line-skipped line .0 n))
+
+pub nothing-loaded : NothingLoaded
+nothing-loaded s line over = (λ h. nothing-is s line over (h .0) (h .1), is-nothing s line over)
 
 pub line-bad : LineBad
 line-bad s line over flaw = (is-bad s line over flaw, is-wrong s line over flaw)

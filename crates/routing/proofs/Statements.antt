@@ -10,7 +10,8 @@ use lib.IntN.{ℤ}
 use lib.ListN.{length, drop, length-append}
 use borrow.Author.Tests.{le-leb, lt-leb, eq-eqb, ne-eqb}
 use Rattle.laws.specs.Spelt.{spelt}
-use Rattle.digits.specs.Digits.{decimal, digitsOf, width, widthBy}
+use Rattle.asking.specs.Numbers.{signedAt, digitsAt, signedWord}
+use Rattle.digits.specs.Digits.{span, valueFrom, decimal, digitsOf, width, widthBy}
 use Rattle.digits.proofs.Width.{decimal-length, width-at-most}
 use Rattle.answers.specs.declared.Refusal.{Refusal}
 use Rattle.written.specs.Parts.{signedText}
@@ -26,10 +27,12 @@ use Rattle.router.proofs.Statements.{tested-once}
 use Rattle.routing.specs.declared.queries.Query.{Query}
 use Rattle.routing.specs.declared.queries.Query.the-variants.{Asked, NotUnderstood}
 use Rattle.routing.specs.Grammar.{Asks}
-use Rattle.routing.specs.Queries.{queryOf}
+use Rattle.routing.specs.Entries.{pastBlanks, foundAt, endedBy, secondIn, entryIn, entryOf}
+use Rattle.routing.specs.Loading.{withOne, behindOne, loadedFrom}
+use Rattle.routing.specs.Queries.{askedAt, queryOf}
 use Rattle.routing.specs.Flaws.{flawPieces}
 use Rattle.routing.specs.Told.{onePieces, somePieces, whichPieces, foundPieces, reasonPieces, routedPieces, otherPieces, askedPieces, answerPieces}
-use Rattle.routing.specs.Statements.{LineSkipped, LineTaken, HeadLoaded, ShardLoaded, LineBad, FileLoaded, LoadedPasses, QueryUnderstood, AnswerStands, FlawStands, answerText, SomeTold, OneTold, NoneTold, RefusedTold, OtherTold, LongTold, AnswerShort, AnswersRead, FlawsRead}
+use Rattle.routing.specs.Statements.{LineSkipped, LineTaken, HeadLoaded, ShardLoaded, NothingLoaded, StatesAre, LineBad, LinesInTurn, FileLoaded, LoadedPasses, QueryUnderstood, AnswerStands, FlawStands, answerText, SomeTold, OneTold, NoneTold, RefusedTold, OtherTold, LongTold, AnswerShort, AnswersRead, FlawsRead, EntriesRead, QueriesRead}
 use Rattle.routing.proofs.Spelt as lines
 use Rattle.routing.proofs.Taking as taking
 use Rattle.routing.proofs.Flawed as flawed
@@ -50,8 +53,26 @@ head-loaded = taking.head-loaded
 pub shard-loaded : ShardLoaded
 shard-loaded = taking.shard-loaded
 
+pub nothing-loaded : NothingLoaded
+nothing-loaded = flawed.nothing-loaded
+
+pub states-are : StatesAre
+states-are = record { none = refl; head = λ rate reel. refl; shard = λ s end. refl }
+
 pub line-bad : LineBad
 line-bad = flawed.line-bad
+
+pub lines-in-turn : LinesInTurn
+unfolding loadedFrom
+lines-in-turn = record {
+  start = λ lines. refl;
+  over = λ n s. refl;
+  skipped = λ n s k lines e. ap (behindOne n s (λ t. loadedFrom (n + 1) t lines)) e;
+  head = λ n s t k lines e. ap (behindOne n s (λ t. loadedFrom (n + 1) t lines)) e;
+  shard = λ n s t u k lines first end firsts ends e f. ap (behindOne n s (λ t. loadedFrom (n + 1) t lines)) e ∙ ap (withOne first end) f;
+  bad = λ n s k lines flaw e. ap (behindOne n s (λ t. loadedFrom (n + 1) t lines)) e;
+  bad-later = λ n m s t k lines first end flaw e f. ap (behindOne n s (λ t. loadedFrom (n + 1) t lines)) e ∙ ap (withOne first end) f;
+}
 
 pub file-loaded : FileLoaded
 file-loaded = files.file-loaded
@@ -155,3 +176,31 @@ answers-read = record { some = refl; two = refl; one = refl; none = refl; refuse
 pub flaws-read : FlawsRead
 unfolding together flawPieces decimal digitsOf width widthBy
 flaws-read = record { long = refl; numbers = refl; rate = refl; reel = refl; many = refl; empty = refl; early = refl; past = refl }
+
+pub entries-read : EntriesRead
+unfolding pastBlanks foundAt endedBy secondIn entryIn entryOf signedAt digitsAt signedWord span valueFrom
+entries-read = record {
+  head = refl;
+  blanks = refl;
+  glued = refl;
+  comment = refl;
+  empty = refl;
+  return = refl;
+  one = refl;
+  three = refl;
+  sign = refl;
+  comma = refl;
+  wide = refl;
+}
+
+pub queries-read : QueriesRead
+unfolding askedAt queryOf signedAt digitsAt signedWord span valueFrom
+queries-read = record {
+  query = refl;
+  below = refl;
+  no-label = refl;
+  no-space = refl;
+  no-length = refl;
+  blank = refl;
+  wide = refl;
+}

@@ -5,7 +5,7 @@ use mathlib.Core.Path.{_≡_}
 use mathlib.Core.Logic.{_↔_}
 use mathlib.Core.Bool.{Bool, true, false}
 use mathlib.Core.List.{List, [], _∷_, _++_}
-use lib.IntN.{ℤ}
+use lib.IntN.{ℤ, pos, negsuc}
 use lib.ListN.{length, drop}
 use Rattle.laws.specs.Spelt.{spelt}
 use Rattle.rates.specs.Rates.{isRate}
@@ -29,10 +29,10 @@ use Rattle.routing.specs.declared.loading.Loading.{Loading}
 use Rattle.routing.specs.declared.loading.Loaded.the-variants as loaded
 use Rattle.routing.specs.declared.loading.Flaw.{Flaw}
 use Rattle.routing.specs.declared.loading.Flaw.the-variants.{TooLong, NotTwoNumbers, NoSuchRate, NoSuchReel, ManyShards, EmptyShard, EarlyShard, PastDay}
-use Rattle.routing.specs.declared.queries.Query.the-variants.{Asked}
+use Rattle.routing.specs.declared.queries.Query.the-variants.{Asked, NotUnderstood}
 use Rattle.routing.specs.Entries.{entryOf}
 use Rattle.routing.specs.Grammar.{SaysNothing, SaysTwo, Spells, Asks}
-use Rattle.routing.specs.Loading.{withHead, withShard, loadOf, whole, loadedOf}
+use Rattle.routing.specs.Loading.{noLine, withHead, withShard, loadOf, whole, broken, loadedFrom, loadedOf}
 use Rattle.routing.specs.Queries.{queryOf}
 use Rattle.routing.specs.Flaws.{flawPieces}
 use Rattle.routing.specs.Told.{routedPieces, answerPieces}
@@ -78,6 +78,17 @@ ShardLoaded =
     (s : Loading) (line : List ℕ) (first end : ℕ) (t : Loading)
     → IsShard s line first end t ↔ (loadOf s line false ≡ loaded.Shard first end t)
 
+-- and is passed over exactly when the grammar has nothing in it
+abbrev pub NothingLoaded : Type 0
+NothingLoaded = (s : Loading) (line : List ℕ) (over : Bool) → ((over ≡ false) × SaysNothing line) ↔ (loadOf s line over ≡ loaded.Skipped)
+
+-- what has come, in plain fields: before any line, behind rate and reel, and behind a shard
+pub record StatesAre : Type 0 where
+  pub none : noLine ≡ record { headed = false; rate = 0; reel = 0; shards = 0; last = 0 }
+  pub head : (rate reel : ℕ) → withHead rate reel ≡ record { headed = true; rate = rate; reel = reel; shards = 0; last = 0 }
+  pub shard : (s : Loading) (end : ℕ)
+      → withShard s end ≡ record { headed = s .headed; rate = s .rate; reel = s .reel; shards = s .shards + 1; last = end }
+
 -- what is wrong with a line, in the order in which it is looked for: it is too long; it is neither nothing nor two numbers; of rate and reel
 -- there is no such rate, or no such reel; of a shard 256 have come, it is empty, it begins before the one before it ends, it ends past the day
 pub data Wrong (s : Loading) (line : List ℕ) : (over : Bool) → Flaw → Type 0 where
@@ -95,6 +106,23 @@ pub data Wrong (s : Loading) (line : List ℕ) : (over : Bool) → Flaw → Type
 -- a line is bad exactly when that is wrong with it
 abbrev pub LineBad : Type 0
 LineBad = (s : Loading) (line : List ℕ) (over : Bool) (flaw : Flaw) → Wrong s line over flaw ↔ (loadOf s line over ≡ loaded.Bad flaw)
+
+-- a file is its lines in turn, each loaded behind those before it: the shards in order, up to the first bad line, before which so many stand
+pub record LinesInTurn : Type 0 where
+  pub start : (lines : List Kept) → loadedOf lines ≡ loadedFrom 0 noLine lines
+  pub over : (n : ℕ) (s : Loading) → loadedFrom n s [] ≡ whole s [] []
+  pub skipped : (n : ℕ) (s : Loading) (k : Kept) (lines : List Kept) → loadOf s (k .bytes) (k .over) ≡ loaded.Skipped
+      → loadedFrom n s (k ∷ lines) ≡ loadedFrom (n + 1) s lines
+  pub head : (n : ℕ) (s t : Loading) (k : Kept) (lines : List Kept) → loadOf s (k .bytes) (k .over) ≡ loaded.Head t
+      → loadedFrom n s (k ∷ lines) ≡ loadedFrom (n + 1) t lines
+  pub shard : (n : ℕ) (s t u : Loading) (k : Kept) (lines : List Kept) (first end : ℕ) (firsts ends : List ℕ)
+      → loadOf s (k .bytes) (k .over) ≡ loaded.Shard first end t → loadedFrom (n + 1) t lines ≡ whole u firsts ends
+      → loadedFrom n s (k ∷ lines) ≡ whole u (first ∷ firsts) (end ∷ ends)
+  pub bad : (n : ℕ) (s : Loading) (k : Kept) (lines : List Kept) (flaw : Flaw) → loadOf s (k .bytes) (k .over) ≡ loaded.Bad flaw
+      → loadedFrom n s (k ∷ lines) ≡ broken n flaw
+  pub bad-later : (n m : ℕ) (s t : Loading) (k : Kept) (lines : List Kept) (first end : ℕ) (flaw : Flaw)
+      → loadOf s (k .bytes) (k .over) ≡ loaded.Shard first end t → loadedFrom (n + 1) t lines ≡ broken m flaw
+      → loadedFrom n s (k ∷ lines) ≡ broken m flaw
 
 -- what the lines of a file made: its rate, its reel and its shards, in order
 pub record Loads (lines : List Kept) (rate reel : ℕ) (firsts ends : List ℕ) : Type 0 where
@@ -203,7 +231,7 @@ abbrev pub Wide : Routed → Type 0
 Wide (Shards first after) = (first < 2 ^ 64) × (after < 2 ^ 64)
 Wide (Refused e) = (e .number < 2 ^ 64) × (e .place < 2 ^ 64)
 
--- so no answer has over 256 bytes
+-- so no answer of the router's has over 256 bytes
 abbrev pub AnswerShort : Type 0
 AnswerShort = (reel : ℕ) (r : Routed) → reel < 2 ^ 64 → Wide r → length (together (routedPieces reel r)) ≤ 256
 
@@ -226,3 +254,27 @@ pub record FlawsRead : Type 0 where
   pub empty : together (flawPieces 4 EmptyShard) ≡ spelt "line 4: the shard's end is not after its first frame (refused 16)" ++ (10 ∷ [])
   pub early : together (flawPieces 4 EarlyShard) ≡ spelt "line 4: the shard begins before the one before it ends (refused 16)" ++ (10 ∷ [])
   pub past : together (flawPieces 10 PastDay) ≡ spelt "line 10: the shard ends past the day (refused 16)" ++ (10 ∷ [])
+
+-- and what is read, in plain bytes: lines of a directory file
+pub record EntriesRead : Type 0 where
+  pub head : entryOf (spelt "3 12 # rate, reel") ≡ entry.Numbers 3 12
+  pub blanks : entryOf (9 ∷ spelt " 90000" ++ (9 ∷ spelt "180000 " ++ (13 ∷ []))) ≡ entry.Numbers 90000 180000
+  pub glued : entryOf (spelt "0 100#x") ≡ entry.Numbers 0 100
+  pub comment : entryOf (spelt " # 1 2") ≡ entry.Skipped
+  pub empty : entryOf [] ≡ entry.Skipped
+  pub return : entryOf (13 ∷ []) ≡ entry.Skipped
+  pub one : entryOf (spelt "5") ≡ entry.Bad
+  pub three : entryOf (spelt "1 2 3") ≡ entry.Bad
+  pub sign : entryOf (spelt "-5 10") ≡ entry.Bad
+  pub comma : entryOf (spelt "1,2") ≡ entry.Bad
+  pub wide : entryOf (spelt "0 9223372036854775808") ≡ entry.Bad
+
+-- and queries
+pub record QueriesRead : Type 0 where
+  pub query : queryOf (spelt "25 01:00") ≡ Asked (pos 25) 3
+  pub below : queryOf (spelt "-9 01:00") ≡ Asked (negsuc 8) 3
+  pub no-label : queryOf (spelt "10 ") ≡ Asked (pos 10) 3
+  pub no-space : queryOf (spelt "10") ≡ NotUnderstood
+  pub no-length : queryOf (spelt "01:00 25") ≡ NotUnderstood
+  pub blank : queryOf (spelt " 25 01:00") ≡ NotUnderstood
+  pub wide : queryOf (spelt "9223372036854775808 1") ≡ NotUnderstood
