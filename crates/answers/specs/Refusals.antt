@@ -11,95 +11,95 @@ abbrev pub refusal : ℕ → Refusal
 refusal n = record { number = n; place = 0 }
 
 -- the refusal of a text, with its place in it
-abbrev pub atPlace : Refusal → (place : ℕ) → Refusal
-atPlace e place = record { number = e.number; place = place }
+abbrev pub at_place : Refusal → (place : ℕ) → Refusal
+at_place e place = record { number = e.number; place = place }
 
 -- 1: the text has no shape
 abbrev pub no_shape : Refusal
 no_shape = refusal 1
 
 -- 2: the shape fits, but a field has over 9 digits or a fraction over 6
-abbrev pub tooLong : Refusal
-tooLong = refusal 2
+abbrev pub too_long : Refusal
+too_long = refusal 2
 
 -- 3: a dropped label at rate 5 or 11
-abbrev pub droppedLabel : Refusal
-droppedLabel = refusal 3
+abbrev pub dropped_label : Refusal
+dropped_label = refusal 3
 
 -- 4: a perf field with a stated format that has none
-abbrev pub noPerfField : Refusal
-noPerfField = refusal 4
+abbrev pub no_perf_field : Refusal
+no_perf_field = refusal 4
 
 -- 5: an input number or the resulting count is outside its bounds
-abbrev pub outOfBounds : Refusal
-outOfBounds = refusal 5
+abbrev pub out_of_bounds : Refusal
+out_of_bounds = refusal 5
 
 -- 6: no such rate or film format
-abbrev pub noSuch : Refusal
-noSuch = refusal 6
+abbrev pub no_such : Refusal
+no_such = refusal 6
 
 -- 7: divisor zero
-abbrev pub zeroDivisor : Refusal
-zeroDivisor = refusal 7
+abbrev pub zero_divisor : Refusal
+zero_divisor = refusal 7
 
 -- 8: place plus text length exceeds the buffer's length
-abbrev pub noRoom : Refusal
-noRoom = refusal 8
+abbrev pub no_room : Refusal
+no_room = refusal 8
 
 -- 9: a record of a shot list has no such kind
-abbrev pub noSuchKind : Refusal
-noSuchKind = refusal 9
+abbrev pub no_such_kind : Refusal
+no_such_kind = refusal 9
 
 -- 10: the body of a record of a shot list is cut short
-abbrev pub cutShort : Refusal
-cutShort = refusal 10
+abbrev pub cut_short : Refusal
+cut_short = refusal 10
 
 -- 11: a shot before any rate
-abbrev pub noRateYet : Refusal
-noRateYet = refusal 11
+abbrev pub no_rate_yet : Refusal
+no_rate_yet = refusal 11
 
 -- 12: a shot's end before its first frame
-abbrev pub endBeforeFirst : Refusal
-endBeforeFirst = refusal 12
+abbrev pub end_before_first : Refusal
+end_before_first = refusal 12
 
 -- 13: a footage that cannot be on the film
-abbrev pub notOnFilm : Refusal
-notOnFilm = refusal 13
+abbrev pub not_on_film : Refusal
+not_on_film = refusal 13
 
 -- 14: a label of a position that is not strict or has a sign
-abbrev pub notStrict : Refusal
-notStrict = refusal 14
+abbrev pub not_strict : Refusal
+not_strict = refusal 14
 
 -- 15: a position where only a length may be, or one of each compared
-abbrev pub wrongKind : Refusal
-wrongKind = refusal 15
+abbrev pub wrong_kind : Refusal
+wrong_kind = refusal 15
 
 -- 16: a directory of shards that breaks a rule
-abbrev pub brokenDirectory : Refusal
-brokenDirectory = refusal 16
+abbrev pub broken_directory : Refusal
+broken_directory = refusal 16
 
 -- 17: a query that ends past the day
-abbrev pub pastDay : Refusal
-pastDay = refusal 17
+abbrev pub past_day : Refusal
+past_day = refusal 17
 
 -- counts from -400,000,000 to 400,000,000
-abbrev pub mostCount : ℕ
-mostCount = 400000000
+abbrev pub most_count : ℕ
+most_count = 400000000
 
 -- a number above every count within its bounds, and one more than nine digits make
 abbrev pub beyond : ℕ
 beyond = 1000000000
 
-abbrev pub isCount : ℤ → Bool
-isCount z = leb (nat_abs z) mostCount
+abbrev pub is_count : ℤ → Bool
+is_count z = leb (nat_abs z) most_count
 
 -- 5: a count outside its bounds
-abbrev pub badCount : ℤ → Condition
-badCount z = when outOfBounds (not (isCount z))
+abbrev pub bad_count : ℤ → Condition
+bad_count z = when out_of_bounds (not (is_count z))
 
 -- the resulting count, held to its bounds
 unfoldable pub held : ℤ → Counted
-held z = unless Refused (badCount z ∷ []) (Count z)
+held z = unless Refused (bad_count z ∷ []) (Count z)
 
 -- the number of an answer (0: not refused), and its count (a refusal's is 0)
 abbrev pub number_of : Counted → ℕ

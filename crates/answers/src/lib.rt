@@ -1,8 +1,10 @@
 // Refusals by number, and the answer that is a count or a refusal: a number held to the bounds of a count, or refusal 5.
+#![tactic(auto)]
+
 ghost use Rattle.std.specs.Prelude.{◌≡◌};
 ghost use Rattle.numbers.specs.Sign.{signed};
-ghost use Rattle.numbers.specs.Nearest.{nearestZ};
-ghost use Rattle.answers.specs.Refusals.{atPlace, isCount, held, number_of, count_of};
+ghost use Rattle.numbers.specs.Nearest.{nearest_z};
+ghost use Rattle.answers.specs.Refusals.{at_place, is_count, held, number_of, count_of};
 
 // Why a call was refused: the refusal's number, and its place in the text that was read (0, where it has none). Made only by the
 // constants below, given its place by `at_place`, handed on whole.
@@ -116,7 +118,7 @@ pub const PAST_DAY: Refusal = Refusal {
 
 // The refusal with the place that a scanner says.
 pub fn at_place(e: Refusal, place: usize) -> Refusal
-    ensures answer { result ≡ atPlace e place }
+    ensures { result ≡ at_place e place }
 {
     Refusal {
         number: e.number,
@@ -146,14 +148,14 @@ pub const BEYOND: u64 = 1_000_000_000;
 
 // Whether x is within the bounds of a count.
 pub fn is_count(x: i64) -> bool
-    ensures answer { result ≡ isCount x }
+    ensures { result ≡ is_count x }
 {
     numbers::magnitude(x) <= MOST_COUNT
 }
 
 // The count with this sign and magnitude. Refuses 5: it is outside its bounds.
 pub fn held(minus: bool, m: u64) -> Counted
-    ensures answer { result ≡ held (signed minus m) }
+    ensures { result ≡ held (signed minus m) }
 {
     if m > MOST_COUNT {
         return Counted::Refused(OUT_OF_BOUNDS);
@@ -164,7 +166,7 @@ pub fn held(minus: bool, m: u64) -> Counted
 
 // The nearest count of x/n, halves away from zero; x is any i64, and of n = 0 it is 0. Refuses 5: it is outside its bounds.
 pub fn nearest_count(x: i64, n: u64) -> Counted
-    ensures answer { result ≡ held (nearestZ x n) }
+    ensures { result ≡ held (nearest_z x n) }
 {
     let minus = numbers::below_zero(x);
     let m = numbers::magnitude(x);
@@ -174,7 +176,7 @@ pub fn nearest_count(x: i64, n: u64) -> Counted
 
 // The number of an answer; 0: not refused.
 pub fn number(a: Counted) -> u8
-    ensures answer { result ≡ number_of a }
+    ensures { result ≡ number_of a }
 {
     match a {
         Counted::Count(_) => 0,
@@ -184,7 +186,7 @@ pub fn number(a: Counted) -> u8
 
 // The count of an answer; a refusal's is 0.
 pub fn count(a: Counted) -> i64
-    ensures answer { result ≡ count_of a }
+    ensures { result ≡ count_of a }
 {
     match a {
         Counted::Count(z) => z,

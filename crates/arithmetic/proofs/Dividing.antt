@@ -13,34 +13,34 @@ use Rattle.answers.specs.declared.Verdict.TheVariants as verdict
 use Rattle.answers.specs.declared.Counted.TheVariants.{Count, Refused}
 use Rattle.answers.specs.Order.{judged, unless}
 use Rattle.answers.specs.OrderLaws.{judged-clear, judged-refused, unless-clear, unless-append, not_in}
-use Rattle.answers.specs.Refusals.{mostCount, badCount, held}
-use Rattle.time.specs.Bounds.{mostFactor, isFraction}
-use Rattle.time.specs.BoundsLaws.{InBounds, isFraction-told}
-use Rattle.arithmetic.specs.Divisor.{isDivisor, divisorWhen}
+use Rattle.answers.specs.Refusals.{most_count, bad_count, held}
+use Rattle.time.specs.Bounds.{most_factor, is_fraction}
+use Rattle.time.specs.BoundsLaws.{InBounds, is_fraction-told}
+use Rattle.arithmetic.specs.Divisor.{is_divisor, divisor_when}
 
-module _ (p : ℤ) (q : ℕ) (passed : judged (divisorWhen p q) ≡ verdict.Passed) where
-  pub divisor-within : InBounds mostFactor p q
-  divisor-within = isFraction-told mostFactor p q (not_in (isFraction mostFactor p q) (judged-clear (divisorWhen p q) passed).0)
+module _ (p : ℤ) (q : ℕ) (passed : judged (divisor_when p q) ≡ verdict.Passed) where
+  pub divisor-within : InBounds most_factor p q
+  divisor-within = is_fraction-told most_factor p q (not_in (is_fraction most_factor p q) (judged-clear (divisor_when p q) passed).0)
 
   pub divisor-nonzero : 0 < nat_abs p
-  divisor-nonzero = ltb-true 0 (nat_abs p) (not_in (isDivisor p) (judged-clear (divisorWhen p q) passed).1.0)
+  divisor-nonzero = ltb-true 0 (nat_abs p) (not_in (is_divisor p) (judged-clear (divisor_when p q) passed).1.0)
 
   -- the dividend is far below the largest number
-  pub dividend-lt : (count : ℤ) → nat_abs count ≤ mostCount → nat_abs (count *ℤ pos q) < 2 ^ 63
+  pub dividend-lt : (count : ℤ) → nat_abs count ≤ most_count → nat_abs (count *ℤ pos q) < 2 ^ 63
   dividend-lt count h = rw (abs-product count (pos q)) (omega (arith, mul-le-mul h divisor-within.bottom))
 
   -- only the resulting count may still refuse
-  pub held-divided : (z : ℤ) → held z ≡ unless Refused (divisorWhen p q ++ (badCount z ∷ [])) (Count z)
+  pub held-divided : (z : ℤ) → held z ≡ unless Refused (divisor_when p q ++ (bad_count z ∷ [])) (Count z)
   unfolding held
   held-divided z =
       sym
-      (unless-append Refused (divisorWhen p q) (badCount z ∷ []) (Count z)
-      ∙ unless-clear Refused (divisorWhen p q) (unless Refused (badCount z ∷ []) (Count z)) (judged-clear (divisorWhen p q) passed))
+      (unless-append Refused (divisor_when p q) (bad_count z ∷ []) (Count z)
+      ∙ unless-clear Refused (divisor_when p q) (unless Refused (bad_count z ∷ []) (Count z)) (judged-clear (divisor_when p q) passed))
 
 -- one that is not refuses, whatever the count would be
-pub divided-refused : (p : ℤ) (q : ℕ) (e : Refusal) → judged (divisorWhen p q) ≡ verdict.Refused e
-    → (z : ℤ) → Refused e ≡ unless Refused (divisorWhen p q ++ (badCount z ∷ [])) (Count z)
+pub divided-refused : (p : ℤ) (q : ℕ) (e : Refusal) → judged (divisor_when p q) ≡ verdict.Refused e
+    → (z : ℤ) → Refused e ≡ unless Refused (divisor_when p q ++ (bad_count z ∷ [])) (Count z)
 divided-refused p q e h z =
     sym
-    (unless-append Refused (divisorWhen p q) (badCount z ∷ []) (Count z)
-    ∙ judged-refused (divisorWhen p q) e h Refused (unless Refused (badCount z ∷ []) (Count z)))
+    (unless-append Refused (divisor_when p q) (bad_count z ∷ []) (Count z)
+    ∙ judged-refused (divisor_when p q) e h Refused (unless Refused (bad_count z ∷ []) (Count z)))

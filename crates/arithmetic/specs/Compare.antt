@@ -5,7 +5,7 @@ use Rattle.std.specs.Int.Signed.{lt_z}
 use Rattle.answers.specs.Order.{unless}
 use Rattle.timecodes.specs.declared.Timecode.{Timecode}
 use Rattle.timecodes.specs.declared.kinds.Joining.TheVariants.{Comparison}
-use Rattle.timecodes.specs.Admitted.{admitsBoth}
+use Rattle.timecodes.specs.Admitted.{admits_both}
 use Rattle.timecodes.specs.Instant.{instant}
 use Rattle.arithmetic.specs.declared.Compared.{Compared}
 use Rattle.arithmetic.specs.declared.Compared.TheVariants.{Order, Refused}
@@ -15,8 +15,8 @@ unfoldable pub order_of : ℤ → ℤ → ℤ
 order_of x y = cond (lt_z x y) (negsuc 0) (cond (lt_z y x) (pos 1) (pos 0))
 
 -- 6, 15, 5, else the order of the instants
-unfoldable pub compareOf : Timecode → Timecode → Compared
-compareOf a b = unless Refused (admitsBoth Comparison a b) (Order (order_of (instant a) (instant b)))
+unfoldable pub compare_of : Timecode → Timecode → Compared
+compare_of a b = unless Refused (admits_both Comparison a b) (Order (order_of (instant a) (instant b)))
 
 -- the number of an answer (0: not refused), and its order (a refusal's is 0)
 abbrev pub number_of : Compared → ℕ

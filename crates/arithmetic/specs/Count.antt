@@ -5,21 +5,21 @@ use Rattle.answers.specs.Order.{Condition, unless}
 use Rattle.timecodes.specs.declared.Timecode.{Timecode}
 use Rattle.timecodes.specs.declared.Answer.{Answer}
 use Rattle.timecodes.specs.declared.Answer.TheVariants.{At, Refused}
-use Rattle.rates.specs.Rates.{badRate}
+use Rattle.rates.specs.Rates.{bad_rate}
 use Rattle.timecodes.specs.Timecode.{moved, recounted}
-use Rattle.timecodes.specs.Admitted.{admitsLength}
+use Rattle.timecodes.specs.Admitted.{admits_length}
 
 -- negation acts on the count: 6, 15, 5, else it negated
 unfoldable pub neg_of : Timecode → Answer
-neg_of tc = unless Refused (admitsLength tc) (At (recounted tc (neg_ℤ tc.count)))
+neg_of tc = unless Refused (admits_length tc) (At (recounted tc (neg_ℤ tc.count)))
 
 -- absolute value acts on the count: 6, 15, 5, else its magnitude
-unfoldable pub absOf : Timecode → Answer
-absOf tc = unless Refused (admitsLength tc) (At (recounted tc (pos (nat_abs tc.count))))
+unfoldable pub abs_of : Timecode → Answer
+abs_of tc = unless Refused (admits_length tc) (At (recounted tc (pos (nat_abs tc.count))))
 
 -- `rebase` keeps the count: 6 for either rate, 15, 5, else it
-abbrev pub rebaseWhen : Timecode → (rate : ℕ) → List Condition
-rebaseWhen tc rate = badRate rate ∷ admitsLength tc
+abbrev pub rebase_when : Timecode → (rate : ℕ) → List Condition
+rebase_when tc rate = bad_rate rate ∷ admits_length tc
 
-unfoldable pub rebaseOf : Timecode → (rate : ℕ) → Answer
-rebaseOf tc rate = unless Refused (rebaseWhen tc rate) (At (moved tc tc.count rate))
+unfoldable pub rebase_of : Timecode → (rate : ℕ) → Answer
+rebase_of tc rate = unless Refused (rebase_when tc rate) (At (moved tc tc.count rate))

@@ -2,16 +2,16 @@
 -- Assumes nothing.
 use Rattle.std.specs.Prelude.{ℕ, List, [], ◌∷◌, Bool, not, ltb, ℤ, nat_abs}
 use Rattle.answers.specs.Order.{Condition, when}
-use Rattle.answers.specs.Refusals.{zeroDivisor}
-use Rattle.time.specs.Bounds.{badFactor}
+use Rattle.answers.specs.Refusals.{zero_divisor}
+use Rattle.time.specs.Bounds.{bad_factor}
 
-abbrev pub isDivisor : ℤ → Bool
-isDivisor n = ltb 0 (nat_abs n)
+abbrev pub is_divisor : ℤ → Bool
+is_divisor n = ltb 0 (nat_abs n)
 
 -- 7: divisor zero
-abbrev pub badDivisor : ℤ → Condition
-badDivisor n = when zeroDivisor (not (isDivisor n))
+abbrev pub bad_divisor : ℤ → Condition
+bad_divisor n = when zero_divisor (not (is_divisor n))
 
 -- a divisor p/q: 5, out of bounds, then 7
-abbrev pub divisorWhen : (p : ℤ) (q : ℕ) → List Condition
-divisorWhen p q = badFactor p q ∷ badDivisor p ∷ []
+abbrev pub divisor_when : (p : ℤ) (q : ℕ) → List Condition
+divisor_when p q = bad_factor p q ∷ bad_divisor p ∷ []

@@ -9,22 +9,22 @@ use Rattle.timecodes.specs.declared.Answer.TheVariants.{At, Refused}
 use Rattle.answers.specs.declared.Counted.{Counted}
 use Rattle.answers.specs.declared.Counted.TheVariants as counted
 use Rattle.timecodes.specs.Timecode.{recounted}
-use Rattle.timecodes.specs.Admitted.{admitsLength}
-use Rattle.arithmetic.specs.Divisor.{badDivisor}
+use Rattle.timecodes.specs.Admitted.{admits_length}
+use Rattle.arithmetic.specs.Divisor.{bad_divisor}
 
 -- 7, else count over n, cut off toward zero; and what that leaves of the count, with its sign
-unfoldable pub quotientCounted : (count n : ℤ) → Counted
-quotientCounted count n = unless counted.Refused (badDivisor n ∷ []) (counted.Count (quot_z count n))
+unfoldable pub quotient_counted : (count n : ℤ) → Counted
+quotient_counted count n = unless counted.Refused (bad_divisor n ∷ []) (counted.Count (quot_z count n))
 
-unfoldable pub remainderCounted : (count n : ℤ) → Counted
-remainderCounted count n = unless counted.Refused (badDivisor n ∷ []) (counted.Count (rem_z count n))
+unfoldable pub remainder_counted : (count n : ℤ) → Counted
+remainder_counted count n = unless counted.Refused (bad_divisor n ∷ []) (counted.Count (rem_z count n))
 
 -- 6, 15, 5, 7
-abbrev pub divWhen : Timecode → (n : ℤ) → List Condition
-divWhen tc n = admitsLength tc ++ (badDivisor n ∷ [])
+abbrev pub div_when : Timecode → (n : ℤ) → List Condition
+div_when tc n = admits_length tc ++ (bad_divisor n ∷ [])
 
 unfoldable pub div_of : Timecode → (n : ℤ) → Answer
-div_of tc n = unless Refused (divWhen tc n) (At (recounted tc (quot_z tc.count n)))
+div_of tc n = unless Refused (div_when tc n) (At (recounted tc (quot_z tc.count n)))
 
-unfoldable pub remOf : Timecode → (n : ℤ) → Answer
-remOf tc n = unless Refused (divWhen tc n) (At (recounted tc (rem_z tc.count n)))
+unfoldable pub rem_of : Timecode → (n : ℤ) → Answer
+rem_of tc n = unless Refused (div_when tc n) (At (recounted tc (rem_z tc.count n)))

@@ -38,7 +38,7 @@ fn to_line(line: &[u8], out: &mut [u8], used: usize) -> usize {
 
 // How many bytes the buffer has of a line that it could hold; 0 of another. (That more is kept than it holds cannot be.)
 fn kept(g: Gathered, total: usize) -> usize
-    ensures within { result ≤ total }
+    ensures { result ≤ total }
 {
     if g.over {
         return 0;

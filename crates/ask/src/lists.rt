@@ -38,7 +38,7 @@ fn in_line(given: &[i64], place: u64, line: &mut [u8], out: &mut [u8], used: usi
 
 // ROOM. (That it is over 1024 cannot be.)
 fn room(n: Numbers) -> usize
-    ensures most { result ≤ 1024 }
+    ensures { result ≤ 1024 }
 {
     let room = n.up2;
     if room > 1024 {

@@ -1,7 +1,9 @@
 // A calculator over every public operation: reads commands, one a line, and writes an answer for each (docs/ASK.md).
 // What a line is, and what it asks, is decided by streams and asking; here are the commands, the buffers, the reads and the writes.
+#![tactic(auto)]
+
 ghost use Rattle.std.specs.Prelude.{◌≡◌};
-ghost use Rattle.streams.specs.Turns.{waitingBehind};
+ghost use Rattle.streams.specs.Turns.{waiting_behind};
 
 use streams::{Gathered, Step};
 
@@ -32,8 +34,8 @@ fn answered(t: Step, buffer: &[u8], out: &mut [u8], used: usize) -> usize {
 
 // A chunk of input, line by line; its answers are written before the next one is read.
 fn feed(chunk: &[u8], buffer: &mut [u8], out: &mut [u8], first: Gathered) -> Gathered
-    ensures gathered { result ≡ (waitingBehind buffer.old first chunk.now).gathered }
-    ensures buffer { buffer.new ≡ (waitingBehind buffer.old first chunk.now).buffer }
+    ensures gathered { result ≡ (waiting_behind buffer.old first chunk.now).gathered }
+    ensures buffer { buffer.new ≡ (waiting_behind buffer.old first chunk.now).buffer }
 {
     let mut g = first;
     let mut used = 0;

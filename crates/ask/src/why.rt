@@ -15,7 +15,7 @@ fn stated(n: Numbers) -> Stated {
 
 // ROOM. (That it is over 128 cannot be.)
 fn room(n: Numbers) -> usize
-    ensures most { result ≤ 128 }
+    ensures { result ≤ 128 }
 {
     let room = n.up4;
     if room > 128 {

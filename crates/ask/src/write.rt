@@ -21,7 +21,7 @@ fn laid(row: usize, tc: Timecode, n: Numbers, line: &mut [u8]) -> Written {
 
 // ROOM, the last number. (That it is over 128 cannot be.)
 fn room(row: usize, n: Numbers) -> usize
-    ensures most { result ≤ 128 }
+    ensures { result ≤ 128 }
 {
     let mut room = n.up5;
     if row == rows::LABEL {

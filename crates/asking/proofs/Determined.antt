@@ -16,7 +16,7 @@ use Rattle.asking.specs.contracts.values.signed_at as signed-at
 use Rattle.asking.proofs.values.signed_at.Reads as signed-at-reads
 use Rattle.asking.specs.contracts.values.stands as stands
 use Rattle.asking.proofs.values.stands.Reads as stands-reads
-use Rattle.asking.specs.contracts.values.word_stands as word-Stands
+use Rattle.asking.specs.contracts.values.word_stands as word_Stands
 use Rattle.asking.proofs.values.word_stands.Reads as word-stands-reads
 use Rattle.asking.specs.contracts.words.understand as understand
 use Rattle.asking.proofs.words.understand.Reads as understand-reads
@@ -30,7 +30,7 @@ signed-at-determined κs a asked x y p q = ap (λ z. (z, x.1)) (p ∙ sym q)
 pub stands-determined : Determined stands.ended stands-reads.Asked stands-reads.Learnt
 stands-determined κs a asked x y p q = ap (λ z. (z, x.1)) (p ∙ sym q)
 
-pub word-stands-determined : Determined word-Stands.ended word-stands-reads.Asked word-stands-reads.Learnt
+pub word-stands-determined : Determined word_Stands.ended word-stands-reads.Asked word-stands-reads.Learnt
 word-stands-determined κs a asked x y p q = ap (λ z. (z, x.1)) (p ∙ sym q)
 
 pub understand-determined : Determined understand.ended understand-reads.Asked understand-reads.Learnt

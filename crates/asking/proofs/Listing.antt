@@ -8,13 +8,13 @@ use native.Mathlib.Omega.{arith}
 use lib.Dec.{leb}
 use lib.IntN.{ℤ}
 use lib.ListN.{length, drop, set, get_or, length-set}
-use Rattle.numbers.specs.Sign.{upFrom}
+use Rattle.numbers.specs.Sign.{up_from}
 use Rattle.asking.specs.declared.values.Word.TheVariants.{Number, Nothing}
 use Rattle.asking.specs.declared.words.Value.{Value}
 use Rattle.asking.specs.declared.numbered.Listed.{Listed}
 use Rattle.asking.specs.Numbers.{number_at}
-use Rattle.asking.specs.Asked.{noValue}
-use Rattle.asking.specs.Numbered.{numbersOf, listing, list_from}
+use Rattle.asking.specs.Asked.{no_value}
+use Rattle.asking.specs.Numbered.{numbers_of, listing, list_from}
 
 -- n numbers were put into the list
 pub record Lists (line : List ℕ) (from : ℕ) (list₀ list : List ℕ) (at n : ℕ) : Type 0 where
@@ -48,7 +48,7 @@ module _ (line : List ℕ) (from : ℕ) (list₀ list : List ℕ) (at n : ℕ) (
   unfolding list_from
   lists-full h = let z : s.k ≡ 0 = omega (arith, s.left, s.long) in ends_by (rw z)
 
-  pub lists-turn : (z : ℤ) (next u : ℕ) → n < length list → number_at at (drop at line) ≡ Number z next → u ≡ upFrom z
+  pub lists-turn : (z : ℤ) (next u : ℕ) → n < length list → number_at at (drop at line) ≡ Number z next → u ≡ up_from z
       → Lists line from list₀ (set list n u) next (n + 1)
   unfolding list_from
   lists-turn z next u h e f = record {
@@ -64,8 +64,8 @@ module _ (line : List ℕ) (from : ℕ) (list₀ list : List ℕ) (at n : ℕ) (
 
 -- ---- the five numbers, each as it was read
 pub numbers-are : (v : List Value) (up1 : ℕ) (n2 : ℤ) (up2 : ℕ) (n3 : ℤ) (up3 : ℕ) (n4 : ℤ) (up4 up5 : ℕ) (at1 at2 at3 : Bool)
-    → let n : ℕ → Value = λ k. get_or v k noValue in
-    up1 ≡ upFrom (n 0).number → n2 ≡ (n 1).number → up2 ≡ upFrom (n 1).number → n3 ≡ (n 2).number → up3 ≡ upFrom (n 2).number
-    → n4 ≡ (n 3).number → up4 ≡ upFrom (n 3).number → up5 ≡ upFrom (n 4).number → at1 ≡ (n 0).marked → at2 ≡ (n 1).marked → at3 ≡ (n 2).marked
-    → record { up1 = up1; n2 = n2; up2 = up2; n3 = n3; up3 = up3; n4 = n4; up4 = up4; up5 = up5; at1 = at1; at2 = at2; at3 = at3 } ≡ numbersOf v
+    → let n : ℕ → Value = λ k. get_or v k no_value in
+    up1 ≡ up_from (n 0).number → n2 ≡ (n 1).number → up2 ≡ up_from (n 1).number → n3 ≡ (n 2).number → up3 ≡ up_from (n 2).number
+    → n4 ≡ (n 3).number → up4 ≡ up_from (n 3).number → up5 ≡ up_from (n 4).number → at1 ≡ (n 0).marked → at2 ≡ (n 1).marked → at3 ≡ (n 2).marked
+    → record { up1 = up1; n2 = n2; up2 = up2; n3 = n3; up3 = up3; n4 = n4; up4 = up4; up5 = up5; at1 = at1; at2 = at2; at3 = at3 } ≡ numbers_of v
 numbers-are v up1 n2 up2 n3 up3 n4 up4 up5 at1 at2 at3 a b c d e f g h i j k = rw (a, b, c, d, e, f, g, h, i, j, k)

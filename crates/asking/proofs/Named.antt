@@ -11,7 +11,7 @@ use lib.Seq.{drop-cons}
 use lib.Dec.{eqb, leb}
 use borrow.Author.Tests.{eq-eqb, ne_eqb, leb-true, not-true}
 use Rattle.laws.specs.Every.{at_every}
-use Rattle.asking.specs.Table.{Row, row, rows, rowCount, row_at, is_plain, same, isNamed, rowFrom, rowNamed}
+use Rattle.asking.specs.Table.{Row, row, rows, row_count, row_at, is_plain, same, is_named, row_from, row_named}
 
 -- ---- words without a space
 pub plain_at : (w : List ℕ) → is_plain w ≡ true → (i : ℕ) → i < length w → get_or w i 0 ≡ 32 → ⊥
@@ -88,40 +88,40 @@ module _ (w n : List ℕ) (i : ℕ) (s : Comparing w n i) where
   comparing-done p h = s.same_from ∙ rw (drop_of_length-le w {i = i} h) (same_ended n i p)
 
 -- ---- the words of the table have no space, and 15 bytes at most
-isName : Row → Bool
-isName r = is_plain r.name && leb (length r.name) 15
+is_name : Row → Bool
+is_name r = is_plain r.name && leb (length r.name) 15
 
-module _ (n : ℕ) (h : n < rowCount) where
-  name-is : isName (row_at n) ≡ true
-  unfolding rows isName is_plain
-  name-is = at_every isName rows (row "" "") refl n h
+module _ (n : ℕ) (h : n < row_count) where
+  name-is : is_name (row_at n) ≡ true
+  unfolding rows is_name is_plain
+  name-is = at_every is_name rows (row "" "") refl n h
 
   pub name-plain : is_plain (row_at n).name ≡ true
-  unfolding isName
+  unfolding is_name
   name-plain = ((and-eq-true_iff (is_plain (row_at n).name) _).0 name-is).0
 
   pub name-short : length (row_at n).name ≤ 15
-  unfolding isName
+  unfolding is_name
   name-short = leb-true (length (row_at n).name) 15 ((and-eq-true_iff (is_plain (row_at n).name) _).0 name-is).1
 
 -- ---- the loop of `row_named`: no row below i has the word
 pub record Seeking (w : List ℕ) (i : ℕ) : Type 0 where
-  pub within : i ≤ rowCount
-  pub same_from : rowNamed w ≡ rowFrom i (drop i rows) w
+  pub within : i ≤ row_count
+  pub same_from : row_named w ≡ row_from i (drop i rows) w
 
-module _ (w : List ℕ) (i : ℕ) (s : Seeking w i) (h : i < rowCount) where
+module _ (w : List ℕ) (i : ℕ) (s : Seeking w i) (h : i < row_count) where
   row_here : drop i rows ≡ row_at i ∷ drop (suc i) rows
   unfolding rows
   row_here = drop-cons rows i (row "" "") h
 
-  pub seeking-found : isNamed i w ≡ true → i ≡ rowNamed w
-  unfolding rowFrom
+  pub seeking-found : is_named i w ≡ true → i ≡ row_named w
+  unfolding row_from
   seeking-found e = sym (s.same_from ∙ rw (row_here, e))
 
-  pub seeking-turn : isNamed i w ≡ false → Seeking w (i + 1)
-  unfolding rowFrom
+  pub seeking-turn : is_named i w ≡ false → Seeking w (i + 1)
+  unfolding row_from
   seeking-turn e = record { within = omega arith; same_from = s.same_from ∙ rw (row_here, e, add-one) }
 
-pub seeking-none : (w : List ℕ) (i : ℕ) → Seeking w i → rowCount ≤ i → i ≡ rowNamed w
-unfolding rowFrom rows
+pub seeking-none : (w : List ℕ) (i : ℕ) → Seeking w i → row_count ≤ i → i ≡ row_named w
+unfolding row_from rows
 seeking-none w i s h = sym (s.same_from ∙ rw (drop_of_length-le rows {i = i} h))

@@ -11,20 +11,20 @@ use lib.ListN.{length, drop}
 use lib.Seq.{drop-drop, drop-append_seam}
 use borrow.Author.Tests.{eqb-true, eqb-false, ne_eqb}
 use Rattle.numbers.specs.Sign.{signed}
-use Rattle.digits.specs.Digits.{is_byte, isDigit, IsField, value_of, firstIs, digitFirst, span, leading}
+use Rattle.digits.specs.Digits.{is_byte, is_digit, IsField, value_of, first_is, digit_first, span, leading}
 use Rattle.digits.proofs.Values.{all_head}
 use Rattle.digits.proofs.Runs.{span_run, leading-run, leading-field, leading_length, leading-rest, span-stops}
 use Rattle.asking.specs.declared.values.Word.TheVariants.{Number, Nothing}
-use Rattle.asking.specs.Numbers.{isWithin, signedWord, digitsAt, signedAt, number_at}
-use Rattle.asking.specs.Table.{wordFirst, is_over}
-use Rattle.asking.specs.Asked.{isPosition, isUnstated, isMarked, value_at}
+use Rattle.asking.specs.Numbers.{is_within, signed_word, digits_at, signed_at, number_at}
+use Rattle.asking.specs.Table.{word_first, is_over}
+use Rattle.asking.specs.Asked.{is_position, is_unstated, is_marked, value_at}
 use Rattle.asking.specs.Grammar.{Numeral, plain, minus}
 use Rattle.asking.proofs.Taken.{and-false, marked-stated, value-plain}
 
 -- ---- a number of the grammar is taken
-digits-taken : (sign : Bool) (at : ℕ) (d l : List ℕ) → IsField d → isWithin sign (value_of d) ≡ true → digitFirst l ≡ false
-    → digitsAt sign at (d ++ l) ≡ Number (signed sign (value_of d)) (at + length d)
-unfolding digitsAt signedWord
+digits-taken : (sign : Bool) (at : ℕ) (d l : List ℕ) → IsField d → is_within sign (value_of d) ≡ true → digit_first l ≡ false
+    → digits_at sign at (d ++ l) ≡ Number (signed sign (value_of d)) (at + length d)
+unfolding digits_at signed_word
 digits-taken sign at d l f w s =
     rw (leading-run d l f.digits s, span_run d l f.digits s, ne_eqb (length d) 0 (λ e. omega (arith, e, f.some)), w)
 
@@ -32,39 +32,39 @@ true-false : true ≡ false → ⊥
 true-false e = let z : ◌≡◌ {A = ℕ} 0 1 = cc in omega arith
 
 -- a byte that is no digit is not the first of digits
-pub not_first : (c : ℕ) (d l : List ℕ) → IsField d → isDigit c ≡ false → firstIs (is_byte c) (d ++ l) ≡ false
+pub not_first : (c : ℕ) (d l : List ℕ) → IsField d → is_digit c ≡ false → first_is (is_byte c) (d ++ l) ≡ false
 not_first c [] l f h = absurd (omega (arith, f.some))
-not_first c (b ∷ d) l f h = ne_eqb b c (λ e. true-false (sym (all_head b d f.digits) ∙ ap isDigit e ∙ h))
+not_first c (b ∷ d) l f h = ne_eqb b c (λ e. true-false (sym (all_head b d f.digits) ∙ ap is_digit e ∙ h))
 
-pub signed-taken : {d : List ℕ} {z : ℤ} → Numeral d z → (at : ℕ) (l : List ℕ) → digitFirst l ≡ false → signedAt at (d ++ l) ≡ Number z (at + length d)
-unfolding signedAt
+pub signed-taken : {d : List ℕ} {z : ℤ} → Numeral d z → (at : ℕ) (l : List ℕ) → digit_first l ≡ false → signed_at at (d ++ l) ≡ Number z (at + length d)
+unfolding signed_at
 signed-taken (plain {d} f w) at l s = rw (not_first 45 d l f refl) (digits-taken false at d l f w s)
 signed-taken (minus {d} f w) at l s =
     let e : at + 1 + length d ≡ at + suc (length d) = omega arith in
     digits-taken true (at + 1) d l f w s ∙ rw e
 
-pub number-taken : {d : List ℕ} {z : ℤ} → Numeral d z → (at : ℕ) (l : List ℕ) → digitFirst l ≡ false
+pub number-taken : {d : List ℕ} {z : ℤ} → Numeral d z → (at : ℕ) (l : List ℕ) → digit_first l ≡ false
     → number_at at (32 ∷ d ++ l) ≡ Number z (at + 1 + length d)
 unfolding number_at
 number-taken f at l s = signed-taken f (at + 1) l s
 
 -- behind its mark
-pub marked-here : (l : List ℕ) → isMarked 64 (32 ∷ 64 ∷ l) ≡ true
-unfolding isMarked isUnstated isPosition wordFirst
+pub marked-here : (l : List ℕ) → is_marked 64 (32 ∷ 64 ∷ l) ≡ true
+unfolding is_marked is_unstated is_position word_first
 marked-here l = refl
 
-pub marked-taken : {d : List ℕ} {z : ℤ} → Numeral d z → (at : ℕ) (l : List ℕ) → digitFirst l ≡ false
+pub marked-taken : {d : List ℕ} {z : ℤ} → Numeral d z → (at : ℕ) (l : List ℕ) → digit_first l ≡ false
     → value_at 64 at (32 ∷ 64 ∷ d ++ l) ≡ Number z (at + 2 + length d)
-unfolding value_at isUnstated isPosition wordFirst
+unfolding value_at is_unstated is_position word_first
 marked-taken f at l s = signed-taken f (at + 2) l s
 
 -- no mark is a number's first byte, and `-` alone is no number
-no-mark : {d : List ℕ} {z : ℤ} → Numeral d z → (l : List ℕ) → firstIs (is_byte 64) (d ++ l) ≡ false
+no-mark : {d : List ℕ} {z : ℤ} → Numeral d z → (l : List ℕ) → first_is (is_byte 64) (d ++ l) ≡ false
 no-mark (plain {d} f w) l = not_first 64 d l f refl
 no-mark (minus f w) l = refl
 
-no-position : {d : List ℕ} {z : ℤ} → Numeral d z → (kind : ℕ) (l : List ℕ) → isPosition kind (32 ∷ d ++ l) ≡ false
-unfolding isPosition wordFirst
+no-position : {d : List ℕ} {z : ℤ} → Numeral d z → (kind : ℕ) (l : List ℕ) → is_position kind (32 ∷ d ++ l) ≡ false
+unfolding is_position word_first
 no-position f kind l = rw (no-mark f l) (and-false (eqb kind 64))
 
 pub not-over : (d l : List ℕ) → IsField d → is_over (d ++ l) ≡ false
@@ -72,21 +72,21 @@ unfolding is_over
 not-over [] l f = absurd (omega (arith, f.some))
 not-over (b ∷ d) l f = not_first 32 (b ∷ d) l f refl
 
-stated : {d : List ℕ} {z : ℤ} → Numeral d z → (kind : ℕ) (l : List ℕ) → isUnstated kind (32 ∷ d ++ l) ≡ false
-unfolding isUnstated wordFirst
+stated : {d : List ℕ} {z : ℤ} → Numeral d z → (kind : ℕ) (l : List ℕ) → is_unstated kind (32 ∷ d ++ l) ≡ false
+unfolding is_unstated word_first
 stated (plain {d} f w) kind l = rw (not_first 45 d l f refl) (and-false (eqb kind 102))
 stated (minus {d} f w) kind l = rw (not-over d l f) (and-false (eqb kind 102))
 
-pub number-unmarked : {d : List ℕ} {z : ℤ} → Numeral d z → (kind : ℕ) (l : List ℕ) → isMarked kind (32 ∷ d ++ l) ≡ false
+pub number-unmarked : {d : List ℕ} {z : ℤ} → Numeral d z → (kind : ℕ) (l : List ℕ) → is_marked kind (32 ∷ d ++ l) ≡ false
 number-unmarked f kind l = sym (marked-stated kind _ (stated f kind l)) ∙ no-position f kind l
 
-pub plain-taken : {d : List ℕ} {z : ℤ} → Numeral d z → (kind at : ℕ) (l : List ℕ) → digitFirst l ≡ false
+pub plain-taken : {d : List ℕ} {z : ℤ} → Numeral d z → (kind at : ℕ) (l : List ℕ) → digit_first l ≡ false
     → value_at kind at (32 ∷ d ++ l) ≡ Number z (at + 1 + length d)
 plain-taken f kind at l s = value-plain kind at _ (stated f kind l) (no-position f kind l) ∙ number-taken f at l s
 
 -- `-` alone, of a film format
-pub unstated-here : (l : List ℕ) → is_over l ≡ true → isUnstated 102 (32 ∷ 45 ∷ l) ≡ true
-unfolding isUnstated wordFirst
+pub unstated-here : (l : List ℕ) → is_over l ≡ true → is_unstated 102 (32 ∷ 45 ∷ l) ≡ true
+unfolding is_unstated word_first
 unstated-here l e = e
 
 -- ---- what is left behind it
@@ -102,7 +102,7 @@ pub record Signed (at : ℕ) (l : List ℕ) (z : ℤ) (next : ℕ) : Type 0 wher
   pub rest : List ℕ
   pub is : l ≡ digits ++ rest
   pub numeral : Numeral digits z
-  pub stops : digitFirst rest ≡ false
+  pub stops : digit_first rest ≡ false
   pub past : next ≡ at + length digits
 
 -- behind a space
@@ -111,7 +111,7 @@ pub record Taken (at : ℕ) (l : List ℕ) (z : ℤ) (next : ℕ) : Type 0 where
   pub rest : List ℕ
   pub is : l ≡ 32 ∷ digits ++ rest
   pub numeral : Numeral digits z
-  pub stops : digitFirst rest ≡ false
+  pub stops : digit_first rest ≡ false
   pub past : next ≡ at + 1 + length digits
 
 nothing : {z : ℤ} {next : ℕ} → Nothing ≡ Number z next → ⊥
@@ -120,7 +120,7 @@ nothing e = let z : ◌≡◌ {A = ℕ} 0 1 = cc in omega arith
 -- of digits behind a sign
 record Digits (sign : Bool) (at : ℕ) (l : List ℕ) (z : ℤ) (next : ℕ) : Type 0 where
   some : span l ≡ 0 → ⊥
-  within : isWithin sign (value_of (leading l)) ≡ true
+  within : is_within sign (value_of (leading l)) ≡ true
   value : z ≡ signed sign (value_of (leading l))
   past : next ≡ at + span l
 
@@ -130,11 +130,11 @@ number-value e = cc
 number-next : {x y : ℤ} {m n : ℕ} → Number x m ≡ Number y n → m ≡ n
 number-next e = cc
 
-digits-told : (sign : Bool) (at : ℕ) (l : List ℕ) (z : ℤ) (next : ℕ) → digitsAt sign at l ≡ Number z next → Digits sign at l z next
-unfolding digitsAt signedWord
-digits-told sign at l z next e = by (eqb (span l) 0) refl (isWithin sign (value_of (leading l))) refl e
+digits-told : (sign : Bool) (at : ℕ) (l : List ℕ) (z : ℤ) (next : ℕ) → digits_at sign at l ≡ Number z next → Digits sign at l z next
+unfolding digits_at signed_word
+digits-told sign at l z next e = by (eqb (span l) 0) refl (is_within sign (value_of (leading l))) refl e
   where
-    by : (x : Bool) → eqb (span l) 0 ≡ x → (y : Bool) → isWithin sign (value_of (leading l)) ≡ y
+    by : (x : Bool) → eqb (span l) 0 ≡ x → (y : Bool) → is_within sign (value_of (leading l)) ≡ y
         → cond x Nothing (cond y (Number (signed sign (value_of (leading l))) (at + span l)) Nothing) ≡ Number z next
         → Digits sign at l z next
     by true p y q f = absurd (nothing f)
@@ -162,12 +162,12 @@ module _ (at : ℕ) (t : List ℕ) (z : ℤ) (next : ℕ) where
     past = omega (arith, d.past, leading_length t);
   }
 
-pub signed-told : (at : ℕ) (t : List ℕ) (z : ℤ) (next : ℕ) → signedAt at t ≡ Number z next → Signed at t z next
-unfolding signedAt
+pub signed-told : (at : ℕ) (t : List ℕ) (z : ℤ) (next : ℕ) → signed_at at t ≡ Number z next → Signed at t z next
+unfolding signed_at
 signed-told at [] z next e = plain-told at [] z next (digits-told false at [] z next e)
 signed-told at (c ∷ t) z next e = by (eqb c 45) refl e
   where
-    by : (x : Bool) → eqb c 45 ≡ x → cond x (digitsAt true (at + 1) t) (digitsAt false at (c ∷ t)) ≡ Number z next → Signed at (c ∷ t) z next
+    by : (x : Bool) → eqb c 45 ≡ x → cond x (digits_at true (at + 1) t) (digits_at false at (c ∷ t)) ≡ Number z next → Signed at (c ∷ t) z next
     by true p f = rw (eqb-true c 45 p) (minus-told at t z next (digits-told true (at + 1) t z next f))
     by false p f = plain-told at (c ∷ t) z next (digits-told false at (c ∷ t) z next f)
 
@@ -176,7 +176,7 @@ unfolding number_at
 number-told at [] z next e = absurd (nothing e)
 number-told at (b ∷ t) z next e = by (eqb b 32) refl e
   where
-    by : (x : Bool) → eqb b 32 ≡ x → cond x (signedAt (at + 1) t) Nothing ≡ Number z next → Taken at (b ∷ t) z next
+    by : (x : Bool) → eqb b 32 ≡ x → cond x (signed_at (at + 1) t) Nothing ≡ Number z next → Taken at (b ∷ t) z next
     by true p f =
         let s = signed-told (at + 1) t z next f in
         record {

@@ -12,26 +12,26 @@ use borrow.Author.Tests.{eq-eqb, ne_eqb}
 use Rattle.asking.specs.declared.values.Word.TheVariants.{Number, Nothing}
 use Rattle.asking.specs.Numbers.{number_at}
 use Rattle.laws.specs.Spelt.{spelt}
-use Rattle.asking.specs.Table.{wordFirst}
-use Rattle.asking.specs.RecordWords.{kind_at, next_at, dueBehind, isDone}
+use Rattle.asking.specs.Table.{word_first}
+use Rattle.asking.specs.RecordWords.{kind_at, next_at, due_behind, is_done}
 
 -- ---- the kind of a record
 module _ (at : ℕ) (l : List ℕ) where
-  pub kind-rate : wordFirst (spelt " rate") l ≡ true → Number (pos 1) (at + 5) ≡ kind_at at l
+  pub kind-rate : word_first (spelt " rate") l ≡ true → Number (pos 1) (at + 5) ≡ kind_at at l
   unfolding kind_at
   kind-rate e = rw e
 
-  module _ (e : wordFirst (spelt " rate") l ≡ false) where
-    pub kind-shot : wordFirst (spelt " shot") l ≡ true → Number (pos 2) (at + 5) ≡ kind_at at l
+  module _ (e : word_first (spelt " rate") l ≡ false) where
+    pub kind-shot : word_first (spelt " shot") l ≡ true → Number (pos 2) (at + 5) ≡ kind_at at l
     unfolding kind_at
     kind-shot f = rw (e, f)
 
-    module _ (f : wordFirst (spelt " shot") l ≡ false) where
-      pub kind-reel : wordFirst (spelt " reel") l ≡ true → Number (pos 3) (at + 5) ≡ kind_at at l
+    module _ (f : word_first (spelt " shot") l ≡ false) where
+      pub kind-reel : word_first (spelt " reel") l ≡ true → Number (pos 3) (at + 5) ≡ kind_at at l
       unfolding kind_at
       kind-reel g = rw (e, f, g)
 
-      pub kind-none : wordFirst (spelt " reel") l ≡ false → Nothing ≡ kind_at at l
+      pub kind-none : word_first (spelt " reel") l ≡ false → Nothing ≡ kind_at at l
       unfolding kind_at
       kind-none g = rw (e, f, g)
 
@@ -46,25 +46,25 @@ unfolding next_at
 next-number zero at l h = absurd (h refl)
 next-number (suc due) at l h = refl
 
-pub due-less : (due : ℕ) (z : ℤ) → (due ≡ 0 → ⊥) → due - 1 ≡ dueBehind due z
-unfolding dueBehind
+pub due-less : (due : ℕ) (z : ℤ) → (due ≡ 0 → ⊥) → due - 1 ≡ due_behind due z
+unfolding due_behind
 due-less zero z h = absurd (h refl)
 due-less (suc due) z h = omega arith
 
 module _ (due : ℕ) (z : ℤ) (e : due ≡ 0) where
-  pub due-two : nat_abs z ≡ 2 → 2 ≡ dueBehind due z
-  unfolding dueBehind
+  pub due-two : nat_abs z ≡ 2 → 2 ≡ due_behind due z
+  unfolding due_behind
   due-two f = rw (e, eq-eqb (nat_abs z) 2 f)
 
-  pub due-one : (nat_abs z ≡ 2 → ⊥) → 1 ≡ dueBehind due z
-  unfolding dueBehind
+  pub due-one : (nat_abs z ≡ 2 → ⊥) → 1 ≡ due_behind due z
+  unfolding due_behind
   due-one f = rw (e, ne_eqb (nat_abs z) 2 f)
 
 module _ (line : List ℕ) (at due : ℕ) where
-  pub done-not : (due ≡ 0 → ⊥) → false ≡ isDone line at due
-  unfolding isDone
+  pub done-not : (due ≡ 0 → ⊥) → false ≡ is_done line at due
+  unfolding is_done
   done-not h = rw (ne_eqb due 0 h)
 
-  pub done-ended : due ≡ 0 → leb (length line) at ≡ isDone line at due
-  unfolding isDone
+  pub done-ended : due ≡ 0 → leb (length line) at ≡ is_done line at due
+  unfolding is_done
   done-ended e = rw (eq-eqb due 0 e)

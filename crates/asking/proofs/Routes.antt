@@ -10,88 +10,88 @@ use lib.Dec.{leb}
 use lib.IntN.{ℤ, pos}
 use lib.ListN.{length, drop, length-map}
 use borrow.Author.Tests.{le-leb, leb-true}
-use Rattle.numbers.specs.Sign.{upFrom}
-use Rattle.digits.specs.Digits.{digitFirst}
+use Rattle.numbers.specs.Sign.{up_from}
+use Rattle.digits.specs.Digits.{digit_first}
 use Rattle.laws.specs.Spelt.{spelt}
 use Rattle.asking.specs.declared.words.Value.{Value}
 use Rattle.asking.specs.Table.{rows, row_at, is_over}
-use Rattle.asking.specs.Asked.{value, is_last, isShards, isInRange, asked_of}
-use Rattle.asking.specs.ShardWords.{spelledOf, shardsOf}
+use Rattle.asking.specs.Asked.{value, is_last, is_shards, is_in_range, asked_of}
+use Rattle.asking.specs.ShardWords.{spelled_of, shards_of}
 use Rattle.asking.specs.Grammar.{Numeral, ShardsText, Behind, own, number, marked, unstated, shards, Asks, asks}
 use Rattle.asking.specs.Grammar as grammar
-use Rattle.asking.specs.Statements.{placedFrom}
-use Rattle.asking.specs.RouteStatements.{SpeltAt, listedShards, AreShards, ShardsExactly}
-use Rattle.asking.specs.RouteStatements.{RouteLine, noText, text, askedRoute, IsRoute, RouteUnderstood}
+use Rattle.asking.specs.Statements.{placed_from}
+use Rattle.asking.specs.RouteStatements.{SpeltAt, listed_shards, AreShards, ShardsExactly}
+use Rattle.asking.specs.RouteStatements.{RouteLine, no_text, text, asked_route, IsRoute, RouteUnderstood}
 use Rattle.asking.proofs.Placed.{placed-front}
 use Rattle.asking.proofs.Numerals.{signed-left}
-use Rattle.asking.proofs.ShardTexts.{true-false, byte-on, spelledAs, spelled-read, spelled-told, shards-few}
+use Rattle.asking.proofs.ShardTexts.{true-false, byte-on, spelled_as, spelled-read, spelled-told, shards-few}
 use Rattle.asking.proofs.Understanding.{understood}
-use Rattle.asking.proofs.Told.{only-understood}
+use Rattle.asking.proofs.Told.{only_understood}
 
 -- ---- the shards of a word
 module _ (line : List ℕ) (at : ℕ) (firsts ends : List ℕ) where
   -- numbers, each as one from 0 on, at a list's front
-  fronted : (zs : List ℤ) (list : List ℕ) → length zs ≤ length list → placedFrom 0 list (map upFrom zs) ≡ map upFrom zs ++ drop (length zs) list
+  fronted : (zs : List ℤ) (list : List ℕ) → length zs ≤ length list → placed_from 0 list (map up_from zs) ≡ map up_from zs ++ drop (length zs) list
   fronted zs list h =
-      let n = length-map zs upFrom in
-      placed-front (map upFrom zs) list (omega (arith, n)) ∙ ap (λ k. map upFrom zs ++ drop k list) n
+      let n = length-map zs up_from in
+      placed-front (map up_from zs) list (omega (arith, n)) ∙ ap (λ k. map up_from zs ++ drop k list) n
 
   -- what is spelt, where both lists have room for it
-  listed-as : (next : ℕ) (ys zs : List ℤ) → spelledOf line at firsts ends ≡ spelledAs next firsts ends ys zs → length ys ≡ length zs
-      → length ys ≤ length firsts → length ys ≤ length ends → shardsOf line at firsts ends ≡ listedShards ys zs firsts ends
-  unfolding shardsOf
+  listed-as : (next : ℕ) (ys zs : List ℤ) → spelled_of line at firsts ends ≡ spelled_as next firsts ends ys zs → length ys ≡ length zs
+      → length ys ≤ length firsts → length ys ≤ length ends → shards_of line at firsts ends ≡ listed_shards ys zs firsts ends
+  unfolding shards_of
   listed-as next ys zs e k f g =
       let h : length zs ≤ length ends = omega arith in
       rw (e, le-leb (length ys) (length firsts) f, le-leb (length ys) (length ends) g, fronted ys firsts f, fronted zs ends h)
 
   shards-there : (ys zs : List ℤ) → SpeltAt line at ys zs → length ys ≤ length firsts → length ys ≤ length ends
-      → shardsOf line at firsts ends ≡ listedShards ys zs firsts ends
+      → shards_of line at firsts ends ≡ listed_shards ys zs firsts ends
   shards-there ys zs s f g =
       listed-as (at + length s.word) ys zs (spelled-read line at firsts ends s.spells s.rest s.is s.over) (shards-few s.spells).0 f g
 
   -- what `all` says
-  all_told : (shardsOf line at firsts ends).listed.all ≡ true
-      → let s = (spelledOf line at firsts ends).ranged in
+  all_told : (shards_of line at firsts ends).listed.all ≡ true
+      → let s = (spelled_of line at firsts ends).ranged in
       (s.well ≡ true) × ((s.count ≤ length firsts) × (s.count ≤ length ends))
-  unfolding shardsOf
+  unfolding shards_of
   all_told e =
-      let s = (spelledOf line at firsts ends).ranged in
+      let s = (spelled_of line at firsts ends).ranged in
       let p = (and-eq-true_iff s.well (leb s.count (length firsts) && leb s.count (length ends))).0 e in
       let q = (and-eq-true_iff (leb s.count (length firsts)) (leb s.count (length ends))).0 p.1 in
       (p.0, (leb-true s.count (length firsts) q.0, leb-true s.count (length ends) q.1))
 
-  shards-back : (shardsOf line at firsts ends).listed.all ≡ true → AreShards line at firsts ends
+  shards-back : (shards_of line at firsts ends).listed.all ≡ true → AreShards line at firsts ends
   shards-back e =
       let a = all_told e in
       let t = spelled-told line at firsts ends a.0 in
       let k = (shards-few t.text).0 in
-      let count : (spelledOf line at firsts ends).ranged.count ≡ length t.ys = ap (λ z. z.ranged.count) t.read in
+      let count : (spelled_of line at firsts ends).ranged.count ≡ length t.ys = ap (λ z. z.ranged.count) t.read in
       let f : length t.ys ≤ length firsts = omega (arith, a.1.0, count) in
       let g : length t.ys ≤ length ends = omega (arith, a.1.1, count) in
       record {
         ys = t.ys;
         zs = t.zs;
-        spelt-at = record { word = t.w; rest = t.l; is = t.is; over = t.over; spells = t.text };
-        firsts-room = f;
-        ends-room = g;
+        spelt_at = record { word = t.w; rest = t.l; is = t.is; over = t.over; spells = t.text };
+        firsts_room = f;
+        ends_room = g;
         is = listed-as (at + length t.w) t.ys t.zs t.read k f g;
       }
 
-pub shards-exactly : ShardsExactly
-shards-exactly line at firsts ends = (shards-there line at firsts ends, shards-back line at firsts ends)
+pub shards_exactly : ShardsExactly
+shards_exactly line at firsts ends = (shards-there line at firsts ends, shards-back line at firsts ends)
 
 -- ---- a line that is made so asks `route`
-abbrev routeValues : (rate : ℤ) (place : ℕ) (frames : ℤ) → List Value
-routeValues y p z = value y false ∷ value (pos p) false ∷ value z false ∷ []
+abbrev route_values : (rate : ℤ) (place : ℕ) (frames : ℤ) → List Value
+route_values y p z = value y false ∷ value (pos p) false ∷ value z false ∷ []
 
 module _ (d w e : List ℕ) (y z : ℤ) (ys zs : List ℤ) (f : Numeral d y) (s : ShardsText w ys zs) (g : Numeral e z) where
   -- with what stands behind LENGTH
-  asks-route : (u r : List ℕ) → digitFirst u ≡ false → Behind (5 + 1 + length d + 1 + length w + 1 + length e) (116 ∷ []) u [] r
-      → Asks (spelt "route " ++ (d ++ (32 ∷ w ++ (32 ∷ e ++ u)))) 28 (routeValues y (7 + length d) z) r
-  unfolding rows isInRange is_over
+  asks-route : (u r : List ℕ) → digit_first u ≡ false → Behind (5 + 1 + length d + 1 + length w + 1 + length e) (116 ∷ []) u [] r
+      → Asks (spelt "route " ++ (d ++ (32 ∷ w ++ (32 ∷ e ++ u)))) 28 (route_values y (7 + length d) z) r
+  unfolding rows is_in_range is_over
   asks-route u r h b =
       let p : 5 + 1 + length d + 1 ≡ 7 + length d = omega arith in
-      subst (λ x. Asks (spelt "route " ++ (d ++ (32 ∷ w ++ (32 ∷ e ++ u)))) 28 (routeValues y x z) r) p
+      subst (λ x. Asks (spelt "route " ++ (d ++ (32 ∷ w ++ (32 ∷ e ++ u)))) 28 (route_values y x z) r) p
       (asks {n = 28} (omega arith) (number refl refl f refl refl (shards s refl (number refl refl g refl h b))))
 
   spelt-there : (u : List ℕ) → is_over u ≡ true → SpeltAt (spelt "route " ++ (d ++ (32 ∷ w ++ u))) (7 + length d) ys zs
@@ -107,29 +107,29 @@ module _ (d w e : List ℕ) (y z : ℤ) (ys zs : List ℤ) (f : Numeral d y) (s 
       }
 
 record RouteMade (line : List ℕ) (rate : ℤ) (place : ℕ) (firsts ends : List ℤ) (frames : ℤ) (t : List ℕ) : Type 0 where
-  asked-so : Asks line 28 (routeValues rate place frames) t
-  spelt-so : SpeltAt line place firsts ends
+  asked_so : Asks line 28 (route_values rate place frames) t
+  spelt_so : SpeltAt line place firsts ends
 
 route-made : {line : List ℕ} {y : ℤ} {p : ℕ} {ys zs : List ℤ} {z : ℤ} {t : List ℕ} → RouteLine line y p ys zs z t → RouteMade line y p ys zs z t
 unfolding is_over
-route-made (noText {d} {w} {e} {y} {z} {ys} {zs} f s g) = record {
-  asked-so =
-      subst (λ x. Asks (spelt "route " ++ (d ++ (32 ∷ w ++ (32 ∷ x)))) 28 (routeValues y (7 + length d) z) []) (append-nil e)
-      (asks-route d w e y z ys zs f s g [] [] refl grammar.noText);
-  spelt-so = spelt-there d w e y z ys zs f s g (32 ∷ e) refl;
+route-made (no_text {d} {w} {e} {y} {z} {ys} {zs} f s g) = record {
+  asked_so =
+      subst (λ x. Asks (spelt "route " ++ (d ++ (32 ∷ w ++ (32 ∷ x)))) 28 (route_values y (7 + length d) z) []) (append-nil e)
+      (asks-route d w e y z ys zs f s g [] [] refl grammar.no_text);
+  spelt_so = spelt-there d w e y z ys zs f s g (32 ∷ e) refl;
 }
 route-made (text {d} {w} {e} {t} {y} {z} {ys} {zs} f s g) = record {
-  asked-so = asks-route d w e y z ys zs f s g (32 ∷ t) t refl grammar.text;
-  spelt-so = spelt-there d w e y z ys zs f s g (32 ∷ e ++ (32 ∷ t)) refl;
+  asked_so = asks-route d w e y z ys zs f s g (32 ∷ t) t refl grammar.text;
+  spelt_so = spelt-there d w e y z ys zs f s g (32 ∷ e ++ (32 ∷ t)) refl;
 }
 
 route-there : (line : List ℕ) (rate : ℤ) (place : ℕ) (firsts ends : List ℤ) (frames : ℤ) (t : List ℕ) (begins : ℕ)
     → RouteLine line rate place firsts ends frames t → begins + length t ≡ length line
-    → (asked_of line ≡ askedRoute rate place frames begins) × SpeltAt line place firsts ends
-unfolding placedFrom
+    → (asked_of line ≡ asked_route rate place frames begins) × SpeltAt line place firsts ends
+unfolding placed_from
 route-there line rate place firsts ends frames t begins r e =
     let m = route-made r in
-    (understood line 28 (routeValues rate place frames) t begins m.asked-so e, m.spelt-so)
+    (understood line 28 (route_values rate place frames) t begins m.asked_so e, m.spelt_so)
 
 -- ---- and a line that asks it is made so: word by word, by the letters of its row
 record NumberFirst (at : ℕ) (letters t : List ℕ) (vs : List Value) (r : List ℕ) : Type 0 where
@@ -138,17 +138,17 @@ record NumberFirst (at : ℕ) (letters t : List ℕ) (vs : List Value) (r : List
   z : ℤ
   us : List Value
   is : t ≡ 32 ∷ d ++ l
-  values-are : vs ≡ value z false ∷ us
+  values_are : vs ≡ value z false ∷ us
   numeral : Numeral d z
   behind : Behind (at + 1 + length d) letters l us r
 
 number-first : {at x : ℕ} {letters t : List ℕ} {vs : List Value} {r : List ℕ} → Behind at (x ∷ letters) t vs r → is_last x ≡ false
-    → isShards x ≡ false → (x ≡ 64 → ⊥) → (x ≡ 102 → ⊥) → NumberFirst at letters t vs r
-number-first grammar.noText i s p q = absurd (true-false i)
+    → is_shards x ≡ false → (x ≡ 64 → ⊥) → (x ≡ 102 → ⊥) → NumberFirst at letters t vs r
+number-first grammar.no_text i s p q = absurd (true-false i)
 number-first grammar.text i s p q = absurd (true-false i)
 number-first own i s p q = absurd (true-false i)
 number-first (number {at} {kind} {letters} {d} {l} {z} {vs} {r} a b f c g h) i s p q =
-    record { d = d; l = l; z = z; us = vs; is = refl; values-are = refl; numeral = f; behind = h }
+    record { d = d; l = l; z = z; us = vs; is = refl; values_are = refl; numeral = f; behind = h }
 number-first (marked f g h) i s p q = absurd (p refl)
 number-first (unstated f g) i s p q = absurd (q refl)
 number-first (shards f g h) i s p q = absurd (true-false s)
@@ -160,24 +160,24 @@ record ShardsFirst (at : ℕ) (letters t : List ℕ) (vs : List Value) (r : List
   zs : List ℤ
   us : List Value
   is : t ≡ 32 ∷ w ++ l
-  values-are : vs ≡ value (pos (at + 1)) false ∷ us
+  values_are : vs ≡ value (pos (at + 1)) false ∷ us
   spells : ShardsText w ys zs
   behind : Behind (at + 1 + length w) letters l us r
 
 shards-first : {at x : ℕ} {letters t : List ℕ} {vs : List Value} {r : List ℕ} → Behind at (x ∷ letters) t vs r → x ≡ 115
     → ShardsFirst at letters t vs r
-shards-first grammar.noText e = absurd (omega (arith, e))
+shards-first grammar.no_text e = absurd (omega (arith, e))
 shards-first grammar.text e = absurd (omega (arith, e))
 shards-first own e = absurd (omega (arith, e))
-shards-first (number a b f c g h) e = absurd (true-false (sym (ap isShards e) ∙ b))
+shards-first (number a b f c g h) e = absurd (true-false (sym (ap is_shards e) ∙ b))
 shards-first (marked f g h) e = absurd (omega (arith, e))
 shards-first (unstated f g) e = absurd (omega (arith, e))
 shards-first (shards {at} {letters} {w} {l} {ys} {zs} {vs} {r} f g h) e =
-    record { w = w; l = l; ys = ys; zs = zs; us = vs; is = refl; values-are = refl; spells = f; behind = h }
+    record { w = w; l = l; ys = ys; zs = zs; us = vs; is = refl; values_are = refl; spells = f; behind = h }
 
 text-last : {at x : ℕ} {t : List ℕ} {vs : List Value} {r : List ℕ} → Behind at (x ∷ []) t vs r → x ≡ 116
     → (vs ≡ []) × (((t ≡ []) × (r ≡ [])) ⊎ (t ≡ 32 ∷ r))
-text-last grammar.noText e = (refl, inl (refl, refl))
+text-last grammar.no_text e = (refl, inl (refl, refl))
 text-last grammar.text e = (refl, inr refl)
 text-last own e = absurd (omega (arith, e))
 text-last (number a b f c g h) e = absurd (true-false (sym (ap is_last e) ∙ a))
@@ -214,7 +214,7 @@ letters-told t vs r b =
     by : (d w e : List ℕ) (y z : ℤ) (ys zs : List ℤ) → Numeral d y → ShardsText w ys zs → Numeral e z → (u : List ℕ)
         → ((u ≡ []) × (r ≡ [])) ⊎ (u ≡ 32 ∷ r)
         → RouteLine (spelt "route " ++ (d ++ (32 ∷ w ++ (32 ∷ e ++ u)))) y (7 + length d) ys zs z r
-    by d w e y z ys zs f s g u (inl k) = rw (k.0, k.1, append-nil e) (noText f s g)
+    by d w e y z ys zs f s g u (inl k) = rw (k.0, k.1, append-nil e) (no_text f s g)
     by d w e y z ys zs f s g u (inr k) = rw k (text f s g)
 
 route-told : {line : List ℕ} {n : ℕ} {vs : List Value} {r : List ℕ} → Asks line n vs r → n ≡ 28 → RouteTold line r
@@ -225,7 +225,7 @@ route-told (asks {n} {t} {r} {vs} h b) e =
 
 route-back : (line : List ℕ) → (asked_of line).row ≡ 28 → IsRoute line
 route-back line e =
-    let a = only-understood line (omega (arith, e)) in
+    let a = only_understood line (omega (arith, e)) in
     let t = route-told a.asks e in
     record {
       rate = t.rate;
@@ -240,5 +240,5 @@ route-back line e =
       is = (route-there line t.rate t.place t.firsts t.ends t.frames a.rest (asked_of line).rest t.made a.begins).0;
     }
 
-pub route-understood : RouteUnderstood
-route-understood line = (route-there line, route-back line)
+pub route_understood : RouteUnderstood
+route_understood line = (route-there line, route-back line)

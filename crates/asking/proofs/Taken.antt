@@ -11,17 +11,17 @@ use lib.Seq.{drop-cons, drop-drop}
 use lib.Dec.{eqb, ltb, leb}
 use lib.IntN.{ℤ, pos, nat_abs}
 use borrow.Author.Tests.{lt-ltb, le-ltb, ltb-true, eq-eqb, ne_eqb, eqb-true, not-true}
-use Rattle.numbers.specs.Sign.{isNeg}
+use Rattle.numbers.specs.Sign.{is_neg}
 use Rattle.asking.specs.declared.values.Word.{Word}
 use Rattle.asking.specs.declared.values.Word.TheVariants.{Number, Nothing}
 use Rattle.asking.specs.declared.words.Value.{Value}
 use Rattle.asking.specs.declared.words.Rest.TheVariants as rest
-use Rattle.asking.specs.Numbers.{signedAt, number_at}
-use Rattle.asking.specs.ShardWords.{shardsAt}
+use Rattle.asking.specs.Numbers.{signed_at, number_at}
+use Rattle.asking.specs.ShardWords.{shards_at}
 use Rattle.laws.specs.Spelt.{spelt}
-use Rattle.asking.specs.Table.{word_of, is_plain, wordFirst, is_over, rowCount, rowNamed, kind_of}
-use Rattle.asking.specs.Asked.{value, isPosition, isUnstated, isMarked, value_at, is_room, isInRange, allowed, word_at, is_last, restAt}
-use Rattle.asking.specs.Asked.{unknown, noValues, endedAt, wordThen, wordsFrom, asked_of}
+use Rattle.asking.specs.Table.{word_of, is_plain, word_first, is_over, row_count, row_named, kind_of}
+use Rattle.asking.specs.Asked.{value, is_position, is_unstated, is_marked, value_at, is_room, is_in_range, allowed, word_at, is_last, rest_at}
+use Rattle.asking.specs.Asked.{unknown, no_values, ended_at, word_then, words_from, asked_of}
 use Rattle.asking.proofs.Standing.{word-front}
 
 -- ---- the loop of `word_end`: no space stands before i
@@ -61,10 +61,10 @@ word-first-by : (b : ℕ) (l : List ℕ) (t : Bool) → take (length (word_of l)
 word-first-by b l true e = refl
 word-first-by b l false e = ap (λ z. b ∷ z) e
 
-pub word_first : (line : List ℕ) → take (length (word_of line)) line ≡ word_of line
+pub word_first_lem : (line : List ℕ) → take (length (word_of line)) line ≡ word_of line
 unfolding word_of
-word_first [] = refl
-word_first (b ∷ l) = word-first-by b l (eqb b 32) (word_first l)
+word_first_lem [] = refl
+word_first_lem (b ∷ l) = word-first-by b l (eqb b 32) (word_first_lem l)
 
 word-plain-by : (b : ℕ) (l : List ℕ) (t : Bool) → eqb b 32 ≡ t → is_plain (word_of l) ≡ true → is_plain (cond t [] (b ∷ word_of l)) ≡ true
 unfolding is_plain
@@ -78,21 +78,21 @@ word-plain (b ∷ l) = word-plain-by b l (eqb b 32) refl (word-plain l)
 
 -- ---- a word by its letter
 module _ (kind : ℕ) (z : ℤ) where
-  pub allowed-place : kind ≡ 112 → not (isNeg z) ≡ isInRange kind z
-  unfolding isInRange
+  pub allowed-place : kind ≡ 112 → not (is_neg z) ≡ is_in_range kind z
+  unfolding is_in_range
   allowed-place e = rw (eq-eqb kind 112 e)
 
-  pub allowed-room : (kind ≡ 112 → ⊥) → kind ≡ 109 → is_room 128 z ≡ isInRange kind z
-  unfolding isInRange
+  pub allowed-room : (kind ≡ 112 → ⊥) → kind ≡ 109 → is_room 128 z ≡ is_in_range kind z
+  unfolding is_in_range
   allowed-room e f = rw (ne_eqb kind 112 e, eq-eqb kind 109 f)
 
   module _ (e : kind ≡ 112 → ⊥) (f : kind ≡ 109 → ⊥) where
-    pub allowed-wide : kind ≡ 119 → is_room 1024 z ≡ isInRange kind z
-    unfolding isInRange
+    pub allowed-wide : kind ≡ 119 → is_room 1024 z ≡ is_in_range kind z
+    unfolding is_in_range
     allowed-wide g = rw (ne_eqb kind 112 e, ne_eqb kind 109 f, eq-eqb kind 119 g)
 
-    pub allowed-any : (kind ≡ 119 → ⊥) → true ≡ isInRange kind z
-    unfolding isInRange
+    pub allowed-any : (kind ≡ 119 → ⊥) → true ≡ is_in_range kind z
+    unfolding is_in_range
     allowed-any g = rw (ne_eqb kind 112 e, ne_eqb kind 109 f, ne_eqb kind 119 g)
 
 -- ---- two tests
@@ -111,81 +111,81 @@ over-past line at h = rw (drop_of_length-le line {i = at} h)
 
 -- ---- the mark of a position
 module _ (kind : ℕ) (l : List ℕ) where
-  pub position-none : (kind ≡ 64 → ⊥) → false ≡ isPosition kind l
-  unfolding isPosition
+  pub position-none : (kind ≡ 64 → ⊥) → false ≡ is_position kind l
+  unfolding is_position
   position-none e = rw (ne_eqb kind 64 e)
 
-  pub position-by : kind ≡ 64 → wordFirst (spelt " @") l ≡ isPosition kind l
-  unfolding isPosition
+  pub position-by : kind ≡ 64 → word_first (spelt " @") l ≡ is_position kind l
+  unfolding is_position
   position-by e = rw (eq-eqb kind 64 e)
 
   -- what it tells: the letter, and the line's next two bytes
-  pub position-told : isPosition kind l ≡ true → (kind ≡ 64) × (l ≡ 32 ∷ 64 ∷ drop 2 l)
-  unfolding isPosition
+  pub position-told : is_position kind l ≡ true → (kind ≡ 64) × (l ≡ 32 ∷ 64 ∷ drop 2 l)
+  unfolding is_position
   position-told e =
-      let q = (and-eq-true_iff (eqb kind 64) (wordFirst (spelt " @") l)).0 e in
+      let q = (and-eq-true_iff (eqb kind 64) (word_first (spelt " @") l)).0 e in
       (eqb-true kind 64 q.0, word-front (spelt " @") l q.1)
 
 -- ---- a film format that is not stated
 module _ (kind : ℕ) (l : List ℕ) where
-  pub unstated-none : (kind ≡ 102 → ⊥) → false ≡ isUnstated kind l
-  unfolding isUnstated
+  pub unstated-none : (kind ≡ 102 → ⊥) → false ≡ is_unstated kind l
+  unfolding is_unstated
   unstated-none e = rw (ne_eqb kind 102 e)
 
-  pub unstated-apart : wordFirst (spelt " -") l ≡ false → false ≡ isUnstated kind l
-  unfolding isUnstated
+  pub unstated-apart : word_first (spelt " -") l ≡ false → false ≡ is_unstated kind l
+  unfolding is_unstated
   unstated-apart f = rw f (sym (and-false (eqb kind 102)))
 
   -- what it tells: the letter, the line's next two bytes, and that the word is over behind them
-  pub unstated-told : isUnstated kind l ≡ true → (kind ≡ 102) × ((l ≡ 32 ∷ 45 ∷ drop 2 l) × (is_over (drop 2 l) ≡ true))
-  unfolding isUnstated
+  pub unstated-told : is_unstated kind l ≡ true → (kind ≡ 102) × ((l ≡ 32 ∷ 45 ∷ drop 2 l) × (is_over (drop 2 l) ≡ true))
+  unfolding is_unstated
   unstated-told e =
-      let q = (and-eq-true_iff (eqb kind 102) (wordFirst (spelt " -") l && is_over (drop 2 l))).0 e in
-      let s = (and-eq-true_iff (wordFirst (spelt " -") l) (is_over (drop 2 l))).0 q.1 in
+      let q = (and-eq-true_iff (eqb kind 102) (word_first (spelt " -") l && is_over (drop 2 l))).0 e in
+      let s = (and-eq-true_iff (word_first (spelt " -") l) (is_over (drop 2 l))).0 q.1 in
       (eqb-true kind 102 q.0, (word-front (spelt " -") l s.0, s.1))
 
 -- and by the place behind `-`
-pub unstated-by : (kind : ℕ) (line : List ℕ) (at : ℕ) → kind ≡ 102 → wordFirst (spelt " -") (drop at line) ≡ true
-    → is_over (drop (at + 2) line) ≡ isUnstated kind (drop at line)
-unfolding isUnstated
+pub unstated-by : (kind : ℕ) (line : List ℕ) (at : ℕ) → kind ≡ 102 → word_first (spelt " -") (drop at line) ≡ true
+    → is_over (drop (at + 2) line) ≡ is_unstated kind (drop at line)
+unfolding is_unstated
 unstated-by kind line at e f = rw (eq-eqb kind 102 e, f, drop-drop 2 at line)
 
 -- ---- both are within the line
 module _ (kind : ℕ) (line : List ℕ) (at : ℕ) where
-  pub position-within : isPosition kind (drop at line) ≡ true → at + 2 ≤ length line
-  position-within e = omega (arith, ap length (position-told kind (drop at line) e).1, length-drop at line)
+  pub position_within : is_position kind (drop at line) ≡ true → at + 2 ≤ length line
+  position_within e = omega (arith, ap length (position-told kind (drop at line) e).1, length-drop at line)
 
-  pub unstated-within : isUnstated kind (drop at line) ≡ true → at + 2 ≤ length line
+  pub unstated-within : is_unstated kind (drop at line) ≡ true → at + 2 ≤ length line
   unstated-within e = omega (arith, ap length (unstated-told kind (drop at line) e).1.0, length-drop at line)
 
 -- ---- one of the two
 module _ (kind : ℕ) (l : List ℕ) where
-  pub marked-unstated : isUnstated kind l ≡ true → true ≡ isMarked kind l
-  unfolding isMarked
+  pub marked-unstated : is_unstated kind l ≡ true → true ≡ is_marked kind l
+  unfolding is_marked
   marked-unstated e = rw e
 
-  pub marked-stated : isUnstated kind l ≡ false → isPosition kind l ≡ isMarked kind l
-  unfolding isMarked
+  pub marked-stated : is_unstated kind l ≡ false → is_position kind l ≡ is_marked kind l
+  unfolding is_marked
   marked-stated e = rw e
 
 -- ---- the number there
 module _ (kind at : ℕ) (l : List ℕ) where
-  pub value-unstated : isUnstated kind l ≡ true → value_at kind at l ≡ Number (pos 0) (at + 2)
+  pub value-unstated : is_unstated kind l ≡ true → value_at kind at l ≡ Number (pos 0) (at + 2)
   unfolding value_at
   value-unstated e = rw e
 
-  module _ (e : isUnstated kind l ≡ false) where
-    pub value-marked : isPosition kind l ≡ true → value_at kind at l ≡ signedAt (at + 2) (drop 2 l)
+  module _ (e : is_unstated kind l ≡ false) where
+    pub value-marked : is_position kind l ≡ true → value_at kind at l ≡ signed_at (at + 2) (drop 2 l)
     unfolding value_at
     value-marked f = rw (e, f)
 
-    pub value-plain : isPosition kind l ≡ false → value_at kind at l ≡ number_at at l
+    pub value-plain : is_position kind l ≡ false → value_at kind at l ≡ number_at at l
     unfolding value_at
     value-plain f = rw (e, f)
 
 -- ---- what stands there, by its letter
 module _ (kind : ℕ) (line : List ℕ) (at : ℕ) where
-  pub word-shards : kind ≡ 115 → shardsAt line at ≡ word_at kind line at
+  pub word-shards : kind ≡ 115 → shards_at line at ≡ word_at kind line at
   unfolding word_at
   word-shards e = rw (eq-eqb kind 115 e)
 
@@ -194,32 +194,32 @@ module _ (kind : ℕ) (line : List ℕ) (at : ℕ) where
   word_number e = rw (ne_eqb kind 115 e)
 
 -- shards have no mark
-pub shards-unmarked : (kind : ℕ) (l : List ℕ) → kind ≡ 115 → isMarked kind l ≡ false
-unfolding isMarked isUnstated isPosition
+pub shards-unmarked : (kind : ℕ) (l : List ℕ) → kind ≡ 115 → is_marked kind l ≡ false
+unfolding is_marked is_unstated is_position
 shards-unmarked kind l e = rw e
 
 -- ---- where the rest begins
 module _ (kind : ℕ) (line : List ℕ) (at : ℕ) where
-  pub rest_ended : length line ≤ at → rest.At at ≡ restAt kind at (drop at line)
-  unfolding restAt
+  pub rest_ended : length line ≤ at → rest.At at ≡ rest_at kind at (drop at line)
+  unfolding rest_at
   rest_ended h = rw (drop_of_length-le line {i = at} h)
 
   module _ (h : at < length line) where
-    pub rest-own : kind ≡ 42 → rest.At at ≡ restAt kind at (drop at line)
-    unfolding restAt
+    pub rest-own : kind ≡ 42 → rest.At at ≡ rest_at kind at (drop at line)
+    unfolding rest_at
     rest-own e = rw (drop-cons line at 0 h, eq-eqb kind 42 e)
 
     module _ (e : kind ≡ 42 → ⊥) where
-      pub rest-none : (kind ≡ 116 → ⊥) → rest.Other ≡ restAt kind at (drop at line)
-      unfolding restAt
+      pub rest-none : (kind ≡ 116 → ⊥) → rest.Other ≡ rest_at kind at (drop at line)
+      unfolding rest_at
       rest-none f = rw (drop-cons line at 0 h, ne_eqb kind 42 e, ne_eqb kind 116 f)
 
-      pub rest-other : (get_or line at 0 ≡ 32 → ⊥) → rest.Other ≡ restAt kind at (drop at line)
-      unfolding restAt
+      pub rest-other : (get_or line at 0 ≡ 32 → ⊥) → rest.Other ≡ rest_at kind at (drop at line)
+      unfolding rest_at
       rest-other f = rw (drop-cons line at 0 h, ne_eqb kind 42 e, ne_eqb (get_or line at 0) 32 f, and-false (eqb kind 116))
 
-      pub rest-text : kind ≡ 116 → get_or line at 0 ≡ 32 → rest.At (at + 1) ≡ restAt kind at (drop at line)
-      unfolding restAt
+      pub rest-text : kind ≡ 116 → get_or line at 0 ≡ 32 → rest.At (at + 1) ≡ rest_at kind at (drop at line)
+      unfolding rest_at
       rest-text f g = rw (drop-cons line at 0 h, ne_eqb kind 42 e, eq-eqb kind 116 f, eq-eqb (get_or line at 0) 32 g)
 
 -- ---- a letter that is a number's, and one of the first five
@@ -241,9 +241,9 @@ module _ (k kind : ℕ) where
 pub record Going (row : ℕ) (line : List ℕ) (from : ℕ) (values : List Value) (at k : ℕ) : Type 0 where
   pub n : ℕ
   pub left : k + n ≡ 5
-  pub same : wordsFrom 5 row line from 0 noValues ≡ wordsFrom n row line at k values
+  pub same : words_from 5 row line from 0 no_values ≡ words_from n row line at k values
 
-pub going_start : (row : ℕ) (line : List ℕ) (from : ℕ) → Going row line from noValues from 0
+pub going_start : (row : ℕ) (line : List ℕ) (from : ℕ) → Going row line from no_values from 0
 going_start row line from = record { n = 5; left = refl; same = refl }
 
 module _ (row : ℕ) (line : List ℕ) (from : ℕ) (values : List Value) (at k : ℕ) (s : Going row line from values at k) where
@@ -252,10 +252,10 @@ module _ (row : ℕ) (line : List ℕ) (from : ℕ) (values : List Value) (at k 
 
   module _ (t : Bool) (e : t ≡ (ltb k 5 && not (is_last (kind_of row k)))) (f : t ≡ true) where
     more : (n : ℕ) → k + n ≡ 5
-        → wordsFrom n row line at k values
-        ≡ wordThen (word_at (kind_of row k) line at)
-        (λ z next. wordsFrom (n - 1) row line next (k + 1) (set values k (value z (isMarked (kind_of row k) (drop at line)))))
-    unfolding wordsFrom
+        → words_from n row line at k values
+        ≡ word_then (word_at (kind_of row k) line at)
+        (λ z next. words_from (n - 1) row line next (k + 1) (set values k (value z (is_marked (kind_of row k) (drop at line)))))
+    unfolding words_from
     more zero l = absurd (omega (arith, going-within t e f))
     more (suc n) l =
         let m : suc n - 1 ≡ n = omega arith in
@@ -263,11 +263,11 @@ module _ (row : ℕ) (line : List ℕ) (from : ℕ) (values : List Value) (at k 
 
     -- by the word there
     module _ (kind : ℕ) (i : kind ≡ kind_of row k) (w : Word) (j : w ≡ word_at kind line at) where
-      pub going-none : w ≡ Nothing → unknown ≡ wordsFrom 5 row line from 0 noValues
+      pub going-none : w ≡ Nothing → unknown ≡ words_from 5 row line from 0 no_values
       going-none g = sym (s.same ∙ more s.n s.left ∙ rw (← i, ← j, g))
 
       -- and by the letter that its mark was looked for with
-      pub going-turn : (z : ℤ) (next : ℕ) (b : Bool) (mark : ℕ) → w ≡ Number z next → b ≡ isMarked mark (drop at line) → mark ≡ kind
+      pub going-turn : (z : ℤ) (next : ℕ) (b : Bool) (mark : ℕ) → w ≡ Number z next → b ≡ is_marked mark (drop at line) → mark ≡ kind
           → Going row line from (set values k (value z b)) next (k + 1)
       going-turn z next b mark g h m = record {
         n = s.n - 1;
@@ -276,11 +276,11 @@ module _ (row : ℕ) (line : List ℕ) (from : ℕ) (values : List Value) (at k 
       }
 
   pub going-ended : (t : Bool) → t ≡ (ltb k 5 && not (is_last (kind_of row k))) → t ≡ false
-      → endedAt row line at k values ≡ wordsFrom 5 row line from 0 noValues
-  unfolding wordsFrom
+      → ended_at row line at k values ≡ words_from 5 row line from 0 no_values
+  unfolding words_from
   going-ended t e f = sym (s.same ∙ by s.n s.left (is_last (kind_of row k)) refl)
     where
-      by : (n : ℕ) → k + n ≡ 5 → (x : Bool) → is_last (kind_of row k) ≡ x → wordsFrom n row line at k values ≡ endedAt row line at k values
+      by : (n : ℕ) → k + n ≡ 5 → (x : Bool) → is_last (kind_of row k) ≡ x → words_from n row line at k values ≡ ended_at row line at k values
       by zero l x g = refl
       by (suc n) l true g = rw g
       by (suc n) l false g =
@@ -289,32 +289,32 @@ module _ (row : ℕ) (line : List ℕ) (from : ℕ) (values : List Value) (at k 
 
 -- ---- a room
 module _ (most : ℕ) (z : ℤ) where
-  pub room-below : isNeg z ≡ true → false ≡ is_room most z
+  pub room-below : is_neg z ≡ true → false ≡ is_room most z
   room-below e = rw e
 
-  pub room-not : (m : ℕ) → isNeg z ≡ false → m ≡ nat_abs z → leb m most ≡ is_room most z
+  pub room-not : (m : ℕ) → is_neg z ≡ false → m ≡ nat_abs z → leb m most ≡ is_room most z
   room-not m e f = rw (e, f)
 
 -- ---- a number where its letter allows it
-pub allowed-yes : (kind : ℕ) (z : ℤ) (next : ℕ) → isInRange kind z ≡ true → allowed kind (Number z next) ≡ Number z next
+pub allowed-yes : (kind : ℕ) (z : ℤ) (next : ℕ) → is_in_range kind z ≡ true → allowed kind (Number z next) ≡ Number z next
 allowed-yes kind z next e = rw e
 
-pub allowed-no : (kind : ℕ) (z : ℤ) (next : ℕ) → isInRange kind z ≡ false → allowed kind (Number z next) ≡ Nothing
+pub allowed-no : (kind : ℕ) (z : ℤ) (next : ℕ) → is_in_range kind z ≡ false → allowed kind (Number z next) ≡ Nothing
 allowed-no kind z next e = rw e
 
 -- ---- the whole line
 module _ (line : List ℕ) where
   -- the part that `word_end` cuts off is the word
   pub word-part : (n : ℕ) → n ≡ length (word_of line) → take (n - 0) line ≡ word_of line
-  word-part n e = let f : n - 0 ≡ length (word_of line) = omega arith in ap (λ k. take k line) f ∙ word_first line
+  word-part n e = let f : n - 0 ≡ length (word_of line) = omega arith in ap (λ k. take k line) f ∙ word_first_lem line
 
   pub part-plain : (n : ℕ) → n ≡ length (word_of line) → is_plain (take (n - 0) line) ≡ true
   part-plain n e = rw (word-part n e) (word-plain line)
 
-  pub asked-known : (row : ℕ) → row ≡ rowNamed (word_of line) → row < rowCount → wordsFrom 5 row line (length (word_of line)) 0 noValues ≡ asked_of line
+  pub asked-known : (row : ℕ) → row ≡ row_named (word_of line) → row < row_count → words_from 5 row line (length (word_of line)) 0 no_values ≡ asked_of line
   unfolding asked_of
-  asked-known row e h = rw (← e, lt-ltb row rowCount h)
+  asked-known row e h = rw (← e, lt-ltb row row_count h)
 
-  pub asked-unknown : (row : ℕ) → row ≡ rowNamed (word_of line) → rowCount ≤ row → unknown ≡ asked_of line
+  pub asked-unknown : (row : ℕ) → row ≡ row_named (word_of line) → row_count ≤ row → unknown ≡ asked_of line
   unfolding asked_of
-  asked-unknown row e h = rw (← e, le-ltb row rowCount h)
+  asked-unknown row e h = rw (← e, le-ltb row row_count h)

@@ -14,11 +14,11 @@ use Rattle.laws.specs.Every.{at_every}
 use Rattle.asking.specs.declared.values.Word.TheVariants.{Number}
 use Rattle.asking.specs.declared.words.Value.{Value}
 use Rattle.asking.specs.declared.words.Rest.TheVariants as rest
-use Rattle.asking.specs.Table.{Row, row, rows, rowCount, row_at, word_of, is_plain, same, is_over, rowFrom, rowNamed, kind_of}
-use Rattle.asking.specs.Asked.{value, isMarked, value_at, isInRange, isShards, word_at, is_last, restAt}
-use Rattle.asking.specs.Asked.{asked, noValues, endedAt, wordThen, wordsFrom, asked_of}
-use Rattle.asking.specs.Grammar.{Behind, ended, noText, text, own, number, marked, unstated, shards, Asks, asks}
-use Rattle.asking.specs.Statements.{placedFrom}
+use Rattle.asking.specs.Table.{Row, row, rows, row_count, row_at, word_of, is_plain, same, is_over, row_from, row_named, kind_of}
+use Rattle.asking.specs.Asked.{value, is_marked, value_at, is_in_range, is_shards, word_at, is_last, rest_at}
+use Rattle.asking.specs.Asked.{asked, no_values, ended_at, word_then, words_from, asked_of}
+use Rattle.asking.specs.Grammar.{Behind, ended, no_text, text, own, number, marked, unstated, shards, Asks, asks}
+use Rattle.asking.specs.Statements.{placed_from}
 use Rattle.asking.proofs.Numerals.{number-unmarked, plain-taken, number-left, marked-here, marked-taken, signed-left, unstated-here}
 use Rattle.asking.proofs.Named.{name-plain}
 use Rattle.asking.proofs.Taken.{marked-unstated, value-unstated, word-shards, shards-unmarked}
@@ -47,27 +47,27 @@ numbers (k ∷ l) = cond (is_last k) 0 (suc (numbers l))
 
 -- ---- the two ways on
 module _ (n : ℕ) (line : List ℕ) (at k : ℕ) (values : List Value) where
-  pub words_last : (m : ℕ) → is_last (kind_of n k) ≡ true → wordsFrom m n line at k values ≡ endedAt n line at k values
-  unfolding wordsFrom
+  pub words_last : (m : ℕ) → is_last (kind_of n k) ≡ true → words_from m n line at k values ≡ ended_at n line at k values
+  unfolding words_from
   words_last zero e = refl
   words_last (suc m) e = rw e
 
   pub words-number : (m : ℕ) → is_last (kind_of n k) ≡ false
-      → wordsFrom (suc m) n line at k values
-      ≡ wordThen (word_at (kind_of n k) line at)
-      (λ z next. wordsFrom m n line next (k + 1) (set values k (value z (isMarked (kind_of n k) (drop at line)))))
-  unfolding wordsFrom
+      → words_from (suc m) n line at k values
+      ≡ word_then (word_at (kind_of n k) line at)
+      (λ z next. words_from m n line next (k + 1) (set values k (value z (is_marked (kind_of n k) (drop at line)))))
+  unfolding words_from
   words-number m e = rw e
 
-  ended_is : (kind : ℕ) (t : List ℕ) (begins : ℕ) → kind_of n k ≡ kind → drop at line ≡ t → restAt kind at t ≡ rest.At begins
-      → endedAt n line at k values ≡ asked n values begins
-  unfolding endedAt
+  ended_is : (kind : ℕ) (t : List ℕ) (begins : ℕ) → kind_of n k ≡ kind → drop at line ≡ t → rest_at kind at t ≡ rest.At begins
+      → ended_at n line at k values ≡ asked n values begins
+  unfolding ended_at
   ended_is kind t begins p q e = rw (p, q, e)
 
 -- ---- what the grammar has behind a word is understood so
 module _ (n : ℕ) (line : List ℕ) where
   last-is : (m at k begins kind : ℕ) (values : List Value) (t : List ℕ) → is_last kind ≡ true → kind_of n k ≡ kind → drop at line ≡ t
-      → restAt kind at t ≡ rest.At begins → wordsFrom m n line at k values ≡ asked n values begins
+      → rest_at kind at t ≡ rest.At begins → words_from m n line at k values ≡ asked n values begins
   last-is m at k begins kind values t i p q e =
       words_last n line at k values m (ap is_last p ∙ i) ∙ ended_is n line at k values kind t begins p q e
 
@@ -77,26 +77,26 @@ module _ (n : ℕ) (line : List ℕ) where
   place_is at begins t r q w b = omega (arith, b, ap length q, length-drop at line)
 
   -- a number by its letter
-  number_word : (at kind : ℕ) (t : List ℕ) (z : ℤ) (next : ℕ) → isShards kind ≡ false → isInRange kind z ≡ true → drop at line ≡ t
+  number_word : (at kind : ℕ) (t : List ℕ) (z : ℤ) (next : ℕ) → is_shards kind ≡ false → is_in_range kind z ≡ true → drop at line ≡ t
       → value_at kind at t ≡ Number z next → word_at kind line at ≡ Number z next
   unfolding word_at
   number_word at kind t z next s g q h = rw (s, q, h, g)
 
   -- what stands there, with its mark, is put into its place
   one-is : (m at k kind : ℕ) (values : List Value) (t : List ℕ) (b : Bool) (z : ℤ) (next : ℕ) → kind_of n k ≡ kind → is_last kind ≡ false
-      → drop at line ≡ t → isMarked kind t ≡ b → word_at kind line at ≡ Number z next
-      → wordsFrom (suc m) n line at k values ≡ wordsFrom m n line next (k + 1) (set values k (value z b))
+      → drop at line ≡ t → is_marked kind t ≡ b → word_at kind line at ≡ Number z next
+      → words_from (suc m) n line at k values ≡ words_from m n line next (k + 1) (set values k (value z b))
   one-is m at k kind values t b z next p e q f h = words-number n line at k values m (ap is_last p ∙ e) ∙ rw (p, q, f, h)
 
   behind-is : {at : ℕ} {letters t : List ℕ} {vs : List Value} {r : List ℕ} → Behind at letters t vs r
       → (m k begins : ℕ) (values : List Value) → drop k (row_at n).letters ≡ letters → drop at line ≡ t → at ≤ length line → numbers letters ≤ m
       → begins + length r ≡ length line
-      → wordsFrom m n line at k values ≡ asked n (placedFrom k values vs) begins
-  unfolding restAt placedFrom numbers isInRange
+      → words_from m n line at k values ≡ asked n (placed_from k values vs) begins
+  unfolding rest_at placed_from numbers is_in_range
   behind-is (ended {at}) m k begins values p q w c b =
       let e : at ≡ begins = omega (arith, place_is at begins [] [] q w b) in
       last-is m at k begins 32 values [] refl (letter-none (row_at n).letters k p) q (ap rest.At e)
-  behind-is (noText {at}) m k begins values p q w c b =
+  behind-is (no_text {at}) m k begins values p q w c b =
       let e : at ≡ begins = omega (arith, place_is at begins [] [] q w b) in
       last-is m at k begins 116 values [] refl (letter-here (row_at n).letters k 116 [] p) q (ap rest.At e)
   behind-is (text {at} {t}) m k begins values p q w c b =
@@ -106,7 +106,7 @@ module _ (n : ℕ) (line : List ℕ) where
       let e : at ≡ begins = omega (arith, place_is at begins t t q w b) in
       last-is m at k begins 42 values t refl (letter-here (row_at n).letters k 42 [] p) q (own_is at begins t e)
     where
-      own_is : (at begins : ℕ) (t : List ℕ) → at ≡ begins → restAt 42 at t ≡ rest.At begins
+      own_is : (at begins : ℕ) (t : List ℕ) → at ≡ begins → rest_at 42 at t ≡ rest.At begins
       own_is at begins [] e = ap rest.At e
       own_is at begins (x ∷ t) e = ap rest.At e
   behind-is (number {at} {kind} {letters} {d} {l} {z} {vs} {r} e s f g h i) zero k begins values p q w c b = absurd (omega (arith, rw e at c))
@@ -139,51 +139,51 @@ module _ (n : ℕ) (line : List ℕ) where
       (number-left line at w l q) (omega (arith, long, length-drop at line)) (omega (arith, c)) b
 
 -- ---- the rows: the first row with a row's word is that row; a word is followed by a space or the line's end; five numbers at most
-unfoldable pub isFormed : List ℕ → Bool
-isFormed [] = true
-isFormed (k ∷ []) = not (eqb k 32)
-isFormed (k ∷ x ∷ l) = not (is_last k) && isFormed (x ∷ l)
+unfoldable pub is_formed : List ℕ → Bool
+is_formed [] = true
+is_formed (k ∷ []) = not (eqb k 32)
+is_formed (k ∷ x ∷ l) = not (is_last k) && is_formed (x ∷ l)
 
 is_row : Row → Bool
-is_row r = isFormed r.letters && (leb (numbers r.letters) 5 && not (eqb (get_or r.letters 0 32) 42))
+is_row r = is_formed r.letters && (leb (numbers r.letters) 5 && not (eqb (get_or r.letters 0 32) 42))
 
-areOwn : ℕ → List Row → Bool
-areOwn i [] = true
-areOwn i (r ∷ rs) = eqb (rowNamed r.name) i && areOwn (suc i) rs
+are_own : ℕ → List Row → Bool
+are_own i [] = true
+are_own i (r ∷ rs) = eqb (row_named r.name) i && are_own (suc i) rs
 
-own_at : (rs : List Row) (i n : ℕ) → areOwn i rs ≡ true → n < length rs → rowNamed (get_or rs n (row "" "")).name ≡ i + n
-unfolding areOwn
+own_at : (rs : List Row) (i n : ℕ) → are_own i rs ≡ true → n < length rs → row_named (get_or rs n (row "" "")).name ≡ i + n
+unfolding are_own
 own_at [] i n e h = absurd (omega arith)
-own_at (r ∷ rs) i zero e h = eqb-true (rowNamed r.name) i ((and-eq-true_iff _ _).0 e).0 ∙ omega arith
-own_at (r ∷ rs) i (suc n) e h = own_at rs (suc i) n ((and-eq-true_iff (eqb (rowNamed r.name) i) _).0 e).1 (omega arith) ∙ omega arith
+own_at (r ∷ rs) i zero e h = eqb-true (row_named r.name) i ((and-eq-true_iff _ _).0 e).0 ∙ omega arith
+own_at (r ∷ rs) i (suc n) e h = own_at rs (suc i) n ((and-eq-true_iff (eqb (row_named r.name) i) _).0 e).1 (omega arith) ∙ omega arith
 
-module _ (n : ℕ) (h : n < rowCount) where
-  row-own : rowNamed (row_at n).name ≡ n
-  unfolding rows areOwn rowFrom same
+module _ (n : ℕ) (h : n < row_count) where
+  row-own : row_named (row_at n).name ≡ n
+  unfolding rows are_own row_from same
   row-own = own_at rows 0 n refl h ∙ omega arith
 
   row_is : is_row (row_at n) ≡ true
-  unfolding rows is_row isFormed numbers
+  unfolding rows is_row is_formed numbers
   row_is = at_every is_row rows (row "" "") refl n h
 
-  pub row-formed : isFormed (row_at n).letters ≡ true
+  pub row-formed : is_formed (row_at n).letters ≡ true
   unfolding is_row
-  row-formed = ((and-eq-true_iff (isFormed (row_at n).letters) _).0 row_is).0
+  row-formed = ((and-eq-true_iff (is_formed (row_at n).letters) _).0 row_is).0
 
   pub row-five : numbers (row_at n).letters ≤ 5
   unfolding is_row
-  row-five = leb-true _ _ ((and-eq-true_iff (leb (numbers (row_at n).letters) 5) _).0 ((and-eq-true_iff (isFormed (row_at n).letters) _).0 row_is).1).0
+  row-five = leb-true _ _ ((and-eq-true_iff (leb (numbers (row_at n).letters) 5) _).0 ((and-eq-true_iff (is_formed (row_at n).letters) _).0 row_is).1).0
 
   row_opens : get_or (row_at n).letters 0 32 ≡ 42 → ⊥
   unfolding is_row
   row_opens =
-      eqb-false _ _ (not-true _ ((and-eq-true_iff (leb (numbers (row_at n).letters) 5) _).0 ((and-eq-true_iff (isFormed (row_at n).letters) _).0 row_is).1).1)
+      eqb-false _ _ (not-true _ ((and-eq-true_iff (leb (numbers (row_at n).letters) 5) _).0 ((and-eq-true_iff (is_formed (row_at n).letters) _).0 row_is).1).1)
 
 -- ---- a word and what stands behind it
 behind-opens : {at : ℕ} {letters t : List ℕ} {vs : List Value} {r : List ℕ} → Behind at letters t vs r → (get_or letters 0 32 ≡ 42 → ⊥) → is_over t ≡ true
 unfolding is_over
 behind-opens ended h = refl
-behind-opens noText h = refl
+behind-opens no_text h = refl
 behind-opens text h = refl
 behind-opens own h = absurd (h refl)
 behind-opens (number e s f g i j) h = refl
@@ -200,11 +200,11 @@ word-is (b ∷ name) t p o =
     rw (not-true (eqb b 32) q.0, word-is name t q.1 o)
 
 pub understood : (line : List ℕ) (n : ℕ) (vs : List Value) (r : List ℕ) (begins : ℕ) → Asks line n vs r → begins + length r ≡ length line
-    → asked_of line ≡ asked n (placedFrom 0 noValues vs) begins
+    → asked_of line ≡ asked n (placed_from 0 no_values vs) begins
 unfolding asked_of
 understood _ _ _ _ begins (asks {n} {t} {r} {vs} h b) e =
     let name = (row_at n).name in
     let word : word_of (name ++ t) ≡ name = word-is name t (name-plain n h) (behind-opens b (row_opens n h)) in
-    let found : rowNamed (word_of (name ++ t)) ≡ n = ap rowNamed word ∙ row-own n h in
-    rw (found, lt-ltb n rowCount h, word)
-    (behind-is n (name ++ t) b 5 0 begins noValues refl (drop-append_seam name t) (omega (arith, length-append name t)) (row-five n h) e)
+    let found : row_named (word_of (name ++ t)) ≡ n = ap row_named word ∙ row-own n h in
+    rw (found, lt-ltb n row_count h, word)
+    (behind-is n (name ++ t) b 5 0 begins no_values refl (drop-append_seam name t) (omega (arith, length-append name t)) (row-five n h) e)

@@ -1,29 +1,29 @@
 -- A command's numbers as the operations take them (docs/ASK.md), and numbers listed to the end of a line.
 -- Assumes nothing.
 use Rattle.std.specs.Prelude.{ℕ, zero, suc, ◌+◌, List, leb, ℤ, length, drop, set, get_or}
-use Rattle.numbers.specs.Sign.{upFrom}
+use Rattle.numbers.specs.Sign.{up_from}
 use Rattle.asking.specs.declared.values.Word.{Word}
 use Rattle.asking.specs.declared.values.Word.TheVariants.{Number, Nothing}
 use Rattle.asking.specs.declared.words.Value.{Value}
 use Rattle.asking.specs.declared.numbered.Numbers.{Numbers}
 use Rattle.asking.specs.declared.numbered.Listed.{Listed}
 use Rattle.asking.specs.Numbers.{number_at}
-use Rattle.asking.specs.Asked.{noValue}
+use Rattle.asking.specs.Asked.{no_value}
 
 -- each of the five as it is given, or as one from 0 on; and whether each of the first three is marked
-abbrev pub numbersOf : List Value → Numbers
-numbersOf v = record {
-  up1 = upFrom (get_or v 0 noValue).number;
-  n2 = (get_or v 1 noValue).number;
-  up2 = upFrom (get_or v 1 noValue).number;
-  n3 = (get_or v 2 noValue).number;
-  up3 = upFrom (get_or v 2 noValue).number;
-  n4 = (get_or v 3 noValue).number;
-  up4 = upFrom (get_or v 3 noValue).number;
-  up5 = upFrom (get_or v 4 noValue).number;
-  at1 = (get_or v 0 noValue).marked;
-  at2 = (get_or v 1 noValue).marked;
-  at3 = (get_or v 2 noValue).marked;
+abbrev pub numbers_of : List Value → Numbers
+numbers_of v = record {
+  up1 = up_from (get_or v 0 no_value).number;
+  n2 = (get_or v 1 no_value).number;
+  up2 = up_from (get_or v 1 no_value).number;
+  n3 = (get_or v 2 no_value).number;
+  up3 = up_from (get_or v 2 no_value).number;
+  n4 = (get_or v 3 no_value).number;
+  up4 = up_from (get_or v 3 no_value).number;
+  up5 = up_from (get_or v 4 no_value).number;
+  at1 = (get_or v 0 no_value).marked;
+  at2 = (get_or v 1 no_value).marked;
+  at3 = (get_or v 2 no_value).marked;
 }
 
 -- ---- a list of numbers
@@ -35,12 +35,12 @@ pub record Listing (A : Type 0) : Type 0 where
 abbrev pub listing : (line : List ℕ) (at n : ℕ) (list : List ℕ) → Listing ℕ
 listing line at n list = record { list = list; listed = record { all = leb (length line) at; count = n } }
 
-abbrev pub listThen : {A : Type 0} → Word → (ℤ → ℕ → Listing A) → Listing A → Listing A
-listThen (Number z next) then none = then z next
-listThen Nothing then none = none
+abbrev pub list_then : {A : Type 0} → Word → (ℤ → ℕ → Listing A) → Listing A → Listing A
+list_then (Number z next) then none = then z next
+list_then Nothing then none = none
 
 -- m more numbers at most, from the n-th on
 unfoldable pub list_from : (m : ℕ) (line : List ℕ) (at n : ℕ) (list : List ℕ) → Listing ℕ
 list_from zero line at n list = listing line at n list
 list_from (suc m) line at n list =
-    listThen (number_at at (drop at line)) (λ z next. list_from m line next (n + 1) (set list n (upFrom z))) (listing line at n list)
+    list_then (number_at at (drop at line)) (λ z next. list_from m line next (n + 1) (set list n (up_from z))) (listing line at n list)

@@ -2,32 +2,32 @@
 -- Assumes nothing.
 use Rattle.std.specs.Prelude.{ℕ, ◌+◌, ◌-◌, ◌*◌, ◌<◌, ◌≡◌, ◌⊎◌, List, Bool, true, false, cond, eqb, ltb, leb, drop}
 use Rattle.numbers.specs.Sign.{signed}
-use Rattle.digits.specs.Digits.{is_byte, value_of, firstIs, span, leading}
+use Rattle.digits.specs.Digits.{is_byte, value_of, first_is, span, leading}
 use Rattle.asking.specs.declared.values.Word.{Word}
 use Rattle.asking.specs.declared.values.Word.TheVariants.{Number, Nothing}
 
 -- ---- within 64 bits signed
 -- from -2^63 to 2^63 - 1
-abbrev pub isWithin : (minus : Bool) (m : ℕ) → Bool
-isWithin true m = leb m 9223372036854775808
-isWithin false m = ltb m 9223372036854775808
+abbrev pub is_within : (minus : Bool) (m : ℕ) → Bool
+is_within true m = leb m 9223372036854775808
+is_within false m = ltb m 9223372036854775808
 
 -- the number of a sign and a magnitude, and the place past it; none where it is not within 64 bits
-unfoldable pub signedWord : (minus : Bool) (m next : ℕ) → Word
-signedWord minus m next = cond (isWithin minus m) (Number (signed minus m) next) Nothing
+unfoldable pub signed_word : (minus : Bool) (m next : ℕ) → Word
+signed_word minus m next = cond (is_within minus m) (Number (signed minus m) next) Nothing
 
 -- ---- in a line: l is what is left of it from the place `at` on
 -- the digits in front, behind their sign
-unfoldable pub digitsAt : (minus : Bool) (at : ℕ) → List ℕ → Word
-digitsAt minus at l = cond (eqb (span l) 0) Nothing (signedWord minus (value_of (leading l)) (at + span l))
+unfoldable pub digits_at : (minus : Bool) (at : ℕ) → List ℕ → Word
+digits_at minus at l = cond (eqb (span l) 0) Nothing (signed_word minus (value_of (leading l)) (at + span l))
 
 -- an optional `-`, and the digits behind it
-unfoldable pub signedAt : (at : ℕ) → List ℕ → Word
-signedAt at l = cond (firstIs (is_byte 45) l) (digitsAt true (at + 1) (drop 1 l)) (digitsAt false at l)
+unfoldable pub signed_at : (at : ℕ) → List ℕ → Word
+signed_at at l = cond (first_is (is_byte 45) l) (digits_at true (at + 1) (drop 1 l)) (digits_at false at l)
 
 -- a space, and the number behind it
 unfoldable pub number_at : (at : ℕ) → List ℕ → Word
-number_at at l = cond (firstIs (is_byte 32) l) (signedAt (at + 1) (drop 1 l)) Nothing
+number_at at l = cond (first_is (is_byte 32) l) (signed_at (at + 1) (drop 1 l)) Nothing
 
 -- ---- what the code holds of a value: the value, or where that is past 2^63 some number past it
 abbrev pub Held : (value m : ℕ) → Type 0

@@ -5,16 +5,16 @@ use Rattle.asking.specs.declared.values.Word.{Word}
 use Rattle.asking.specs.declared.values.Word.TheVariants.{Number, Nothing}
 use Rattle.asking.specs.Numbers.{number_at}
 use Rattle.laws.specs.Spelt.{spelt}
-use Rattle.asking.specs.Table.{wordFirst}
-use Rattle.asking.specs.Numbered.{Listing, listThen}
+use Rattle.asking.specs.Table.{word_first}
+use Rattle.asking.specs.Numbered.{Listing, list_then}
 
 -- ---- in a line: l is what is left of it from the place `at` on
 -- the kind of a record by its word, behind one space: a rate is 1, a shot 2, a reel 3; and the place past the word
 unfoldable pub kind_at : (at : ℕ) → List ℕ → Word
 kind_at at l =
-    cond (wordFirst (spelt " rate") l) (Number (pos 1) (at + 5))
-    (cond (wordFirst (spelt " shot") l) (Number (pos 2) (at + 5))
-    (cond (wordFirst (spelt " reel") l) (Number (pos 3) (at + 5))
+    cond (word_first (spelt " rate") l) (Number (pos 1) (at + 5))
+    (cond (word_first (spelt " shot") l) (Number (pos 2) (at + 5))
+    (cond (word_first (spelt " reel") l) (Number (pos 3) (at + 5))
     Nothing))
 
 -- what is listed next: a number of a record where one is due, else the kind of the next record
@@ -23,26 +23,26 @@ next_at zero at l = kind_at at l
 next_at (suc due) at l = number_at at l
 
 -- how many numbers are due behind it: two behind a shot's kind, one behind another's, and one less behind a number
-unfoldable pub dueBehind : (due : ℕ) → ℤ → ℕ
-dueBehind zero kind = cond (eqb (nat_abs kind) 2) 2 1
-dueBehind (suc due) z = due
+unfoldable pub due_behind : (due : ℕ) → ℤ → ℕ
+due_behind zero kind = cond (eqb (nat_abs kind) 2) 2 1
+due_behind (suc due) z = due
 
 -- ---- the list
 -- the line has ended, and no number of its last record is due
-unfoldable pub isDone : (line : List ℕ) (at due : ℕ) → Bool
-isDone line at due = eqb due 0 && leb (length line) at
+unfoldable pub is_done : (line : List ℕ) (at due : ℕ) → Bool
+is_done line at due = eqb due 0 && leb (length line) at
 
 -- what was listed so far, and whether that is all
-abbrev pub recordListing : (line : List ℕ) (at due n : ℕ) (list : List ℤ) → Listing ℤ
-recordListing line at due n list = record { list = list; listed = record { all = isDone line at due; count = n } }
+abbrev pub record_listing : (line : List ℕ) (at due n : ℕ) (list : List ℤ) → Listing ℤ
+record_listing line at due n list = record { list = list; listed = record { all = is_done line at due; count = n } }
 
 -- m more at most, kinds and numbers, from the n-th on
-unfoldable pub recordsFrom : (m : ℕ) (line : List ℕ) (at due n : ℕ) (list : List ℤ) → Listing ℤ
-recordsFrom zero line at due n list = recordListing line at due n list
-recordsFrom (suc m) line at due n list =
-    listThen (next_at due at (drop at line)) (λ z next. recordsFrom m line next (dueBehind due z) (n + 1) (set list n z))
-    (recordListing line at due n list)
+unfoldable pub records_from : (m : ℕ) (line : List ℕ) (at due n : ℕ) (list : List ℤ) → Listing ℤ
+records_from zero line at due n list = record_listing line at due n list
+records_from (suc m) line at due n list =
+    list_then (next_at due at (drop at line)) (λ z next. records_from m line next (due_behind due z) (n + 1) (set list n z))
+    (record_listing line at due n list)
 
 -- the records from a place of the line on, as many as the list has room for
-abbrev pub recordsOf : (line : List ℕ) (from : ℕ) (list : List ℤ) → Listing ℤ
-recordsOf line from list = recordsFrom (length list) line from 0 0 list
+abbrev pub records_of : (line : List ℕ) (from : ℕ) (list : List ℤ) → Listing ℤ
+records_of line from list = records_from (length list) line from 0 0 list

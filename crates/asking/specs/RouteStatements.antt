@@ -1,12 +1,12 @@
 -- Shards are listed as a word spells them, and only so; `route` is asked so, and only so. Proofs: proofs/Statements.antt.
 -- Assumes nothing.
 use Rattle.std.specs.Prelude.{ℕ, ◌+◌, ◌*◌, ◌≤◌, ◌≡◌, List, [], ◌∷◌, ◌++◌, map, true, false, ℤ, pos, length, drop}
-use Rattle.numbers.specs.Sign.{upFrom}
+use Rattle.numbers.specs.Sign.{up_from}
 use Rattle.laws.specs.Spelt.{spelt}
 use Rattle.asking.specs.declared.words.Asked.{Asked}
 use Rattle.asking.specs.Table.{is_over}
-use Rattle.asking.specs.Asked.{asked, value, noValue, asked_of}
-use Rattle.asking.specs.ShardWords.{ShardListing, shardsOf}
+use Rattle.asking.specs.Asked.{asked, value, no_value, asked_of}
+use Rattle.asking.specs.ShardWords.{ShardListing, shards_of}
 use Rattle.asking.specs.Grammar.{Numeral, ShardsText}
 
 -- ---- the shards of a word
@@ -19,10 +19,10 @@ pub record SpeltAt (line : List ℕ) (at : ℕ) (firsts ends : List ℤ) : Type 
   pub spells : ShardsText word firsts ends
 
 -- all of them, at the two lists' fronts, each as a number from 0 on (one below 0 as 2^64 - 1); what stands behind them stays
-abbrev pub listedShards : (ys zs : List ℤ) (firsts ends : List ℕ) → ShardListing
-listedShards ys zs firsts ends = record {
-  firsts = map upFrom ys ++ drop (length ys) firsts;
-  ends = map upFrom zs ++ drop (length zs) ends;
+abbrev pub listed_shards : (ys zs : List ℤ) (firsts ends : List ℕ) → ShardListing
+listed_shards ys zs firsts ends = record {
+  firsts = map up_from ys ++ drop (length ys) firsts;
+  ends = map up_from zs ++ drop (length zs) ends;
   listed = record { all = true; count = length ys };
 }
 
@@ -30,18 +30,18 @@ listedShards ys zs firsts ends = record {
 pub record AreShards (line : List ℕ) (at : ℕ) (firsts ends : List ℕ) : Type 0 where
   pub ys : List ℤ
   pub zs : List ℤ
-  pub spelt-at : SpeltAt line at ys zs
-  pub firsts-room : length ys ≤ length firsts
-  pub ends-room : length ys ≤ length ends
-  pub is : shardsOf line at firsts ends ≡ listedShards ys zs firsts ends
+  pub spelt_at : SpeltAt line at ys zs
+  pub firsts_room : length ys ≤ length firsts
+  pub ends_room : length ys ≤ length ends
+  pub is : shards_of line at firsts ends ≡ listed_shards ys zs firsts ends
 
 -- shards that a word spells, for which both lists have room, are listed, all of them, however they are spelt; and where all is listed, such
 -- a word stands there, and the lists' fronts are its numbers, as numbers from 0 on
 abbrev pub ShardsExactly : Type 0
 ShardsExactly =
     (line : List ℕ) (at : ℕ) (firsts ends : List ℕ)
-    → let x = shardsOf line at firsts ends in
-    ((ys zs : List ℤ) → SpeltAt line at ys zs → length ys ≤ length firsts → length ys ≤ length ends → x ≡ listedShards ys zs firsts ends)
+    → let x = shards_of line at firsts ends in
+    ((ys zs : List ℤ) → SpeltAt line at ys zs → length ys ≤ length firsts → length ys ≤ length ends → x ≡ listed_shards ys zs firsts ends)
     × (x.listed.all ≡ true → AreShards line at firsts ends)
 
 -- a word spells one list of shards
@@ -56,7 +56,7 @@ FewShards = (word : List ℕ) (ys zs : List ℤ) → ShardsText word ys zs → (
 -- ---- a line that asks `route`
 -- RATE, SHARDS and LENGTH, each behind one space, and the TEXT, which is empty where the line ends; the shards begin at a place of the line
 pub data RouteLine : (line : List ℕ) → (rate : ℤ) → (place : ℕ) → (firsts ends : List ℤ) → (frames : ℤ) → (text : List ℕ) → Type 0 where
-  noText : {d w e : List ℕ} {y z : ℤ} {ys zs : List ℤ}
+  no_text : {d w e : List ℕ} {y z : ℤ} {ys zs : List ℤ}
       → Numeral d y → ShardsText w ys zs → Numeral e z
       → RouteLine (spelt "route " ++ (d ++ (32 ∷ w ++ (32 ∷ e)))) y (7 + length d) ys zs z []
   text : {d w e t : List ℕ} {y z : ℤ} {ys zs : List ℤ}
@@ -64,8 +64,8 @@ pub data RouteLine : (line : List ℕ) → (rate : ℤ) → (place : ℕ) → (f
       → RouteLine (spelt "route " ++ (d ++ (32 ∷ w ++ (32 ∷ e ++ (32 ∷ t))))) y (7 + length d) ys zs z t
 
 -- what such a line asks
-abbrev pub askedRoute : (rate : ℤ) (place : ℕ) (frames : ℤ) (begins : ℕ) → Asked
-askedRoute y place z begins = asked 28 (value y false ∷ value (pos place) false ∷ value z false ∷ noValue ∷ noValue ∷ []) begins
+abbrev pub asked_route : (rate : ℤ) (place : ℕ) (frames : ℤ) (begins : ℕ) → Asked
+asked_route y place z begins = asked 28 (value y false ∷ value (pos place) false ∷ value z false ∷ no_value ∷ no_value ∷ []) begins
 
 pub record IsRoute (line : List ℕ) : Type 0 where
   pub rate : ℤ
@@ -77,7 +77,7 @@ pub record IsRoute (line : List ℕ) : Type 0 where
   pub begins : ℕ
   pub made : RouteLine line rate place firsts ends frames text
   pub text_at : begins + length text ≡ length line
-  pub is : asked_of line ≡ askedRoute rate place frames begins
+  pub is : asked_of line ≡ asked_route rate place frames begins
 
 -- a line that is made so asks `route`, with its rate, the place of its shards, its length and where its text begins, and at that place stands a
 -- word that spells its shards; and a line that asks `route` is made so
@@ -86,5 +86,5 @@ RouteUnderstood =
     (line : List ℕ)
     → ((rate : ℤ) (place : ℕ) (firsts ends : List ℤ) (frames : ℤ) (text : List ℕ) (begins : ℕ)
     → RouteLine line rate place firsts ends frames text → begins + length text ≡ length line
-    → (asked_of line ≡ askedRoute rate place frames begins) × SpeltAt line place firsts ends)
+    → (asked_of line ≡ asked_route rate place frames begins) × SpeltAt line place firsts ends)
     × ((asked_of line).row ≡ 28 → IsRoute line)

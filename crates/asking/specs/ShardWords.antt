@@ -1,28 +1,28 @@
 -- The shards of a reel in a line (docs/ASK.md): `-` for none, else ranges joined by `,`, each two numbers with `-` between them.
 -- Assumes nothing.
 use Rattle.std.specs.Prelude.{ℕ, zero, suc, ◌+◌, List, [], Bool, true, false, cond, ◌&&◌, leb, ℤ, pos, length, drop, set}
-use Rattle.numbers.specs.Sign.{upFrom}
-use Rattle.digits.specs.Digits.{is_byte, firstIs}
+use Rattle.numbers.specs.Sign.{up_from}
+use Rattle.digits.specs.Digits.{is_byte, first_is}
 use Rattle.asking.specs.declared.values.Word.{Word}
 use Rattle.asking.specs.declared.values.Word.TheVariants.{Number, Nothing}
 use Rattle.asking.specs.declared.numbered.Listed.{Listed}
 use Rattle.asking.specs.declared.sharded.Ranged.{Ranged}
 use Rattle.asking.specs.declared.sharded.Range.{Range}
 use Rattle.asking.specs.declared.sharded.Range.TheVariants as range
-use Rattle.asking.specs.Numbers.{signedAt}
+use Rattle.asking.specs.Numbers.{signed_at}
 use Rattle.asking.specs.Table.{is_over}
 
 -- ---- a range
-abbrev pub numberThen : Word → (ℤ → ℕ → Range) → Range
-numberThen (Number z next) then = then z next
-numberThen Nothing then = range.Nothing
+abbrev pub number_then : Word → (ℤ → ℕ → Range) → Range
+number_then (Number z next) then = then z next
+number_then Nothing then = range.Nothing
 
 -- two numbers with `-` between them, from a place of the line on, and the place past them
-unfoldable pub rangeAt : (line : List ℕ) (at : ℕ) → Range
-rangeAt line at =
-    numberThen (signedAt at (drop at line))
-    (λ y between. cond (firstIs (is_byte 45) (drop between line))
-    (numberThen (signedAt (between + 1) (drop (between + 1) line)) (λ z next. range.Of y z next))
+unfoldable pub range_at : (line : List ℕ) (at : ℕ) → Range
+range_at line at =
+    number_then (signed_at at (drop at line))
+    (λ y between. cond (first_is (is_byte 45) (drop between line))
+    (number_then (signed_at (between + 1) (drop (between + 1) line)) (λ z next. range.Of y z next))
     range.Nothing)
 
 -- ---- ranges joined by `,`
@@ -35,41 +35,41 @@ pub record Sharding : Type 0 where
 abbrev pub sharding : (well : Bool) (count next : ℕ) (firsts ends : List ℕ) → Sharding
 sharding well count next firsts ends = record { firsts = firsts; ends = ends; ranged = record { well = well; count = count; next = next } }
 
-abbrev pub rangeThen : Range → (ℤ → ℤ → ℕ → Sharding) → Sharding → Sharding
-rangeThen (range.Of y z next) then none = then y z next
-rangeThen range.Nothing then none = none
+abbrev pub range_then : Range → (ℤ → ℤ → ℕ → Sharding) → Sharding → Sharding
+range_then (range.Of y z next) then none = then y z next
+range_then range.Nothing then none = none
 
 -- m ranges at most, from the n-th on: behind each a `,` and the next one, or the word is over
-unfoldable pub rangesFrom : (m : ℕ) (line : List ℕ) (at n : ℕ) (firsts ends : List ℕ) → Sharding
-rangesFrom zero line at n firsts ends = sharding false n at firsts ends
-rangesFrom (suc m) line at n firsts ends =
-    rangeThen (rangeAt line at)
-    (λ y z next. cond (firstIs (is_byte 44) (drop next line))
-    (rangesFrom m line (next + 1) (n + 1) (set firsts n (upFrom y)) (set ends n (upFrom z)))
-    (sharding (is_over (drop next line)) (n + 1) next (set firsts n (upFrom y)) (set ends n (upFrom z))))
+unfoldable pub ranges_from : (m : ℕ) (line : List ℕ) (at n : ℕ) (firsts ends : List ℕ) → Sharding
+ranges_from zero line at n firsts ends = sharding false n at firsts ends
+ranges_from (suc m) line at n firsts ends =
+    range_then (range_at line at)
+    (λ y z next. cond (first_is (is_byte 44) (drop next line))
+    (ranges_from m line (next + 1) (n + 1) (set firsts n (up_from y)) (set ends n (up_from z)))
+    (sharding (is_over (drop next line)) (n + 1) next (set firsts n (up_from y)) (set ends n (up_from z))))
     (sharding false n at firsts ends)
 
 -- a line has no more ranges than bytes
-abbrev pub rangesOf : (line : List ℕ) (at : ℕ) (firsts ends : List ℕ) → Sharding
-rangesOf line at firsts ends = rangesFrom (length line) line at 0 firsts ends
+abbrev pub ranges_of : (line : List ℕ) (at : ℕ) (firsts ends : List ℕ) → Sharding
+ranges_of line at firsts ends = ranges_from (length line) line at 0 firsts ends
 
 -- ---- a word of shards
 -- `-` alone stands in front
-unfoldable pub isNone : List ℕ → Bool
-isNone l = firstIs (is_byte 45) l && is_over (drop 1 l)
+unfoldable pub is_none : List ℕ → Bool
+is_none l = first_is (is_byte 45) l && is_over (drop 1 l)
 
 -- none, or ranges
-unfoldable pub spelledOf : (line : List ℕ) (at : ℕ) (firsts ends : List ℕ) → Sharding
-spelledOf line at firsts ends = cond (isNone (drop at line)) (sharding true 0 (at + 1) firsts ends) (rangesOf line at firsts ends)
+unfoldable pub spelled_of : (line : List ℕ) (at : ℕ) (firsts ends : List ℕ) → Sharding
+spelled_of line at firsts ends = cond (is_none (drop at line)) (sharding true 0 (at + 1) firsts ends) (ranges_of line at firsts ends)
 
-abbrev pub placeThen : (well : Bool) (place next : ℕ) → Word
-placeThen well place next = cond well (Number (pos place) next) Nothing
+abbrev pub place_then : (well : Bool) (place next : ℕ) → Word
+place_then well place next = cond well (Number (pos place) next) Nothing
 
 -- behind one space: the place where the word begins, as its number, and the place past it
-unfoldable pub shardsAt : (line : List ℕ) (at : ℕ) → Word
-shardsAt line at =
-    let s = (spelledOf line (at + 1) [] []).ranged in
-    cond (firstIs (is_byte 32) (drop at line)) (placeThen s.well (at + 1) s.next) Nothing
+unfoldable pub shards_at : (line : List ℕ) (at : ℕ) → Word
+shards_at line at =
+    let s = (spelled_of line (at + 1) [] []).ranged in
+    cond (first_is (is_byte 32) (drop at line)) (place_then s.well (at + 1) s.next) Nothing
 
 -- ---- the shards listed
 pub record ShardListing : Type 0 where
@@ -78,9 +78,9 @@ pub record ShardListing : Type 0 where
   pub listed : Listed
 
 -- all are listed where the word is one of shards and both lists have room for them
-unfoldable pub shardsOf : (line : List ℕ) (at : ℕ) (firsts ends : List ℕ) → ShardListing
-shardsOf line at firsts ends =
-    let s = spelledOf line at firsts ends in
+unfoldable pub shards_of : (line : List ℕ) (at : ℕ) (firsts ends : List ℕ) → ShardListing
+shards_of line at firsts ends =
+    let s = spelled_of line at firsts ends in
     let n = s.ranged.count in
     record {
       firsts = s.firsts;

@@ -3,7 +3,7 @@
 use Rattle.std.specs.Prelude.{ℕ, zero, suc, List, [], ◌∷◌, ◌++◌, Bool, true, false, cond, not, ◌&&◌, eqb, drop, get_or}
 use Prim.Native.String.{String}
 use Rattle.laws.specs.Spelt.{spelt}
-use Rattle.digits.specs.Digits.{is_byte, firstIs}
+use Rattle.digits.specs.Digits.{is_byte, first_is}
 
 -- ---- words
 -- the word that a line begins with: its bytes before the first space
@@ -24,9 +24,9 @@ same (a ∷ l) [] = false
 same (a ∷ l) (b ∷ m) = eqb a b && same l m
 
 -- the word stands in front
-unfoldable pub wordFirst : (word l : List ℕ) → Bool
-wordFirst [] l = true
-wordFirst (b ∷ w) l = firstIs (is_byte b) l && wordFirst w (drop 1 l)
+unfoldable pub word_first : (word l : List ℕ) → Bool
+word_first [] l = true
+word_first (b ∷ w) l = first_is (is_byte b) l && word_first w (drop 1 l)
 
 -- a word is over here: a space stands in front, or nothing is left
 unfoldable pub is_over : List ℕ → Bool
@@ -79,24 +79,24 @@ rows =
     ∷ []
 
 -- how many rows there are
-abbrev pub rowCount : ℕ
-rowCount = 29
+abbrev pub row_count : ℕ
+row_count = 29
 
 -- the row of a number, and one of no word for any other number
 abbrev pub row_at : ℕ → Row
 row_at n = get_or rows n (row "" "")
 
 -- this is the word of the row
-abbrev pub isNamed : ℕ → (word : List ℕ) → Bool
-isNamed n word = same word (row_at n).name
+abbrev pub is_named : ℕ → (word : List ℕ) → Bool
+is_named n word = same word (row_at n).name
 
 -- the number of the first row that has the word, counted from i; as many as there are rows where none has it
-unfoldable pub rowFrom : ℕ → List Row → (word : List ℕ) → ℕ
-rowFrom i [] word = i
-rowFrom i (r ∷ rs) word = cond (same word r.name) i (rowFrom (suc i) rs word)
+unfoldable pub row_from : ℕ → List Row → (word : List ℕ) → ℕ
+row_from i [] word = i
+row_from i (r ∷ rs) word = cond (same word r.name) i (row_from (suc i) rs word)
 
-abbrev pub rowNamed : (word : List ℕ) → ℕ
-rowNamed word = rowFrom 0 rows word
+abbrev pub row_named : (word : List ℕ) → ℕ
+row_named word = row_from 0 rows word
 
 -- the letter of the k-th word behind a command's; a space where there is none
 abbrev pub kind_of : (row k : ℕ) → ℕ
@@ -108,12 +108,12 @@ filled zero l = []
 filled (suc n) [] = 32 ∷ filled n []
 filled (suc n) (b ∷ l) = b ∷ filled n l
 
-abbrev pub rowBytes : Row → List ℕ
-rowBytes r = filled 16 r.name ++ filled 8 r.letters
+abbrev pub row_bytes : Row → List ℕ
+row_bytes r = filled 16 r.name ++ filled 8 r.letters
 
-unfoldable pub bytesIn : List Row → List ℕ
-bytesIn [] = []
-bytesIn (r ∷ rs) = rowBytes r ++ bytesIn rs
+unfoldable pub bytes_in : List Row → List ℕ
+bytes_in [] = []
+bytes_in (r ∷ rs) = row_bytes r ++ bytes_in rs
 
-unfoldable pub tableBytes : List ℕ
-tableBytes = bytesIn rows
+unfoldable pub table_bytes : List ℕ
+table_bytes = bytes_in rows

@@ -1,5 +1,7 @@
 // What a line of the calculator asks (docs/ASK.md): which command, by its row in the table, the numbers behind its word, and where the
 // rest begins. Refuses nothing itself: a line that is no command is not understood, and a number's bounds are the operations' matter.
+#![tactic(auto)]
+
 mod numbered;
 mod recorded;
 pub mod rows;

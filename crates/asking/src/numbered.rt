@@ -1,6 +1,6 @@
 // A command's numbers as the operations take them.
 ghost use Rattle.std.specs.Prelude.{◌≡◌, length};
-ghost use Rattle.asking.specs.Numbered.{numbersOf, list_from};
+ghost use Rattle.asking.specs.Numbered.{numbers_of, list_from};
 
 use crate::values;
 use crate::values::Word;
@@ -31,7 +31,7 @@ pub struct Listed {
 
 // The five numbers of what is asked.
 pub fn numbers_of(v: [Value; 5]) -> Numbers
-    ensures answer { result ≡ numbersOf v }
+    ensures { result ≡ numbers_of v }
 {
     let a = v[0];
     let b = v[1];

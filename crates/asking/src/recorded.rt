@@ -1,7 +1,7 @@
 // The records of a shot list in words, ` rate N`, ` shot N N` and ` reel N`, one behind the other to the end of a line: each as its kind
 // (1, 2, 3) and its numbers.
 ghost use Rattle.std.specs.Prelude.{◌≡◌, drop};
-ghost use Rattle.asking.specs.RecordWords.{kind_at, next_at, dueBehind, isDone, recordsOf};
+ghost use Rattle.asking.specs.RecordWords.{kind_at, next_at, due_behind, is_done, records_of};
 
 use crate::numbered::Listed;
 use crate::values;
@@ -9,7 +9,7 @@ use crate::values::Word;
 
 // The kind of the record whose word stands at a place, behind one space, and the place past the word.
 fn kind_at(line: &[u8], at: usize) -> Word
-    ensures answer { result ≡ kind_at at (drop at line.now) }
+    ensures { result ≡ kind_at at (drop at line.now) }
 {
     if values::word_stands(line, at, b" rate") {
         return Word::Number(1, at + 5);
@@ -25,7 +25,7 @@ fn kind_at(line: &[u8], at: usize) -> Word
 
 // What is listed next, and the place past it: a number of a record where one is due, else the kind of the next record.
 fn next_at(line: &[u8], at: usize, due: usize) -> Word
-    ensures answer { result ≡ next_at due at (drop at line.now) }
+    ensures { result ≡ next_at due at (drop at line.now) }
 {
     if due == 0 {
         return kind_at(line, at);
@@ -35,7 +35,7 @@ fn next_at(line: &[u8], at: usize, due: usize) -> Word
 
 // How many numbers of a record are due behind what was listed: all of them behind its kind.
 fn due_behind(due: usize, z: i64) -> usize
-    ensures answer { result ≡ dueBehind due z }
+    ensures { result ≡ due_behind due z }
 {
     if due != 0 {
         return due - 1;
@@ -48,7 +48,7 @@ fn due_behind(due: usize, z: i64) -> usize
 
 // Has the line ended, and the last record with it?
 fn is_done(line: &[u8], at: usize, due: usize) -> bool
-    ensures answer { result ≡ isDone line.now at due }
+    ensures { result ≡ is_done line.now at due }
 {
     if due != 0 {
         return false;
@@ -58,8 +58,8 @@ fn is_done(line: &[u8], at: usize, due: usize) -> bool
 
 // The records from a place to the end of the line, put into the list from its front on.
 pub fn records(line: &[u8], from: usize, list: &mut [i64]) -> Listed
-    ensures answer { result ≡ (recordsOf line.now from list.old).listed }
-    ensures list { list.new ≡ (recordsOf line.now from list.old).list }
+    ensures answer { result ≡ (records_of line.now from list.old).listed }
+    ensures list { list.new ≡ (records_of line.now from list.old).list }
 {
     let mut at = from;
     let mut due = 0;

@@ -1,7 +1,7 @@
 // Shards in a line: `-` for none, else ranges joined by `,`, each two numbers with `-` between them.
 ghost use Rattle.std.specs.Prelude.{◌≡◌, ◌&&◌, leb, drop, set};
-ghost use Rattle.numbers.specs.Sign.{upFrom};
-ghost use Rattle.asking.specs.ShardWords.{rangeAt, isNone, rangesOf, spelledOf, shardsAt, shardsOf};
+ghost use Rattle.numbers.specs.Sign.{up_from};
+ghost use Rattle.asking.specs.ShardWords.{range_at, is_none, ranges_of, spelled_of, shards_at, shards_of};
 
 use crate::numbered::Listed;
 use crate::values;
@@ -24,7 +24,7 @@ struct Ranged {
 
 // The range at a place: a number, `-`, and a number.
 fn range_at(line: &[u8], at: usize) -> Range
-    ensures answer { result ≡ rangeAt line.now at }
+    ensures { result ≡ range_at line.now at }
 {
     let a = values::signed_at(line, at);
     let Word::Number(first, between) = a else {
@@ -42,7 +42,7 @@ fn range_at(line: &[u8], at: usize) -> Range
 
 // A number at a place of a list, as one from 0 on; where the list has no such place nothing changes.
 fn put(list: &mut [u64], n: usize, z: i64)
-    ensures list { list.new ≡ set list.old n (upFrom z) }
+    ensures { list.new ≡ set list.old n (up_from z) }
 {
     if n < list.len() {
         list[n] = numbers::up_from(z);
@@ -51,9 +51,9 @@ fn put(list: &mut [u64], n: usize, z: i64)
 
 // The ranges from a place on, joined by `,`, as far as the two lists have room for them.
 fn ranges(line: &[u8], from: usize, firsts: &mut [u64], ends: &mut [u64]) -> Ranged
-    ensures answer { result ≡ (rangesOf line.now from firsts.old ends.old).ranged }
-    ensures firsts { firsts.new ≡ (rangesOf line.now from firsts.old ends.old).firsts }
-    ensures ends { ends.new ≡ (rangesOf line.now from firsts.old ends.old).ends }
+    ensures answer { result ≡ (ranges_of line.now from firsts.old ends.old).ranged }
+    ensures firsts { firsts.new ≡ (ranges_of line.now from firsts.old ends.old).firsts }
+    ensures ends { ends.new ≡ (ranges_of line.now from firsts.old ends.old).ends }
 {
     let mut at = from;
     let mut n = 0;
@@ -82,7 +82,7 @@ fn ranges(line: &[u8], from: usize, firsts: &mut [u64], ends: &mut [u64]) -> Ran
 
 // Does `-` alone stand at a place, for no shards?
 fn is_none(line: &[u8], at: usize) -> bool
-    ensures answer { result ≡ isNone (drop at line.now) }
+    ensures { result ≡ is_none (drop at line.now) }
 {
     if !values::stands(line, at, b'-') {
         return false;
@@ -92,9 +92,9 @@ fn is_none(line: &[u8], at: usize) -> bool
 
 // The shards that a word spells from a place on: none, or its ranges.
 fn spelled(line: &[u8], at: usize, firsts: &mut [u64], ends: &mut [u64]) -> Ranged
-    ensures answer { result ≡ (spelledOf line.now at firsts.old ends.old).ranged }
-    ensures firsts { firsts.new ≡ (spelledOf line.now at firsts.old ends.old).firsts }
-    ensures ends { ends.new ≡ (spelledOf line.now at firsts.old ends.old).ends }
+    ensures answer { result ≡ (spelled_of line.now at firsts.old ends.old).ranged }
+    ensures firsts { firsts.new ≡ (spelled_of line.now at firsts.old ends.old).firsts }
+    ensures ends { ends.new ≡ (spelled_of line.now at firsts.old ends.old).ends }
 {
     if is_none(line, at) {
         return Ranged {
@@ -108,7 +108,7 @@ fn spelled(line: &[u8], at: usize, firsts: &mut [u64], ends: &mut [u64]) -> Rang
 
 // A word of shards at a place of the line, behind one space: the place where it begins, and the place past it.
 pub(crate) fn word(line: &[u8], at: usize) -> Word
-    ensures answer { result ≡ shardsAt line.now at }
+    ensures { result ≡ shards_at line.now at }
 {
     if !values::stands(line, at, b' ') {
         return Word::Nothing;
@@ -125,7 +125,7 @@ pub(crate) fn word(line: &[u8], at: usize) -> Word
 
 // Do so many fit into a list of a and into one of b?
 fn both_hold(count: usize, a: usize, b: usize) -> bool
-    ensures answer { result ≡ (leb count a && leb count b) }
+    ensures { result ≡ (leb count a && leb count b) }
 {
     if a < count {
         return false;
@@ -137,9 +137,9 @@ fn both_hold(count: usize, a: usize, b: usize) -> bool
 // its end, as numbers from 0 on. All are listed where it is a word of shards, with a space or the line's end behind it, and both lists have room for them; how
 // many is how many ranges were read.
 pub fn shards(line: &[u8], at: usize, firsts: &mut [u64], ends: &mut [u64]) -> Listed
-    ensures answer { result ≡ (shardsOf line.now at firsts.old ends.old).listed }
-    ensures firsts { firsts.new ≡ (shardsOf line.now at firsts.old ends.old).firsts }
-    ensures ends { ends.new ≡ (shardsOf line.now at firsts.old ends.old).ends }
+    ensures answer { result ≡ (shards_of line.now at firsts.old ends.old).listed }
+    ensures firsts { firsts.new ≡ (shards_of line.now at firsts.old ends.old).firsts }
+    ensures ends { ends.new ≡ (shards_of line.now at firsts.old ends.old).ends }
 {
     let a = firsts.len();
     let b = ends.len();

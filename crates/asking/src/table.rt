@@ -3,7 +3,7 @@
 // none is stated, `p` a place (from 0 on), `m` a room (0 to 128), `w` a wide room (0 to 1024), `s` a word of shards; last `t` for a
 // text, the rest of the line, or `*` for a rest that the command takes apart itself.
 ghost use Rattle.std.specs.Prelude.{◌≡◌, true, ◌*◌, ◌<◌, get_or};
-ghost use Rattle.asking.specs.Table.{is_plain, rowCount, tableBytes, isNamed, rowNamed, kind_of};
+ghost use Rattle.asking.specs.Table.{is_plain, row_count, table_bytes, is_named, row_named, kind_of};
 
 use crate::rows;
 
@@ -41,8 +41,8 @@ const TABLE: [u8; 24 * rows::ROWS] = *b"\
 
 // A byte of the table. Asks that it has it.
 fn byte_at(i: usize) -> u8
-    requires within { i < 24 * rowCount }
-    ensures answer { result ≡ get_or tableBytes i 0 }
+    requires { i < 24 * row_count }
+    ensures { result ≡ get_or table_bytes i 0 }
 {
     TABLE[i]
 }
@@ -50,8 +50,8 @@ fn byte_at(i: usize) -> u8
 // Is this the word of a row? Asks a word that has no space, and a row.
 fn is_named(word: &[u8], row: usize) -> bool
     requires word { is_plain word.now ≡ true }
-    requires row { row < rowCount }
-    ensures answer { result ≡ isNamed row word.now }
+    requires row { row < row_count }
+    ensures { result ≡ is_named row word.now }
 {
     if word.len() > 15 {
         return false;
@@ -68,8 +68,8 @@ fn is_named(word: &[u8], row: usize) -> bool
 
 // Which row has a word; as many as there are rows where none has. Asks a word that has no space.
 pub(crate) fn row_named(word: &[u8]) -> usize
-    requires word { is_plain word.now ≡ true }
-    ensures answer { result ≡ rowNamed word.now }
+    requires { is_plain word.now ≡ true }
+    ensures { result ≡ row_named word.now }
 {
     let mut i = 0;
     while i < rows::ROWS {
@@ -83,9 +83,9 @@ pub(crate) fn row_named(word: &[u8]) -> usize
 
 // The letter of the k-th word behind a command's. Asks a row, and one of its letters.
 pub(crate) fn kind_of(row: usize, k: usize) -> u8
-    requires row { row < rowCount }
+    requires row { row < row_count }
     requires letter { k < 8 }
-    ensures answer { result ≡ kind_of row k }
+    ensures { result ≡ kind_of row k }
 {
     byte_at(24 * row + 16 + k)
 }

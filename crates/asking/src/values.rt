@@ -1,8 +1,8 @@
 // A number in a line: behind a space an optional `-` and one or more digits, within 64 bits signed.
 ghost use Rattle.std.specs.Prelude.{◌≡◌, true, drop};
-ghost use Rattle.digits.specs.Digits.{is_byte, allDigits, value_of, isDigit, firstIs};
-ghost use Rattle.asking.specs.Table.{wordFirst, is_over};
-ghost use Rattle.asking.specs.Numbers.{Held, pushed, signedWord, digitsAt, signedAt, number_at};
+ghost use Rattle.digits.specs.Digits.{is_byte, all_digits, value_of, is_digit, first_is};
+ghost use Rattle.asking.specs.Table.{word_first, is_over};
+ghost use Rattle.asking.specs.Numbers.{Held, pushed, signed_word, digits_at, signed_at, number_at};
 
 // A number and the place past it; or none stands there.
 #[derive(Drop)]
@@ -13,8 +13,8 @@ pub enum Word {
 
 // The value of digits with one more behind them; once it is past 2^63, some number past it. Asks a digit.
 fn push(m: u64, b: u8) -> u64
-    requires digit { isDigit b ≡ true }
-    ensures answer { result ≡ pushed m b }
+    requires { is_digit b ≡ true }
+    ensures { result ≡ pushed m b }
 {
     if m > 922_337_203_685_477_580 {
         return u64::MAX;
@@ -24,8 +24,8 @@ fn push(m: u64, b: u8) -> u64
 
 // The value of digits, or some number past 2^63 where it is past it. Asks digits.
 fn magnitude(d: &[u8]) -> u64
-    requires digits { allDigits d.now ≡ true }
-    ensures answer { Held (value_of d.now) result }
+    requires { all_digits d.now ≡ true }
+    ensures { Held (value_of d.now) result }
 {
     let mut m: u64 = 0;
     let mut i = 0;
@@ -38,7 +38,7 @@ fn magnitude(d: &[u8]) -> u64
 
 // The number of a sign and a magnitude, where it is within 64 bits.
 fn signed(minus: bool, m: u64, next: usize) -> Word
-    ensures answer { result ≡ signedWord minus m next }
+    ensures { result ≡ signed_word minus m next }
 {
     if m < 9_223_372_036_854_775_808 {
         return Word::Number(numbers::with_sign(minus, m), next);
@@ -54,7 +54,7 @@ fn signed(minus: bool, m: u64, next: usize) -> Word
 
 // The digits at a place, behind their sign.
 fn digits_at(line: &[u8], at: usize, minus: bool) -> Word
-    ensures answer { result ≡ digitsAt minus at (drop at line.now) }
+    ensures { result ≡ digits_at minus at (drop at line.now) }
 {
     let run = digits::run_at(line, at);
     let n = run.count;
@@ -67,7 +67,7 @@ fn digits_at(line: &[u8], at: usize, minus: bool) -> Word
 
 // Does this byte stand at a place of the line?
 pub fn stands(line: &[u8], at: usize, b: u8) -> bool
-    ensures answer { result ≡ firstIs (is_byte b) (drop at line.now) }
+    ensures { result ≡ first_is (is_byte b) (drop at line.now) }
 {
     if at < line.len() {
         return line[at] == b;
@@ -77,7 +77,7 @@ pub fn stands(line: &[u8], at: usize, b: u8) -> bool
 
 // Is a word over at a place of the line? A space stands there, or the line has ended.
 pub(crate) fn is_over(line: &[u8], at: usize) -> bool
-    ensures answer { result ≡ is_over (drop at line.now) }
+    ensures { result ≡ is_over (drop at line.now) }
 {
     if at < line.len() {
         return line[at] == b' ';
@@ -87,7 +87,7 @@ pub(crate) fn is_over(line: &[u8], at: usize) -> bool
 
 // Does this word stand at a place of the line?
 pub fn word_stands(line: &[u8], at: usize, word: &[u8]) -> bool
-    ensures answer { result ≡ wordFirst word.now (drop at line.now) }
+    ensures { result ≡ word_first word.now (drop at line.now) }
 {
     let mut i = 0;
     while i < word.len() {
@@ -101,7 +101,7 @@ pub fn word_stands(line: &[u8], at: usize, word: &[u8]) -> bool
 
 // An optional `-` at a place, and the digits behind it.
 pub fn signed_at(line: &[u8], at: usize) -> Word
-    ensures answer { result ≡ signedAt at (drop at line.now) }
+    ensures { result ≡ signed_at at (drop at line.now) }
 {
     if stands(line, at, b'-') {
         return digits_at(line, at + 1, true);
@@ -111,7 +111,7 @@ pub fn signed_at(line: &[u8], at: usize) -> Word
 
 // A space at a place of the line, and the number behind it.
 pub fn number(line: &[u8], at: usize) -> Word
-    ensures answer { result ≡ number_at at (drop at line.now) }
+    ensures { result ≡ number_at at (drop at line.now) }
 {
     if !stands(line, at, b' ') {
         return Word::Nothing;

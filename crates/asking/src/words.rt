@@ -1,8 +1,8 @@
 // A line taken apart: the command's word, the numbers behind it as its row has them, and where the rest of the line begins.
 ghost use Rattle.std.specs.Prelude.{◌≡◌, not, ◌&&◌, ◌<◌, ◌≤◌, length, drop, ltb};
-ghost use Rattle.asking.specs.Table.{word_of, rowCount, kind_of};
-ghost use Rattle.asking.specs.Asked.{isPosition, isUnstated, isMarked, value_at, is_room, isInRange, word_at, is_last, restAt};
-ghost use Rattle.asking.specs.Asked.{unknown, endedAt, wordsFrom, noValues, asked_of};
+ghost use Rattle.asking.specs.Table.{word_of, row_count, kind_of};
+ghost use Rattle.asking.specs.Asked.{is_position, is_unstated, is_marked, value_at, is_room, is_in_range, word_at, is_last, rest_at};
+ghost use Rattle.asking.specs.Asked.{unknown, ended_at, words_from, no_values, asked_of};
 
 use crate::values::Word;
 use crate::{rows, sharded, table, values};
@@ -38,7 +38,7 @@ const NO_VALUE: Value = Value {
 
 // A line that is not understood.
 fn not_understood() -> Asked
-    ensures answer { result ≡ unknown }
+    ensures { result ≡ unknown }
 {
     let values = [NO_VALUE; 5];
     Asked {
@@ -50,7 +50,7 @@ fn not_understood() -> Asked
 
 // Where the first word of a line ends: at the first space, or at the line's end.
 fn word_end(line: &[u8]) -> usize
-    ensures answer { result ≡ length (word_of line.now) }
+    ensures { result ≡ length (word_of line.now) }
 {
     let mut i = 0;
     while i < line.len() {
@@ -64,7 +64,7 @@ fn word_end(line: &[u8]) -> usize
 
 // Is a room of so many bytes understood, where `most` is the widest?
 fn is_room(z: i64, most: u64) -> bool
-    ensures answer { result ≡ is_room most z }
+    ensures { result ≡ is_room most z }
 {
     if numbers::below_zero(z) {
         return false;
@@ -74,7 +74,7 @@ fn is_room(z: i64, most: u64) -> bool
 
 // Is this number allowed where a row has this letter?
 fn is_allowed(kind: u8, z: i64) -> bool
-    ensures answer { result ≡ isInRange kind z }
+    ensures { result ≡ is_in_range kind z }
 {
     if kind == b'p' {
         return !numbers::below_zero(z);
@@ -90,7 +90,7 @@ fn is_allowed(kind: u8, z: i64) -> bool
 
 // Does the mark stand at a place of the line, behind one space, where a row has this letter? Only `@` may have it.
 fn is_position(line: &[u8], at: usize, kind: u8) -> bool
-    ensures answer { result ≡ isPosition kind (drop at line.now) }
+    ensures { result ≡ is_position kind (drop at line.now) }
 {
     if kind != b'@' {
         return false;
@@ -100,7 +100,7 @@ fn is_position(line: &[u8], at: usize, kind: u8) -> bool
 
 // Does `-` alone stand at a place of the line, behind one space, where a row has this letter? Only a film format may be not stated.
 fn is_unstated(line: &[u8], at: usize, kind: u8) -> bool
-    ensures answer { result ≡ isUnstated kind (drop at line.now) }
+    ensures { result ≡ is_unstated kind (drop at line.now) }
 {
     if kind != b'f' {
         return false;
@@ -113,7 +113,7 @@ fn is_unstated(line: &[u8], at: usize, kind: u8) -> bool
 
 // Does one of the two stand there: the mark of a position, or `-` for no film format?
 fn is_marked(line: &[u8], at: usize, kind: u8) -> bool
-    ensures answer { result ≡ isMarked kind (drop at line.now) }
+    ensures { result ≡ is_marked kind (drop at line.now) }
 {
     if is_unstated(line, at, kind) {
         return true;
@@ -123,7 +123,7 @@ fn is_marked(line: &[u8], at: usize, kind: u8) -> bool
 
 // The number at a place of the line, behind one space, and behind its mark where it has one; 0 for a film format that is not stated.
 fn value_at(line: &[u8], at: usize, kind: u8) -> Word
-    ensures answer { result ≡ value_at kind at (drop at line.now) }
+    ensures { result ≡ value_at kind at (drop at line.now) }
 {
     if is_unstated(line, at, kind) {
         return Word::Number(0, at + 2);
@@ -136,7 +136,7 @@ fn value_at(line: &[u8], at: usize, kind: u8) -> Word
 
 // What stands at a place of the line where a row has this letter: shards, or a number that is allowed there.
 fn word_at(line: &[u8], at: usize, kind: u8) -> Word
-    ensures answer { result ≡ word_at kind line.now at }
+    ensures { result ≡ word_at kind line.now at }
 {
     if kind == b's' {
         return sharded::word(line, at);
@@ -153,7 +153,7 @@ fn word_at(line: &[u8], at: usize, kind: u8) -> Word
 
 // Where the rest of the line begins, by the last letter of the row.
 fn rest_at(line: &[u8], at: usize, kind: u8) -> Rest
-    ensures answer { result ≡ restAt kind at (drop at line.now) }
+    ensures { result ≡ rest_at kind at (drop at line.now) }
 {
     if line.len() <= at {
         return Rest::At(at);
@@ -172,9 +172,9 @@ fn rest_at(line: &[u8], at: usize, kind: u8) -> Rest
 
 // What is asked once the numbers are taken. Asks a row, and one of its letters.
 fn ended(row: usize, line: &[u8], at: usize, k: usize, values: [Value; 5]) -> Asked
-    requires row { row < rowCount }
+    requires row { row < row_count }
     requires letter { k ≤ 5 }
-    ensures answer { result ≡ endedAt row line.now at k values }
+    ensures { result ≡ ended_at row line.now at k values }
 {
     let r = rest_at(line, at, table::kind_of(row, k));
     let Rest::At(rest) = r else {
@@ -185,8 +185,8 @@ fn ended(row: usize, line: &[u8], at: usize, k: usize, values: [Value; 5]) -> As
 
 // Is a number the k-th word behind the command's? Asks a row.
 fn is_number(row: usize, k: usize) -> bool
-    requires row { row < rowCount }
-    ensures answer { result ≡ ltb k 5 && not (is_last (kind_of row k)) }
+    requires { row < row_count }
+    ensures { result ≡ ltb k 5 && not (is_last (kind_of row k)) }
 {
     if k >= 5 {
         return false;
@@ -203,8 +203,8 @@ fn is_number(row: usize, k: usize) -> bool
 
 // The words behind the command's, from a place on. Asks a row.
 fn words(row: usize, line: &[u8], from: usize) -> Asked
-    requires row { row < rowCount }
-    ensures answer { result ≡ wordsFrom 5 row line.now from 0 noValues }
+    requires { row < row_count }
+    ensures { result ≡ words_from 5 row line.now from 0 no_values }
 {
     let mut values = [NO_VALUE; 5];
     let mut at = from;
@@ -227,7 +227,7 @@ fn words(row: usize, line: &[u8], from: usize) -> Asked
 
 // What a line asks: its first word is a command's, and the words behind it are as the command's row has them; else it is not understood.
 pub fn understand(line: &[u8]) -> Asked
-    ensures answer { result ≡ asked_of line.now }
+    ensures { result ≡ asked_of line.now }
 {
     let end = word_end(line);
     let row = table::row_named(&line[0..end]);

@@ -10,8 +10,8 @@ use lib.ListN.{length, take}
 use Rattle.beginnings.specs.Beginning.{Begins, LongestBeginning, Either}
 use Rattle.beginnings.specs.Statements.{OneLongest, LongestOfEither}
 
-pub one-longest : OneLongest
-one-longest Shape l m n p q = omega (arith, p.longest n q.within q.begins, q.longest m p.within p.begins)
+pub one_longest : OneLongest
+one_longest Shape l m n p q = omega (arith, p.longest n q.within q.begins, q.longest m p.within p.begins)
 
 -- what begins a text of one shape begins one of another that has all its texts
 pub begins-in : {Shape Other : List ℕ → Type 0} {l : List ℕ} → ((t : List ℕ) → Shape t → Other t) → Begins Shape l → Begins Other l
@@ -39,5 +39,5 @@ order zero n = inl (omega arith)
 order (suc m) zero = inr (omega arith)
 order (suc m) (suc n) = ⊎_elim (λ h. inl (omega arith)) (λ h. inr (omega arith)) (order m n)
 
-pub longest-of-either : LongestOfEither
-longest-of-either Shape Other l m n p q = either-longest Shape Other l m n p q (order m n)
+pub longest_of_either : LongestOfEither
+longest_of_either Shape Other l m n p q = either-longest Shape Other l m n p q (order m n)

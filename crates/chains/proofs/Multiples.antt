@@ -10,7 +10,7 @@ use lib.Signed.{◌≤ℤ◌}
 use Rattle.numbers.specs.SignLaws.{abs_neg}
 use Rattle.numbers.specs.DistanceLaws.{minus-neg, far_none, triangle, abs-product}
 use Rattle.numbers.specs.ProductLaws.{mul-sub}
-use Rattle.numbers.specs.Nearest.{nearestZ}
+use Rattle.numbers.specs.Nearest.{nearest_z}
 use Rattle.numbers.specs.NearestSignedLaws.{half_step, exact, monotone}
 
 -- from x to y is as far as from y to x
@@ -29,20 +29,20 @@ one-multiple j k n h = far_none j k (none (nat_abs (j -ℤ k)) n (rw (sym (abs-p
         by_cases (no f) = omega arith
 
 -- a multiple less than half a step away is the nearest
-pub nearest-within : (x k : ℤ) (n : ℕ) → 2 * nat_abs (k *ℤ pos n -ℤ x) < n → nearestZ x n ≡ k
+pub nearest-within : (x k : ℤ) (n : ℕ) → 2 * nat_abs (k *ℤ pos n -ℤ x) < n → nearest_z x n ≡ k
 nearest-within x k n h =
-    one-multiple (nearestZ x n) k n
+    one-multiple (nearest_z x n) k n
     (omega
-    (arith, half_step x n (omega arith), triangle (nearestZ x n *ℤ pos n) x (k *ℤ pos n), far-back x (k *ℤ pos n)))
+    (arith, half_step x n (omega arith), triangle (nearest_z x n *ℤ pos n) x (k *ℤ pos n), far-back x (k *ℤ pos n)))
 
 -- out by the step s and back by r
-pub there_back : (x : ℤ) (r s : ℕ) → 0 < s → s ≤ r → nearestZ (nearestZ (x *ℤ pos r) s *ℤ pos s) r ≡ x
+pub there_back : (x : ℤ) (r s : ℕ) → 0 < s → s ≤ r → nearest_z (nearest_z (x *ℤ pos r) s *ℤ pos s) r ≡ x
 there_back x r s h l = by_cases (dec_lt s r)
   where
-    by_cases : Dec (s < r) → nearestZ (nearestZ (x *ℤ pos r) s *ℤ pos s) r ≡ x
+    by_cases : Dec (s < r) → nearest_z (nearest_z (x *ℤ pos r) s *ℤ pos s) r ≡ x
     by_cases (yes p) =
-        nearest-within (nearestZ (x *ℤ pos r) s *ℤ pos s) x r
-        (omega (arith, half_step (x *ℤ pos r) s h, far-back (x *ℤ pos r) (nearestZ (x *ℤ pos r) s *ℤ pos s)))
+        nearest-within (nearest_z (x *ℤ pos r) s *ℤ pos s) x r
+        (omega (arith, half_step (x *ℤ pos r) s h, far-back (x *ℤ pos r) (nearest_z (x *ℤ pos r) s *ℤ pos s)))
     by_cases (no f) =
         let same : r ≡ s = omega arith in
         rw same (rw (exact x s h) (exact x s h))
@@ -51,4 +51,4 @@ there_back x r s h l = by_cases (dec_lt s r)
 pub le-multiple : (x y : ℤ) (n : ℕ) → 0 < n → (x *ℤ pos n) ≤ℤ (y *ℤ pos n) → x ≤ℤ y
 le-multiple x y n h l =
     subst (λ (z : ℤ). z ≤ℤ y) (exact x n h)
-    (subst (λ (z : ℤ). nearestZ (x *ℤ pos n) n ≤ℤ z) (exact y n h) (monotone (x *ℤ pos n) (y *ℤ pos n) n h l))
+    (subst (λ (z : ℤ). nearest_z (x *ℤ pos n) n ≤ℤ z) (exact y n h) (monotone (x *ℤ pos n) (y *ℤ pos n) n h l))

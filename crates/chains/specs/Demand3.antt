@@ -3,14 +3,14 @@
 use Rattle.std.specs.Prelude.{◌≡◌, ◌↔◌, true, List, [], ◌∷◌, ◌++◌, ℕ, ◌*◌, ◌≤◌, pos, nat_abs, ◌-ℤ◌, ◌≤ℤ◌}
 use Rattle.numbers.specs.Nearest.{Nearest}
 use Rattle.laws.specs.Every.{every}
-use Rattle.rates.specs.Rates.{isRate, frameTicks}
+use Rattle.rates.specs.Rates.{is_rate, frame_ticks}
 use Rattle.timecodes.specs.declared.Timecode.{Timecode}
 use Rattle.timecodes.specs.declared.Answer.TheVariants.{At}
 use Rattle.timecodes.specs.declared.kinds.Kind.TheVariants.{Length, Position}
 use Rattle.timecodes.specs.Timecode.{timecode, number_of}
 use Rattle.timecodes.specs.Admitted.{Valid}
 use Rattle.timecodes.specs.Instant.{instant}
-use Rattle.chains.specs.Chain.{convert_of, lastRate, ticksTogether}
+use Rattle.chains.specs.Chain.{convert_of, last_rate, ticks_together}
 
 -- ---- what a conversion is
 
@@ -20,7 +20,7 @@ EmptyList = (tc : Timecode) → Valid tc → tc.kind ≡ Length → convert_of t
 
 -- through one rate, the end is the nearest frame of that rate, halves away from zero
 abbrev pub StepIsNearest : Type 0
-StepIsNearest = (tc end : Timecode) (next : ℕ) → convert_of tc (next ∷ []) ≡ At end → Nearest (instant tc) (frameTicks next) end.count
+StepIsNearest = (tc end : Timecode) (next : ℕ) → convert_of tc (next ∷ []) ≡ At end → Nearest (instant tc) (frame_ticks next) end.count
 
 -- through two lists, one after the other, the second starts where the first ended: each listed rate has its turn
 abbrev pub InTurn : Type 0
@@ -28,7 +28,7 @@ InTurn = (tc middle : Timecode) (list more : List ℕ) → convert_of tc list �
 
 -- the end's rate is the last listed one, and with none listed the start's
 abbrev pub ConvertedAt : Type 0
-ConvertedAt = (tc end : Timecode) (list : List ℕ) → convert_of tc list ≡ At end → end.rate ≡ lastRate tc.rate list
+ConvertedAt = (tc end : Timecode) (list : List ℕ) → convert_of tc list ≡ At end → end.rate ≡ last_rate tc.rate list
 
 -- 1 at rate 12 carried through rates 2, 12 ends at 0: the last rate alone does not decide
 abbrev pub EachTime : Type 0
@@ -40,7 +40,7 @@ EachTime = convert_of (timecode (pos 1) 12) (2 ∷ 12 ∷ []) ≡ At (timecode (
 abbrev pub ChainWithin : Type 0
 ChainWithin =
     (tc end : Timecode) (list : List ℕ) → convert_of tc list ≡ At end
-    → 2 * nat_abs (instant end -ℤ instant tc) ≤ ticksTogether list
+    → 2 * nat_abs (instant end -ℤ instant tc) ≤ ticks_together list
 
 -- two starting frames, of any two rates, never pass each other on their way through one list
 abbrev pub ChainOrdered : Type 0
@@ -59,7 +59,7 @@ CountsOrdered =
 -- through a rate whose frame is no longer than one's own, out and back returns the very frame
 abbrev pub OutAndBack : Type 0
 OutAndBack =
-    (tc out : Timecode) (next : ℕ) → frameTicks next ≤ frameTicks tc.rate → convert_of tc (next ∷ []) ≡ At out
+    (tc out : Timecode) (next : ℕ) → frame_ticks next ≤ frame_ticks tc.rate → convert_of tc (next ∷ []) ≡ At out
     → convert_of tc (next ∷ tc.rate ∷ []) ≡ At tc
 
 -- through any one rate, a second trip out and back moves nothing further
@@ -74,7 +74,7 @@ SecondTrip =
 abbrev pub PositionRefused : Type 0
 PositionRefused =
     (tc : Timecode) (list : List ℕ)
-    → (number_of (convert_of tc list) ≡ 15) ↔ ((every isRate list ≡ true) × ((isRate tc.rate ≡ true) × (tc.kind ≡ Position)))
+    → (number_of (convert_of tc list) ≡ 15) ↔ ((every is_rate list ≡ true) × ((is_rate tc.rate ≡ true) × (tc.kind ≡ Position)))
 
 -- what a conversion ends at is a length
 abbrev pub LengthStays : Type 0

@@ -7,7 +7,7 @@ use native.Mathlib.Omega.{arith}
 use lib.ListN.{length, set, length-set}
 use Rattle.lent.specs.Line.{front, laid}
 use Rattle.lent.proofs.Laws.{front-nil, front-snoc, laid_in}
-use Rattle.digits.specs.Digits.{digitsOf}
+use Rattle.digits.specs.Digits.{digits_of}
 use Rattle.digits.proofs.Values.{digits-length}
 
 -- i digits of `rest` are left to be set in the line l, which was l₀
@@ -15,14 +15,14 @@ pub record Spelling (l₀ : List ℕ) (k n : ℕ) (l : List ℕ) (i rest : ℕ) 
   pub long : length l ≡ length l₀
   pub room : k ≤ length l₀
   pub inside : i ≤ length l₀
-  pub left : front l₀ (digitsOf k n) ≡ front l (digitsOf i rest)
+  pub left : front l₀ (digits_of k n) ≡ front l (digits_of i rest)
 
 pub spelling-turn : (l₀ : List ℕ) (k n : ℕ) (l : List ℕ) (i rest : ℕ) → Spelling l₀ k n l i rest → 0 < i
     → Spelling l₀ k n (set l (i - 1) (48 + rest % 10)) (i - 1) (rest / 10)
-unfolding digitsOf
+unfolding digits_of
 spelling-turn l₀ k n l zero rest s h = absurd (omega arith)
 spelling-turn l₀ k n l (suc i) rest s h =
-    let d = digitsOf i (rest / 10) in
+    let d = digits_of i (rest / 10) in
     let p : suc i - 1 ≡ i = omega arith in
     let e : length d ≡ i = digits-length i (rest / 10) in
     record {
@@ -46,15 +46,15 @@ spelling-pair l₀ k n l i rest tens ones s h t o =
     rw (p, q, d, e) at two
 
 pub spelling-done : (l₀ : List ℕ) (k n : ℕ) (l : List ℕ) (i rest : ℕ) → Spelling l₀ k n l i rest → i ≤ 0
-    → l ≡ laid l₀ (digitsOf k n)
-unfolding digitsOf
+    → l ≡ laid l₀ (digits_of k n)
+unfolding digits_of
 spelling-done l₀ k n l zero rest s h =
-    sym (laid_in l₀ (digitsOf k n) (omega (arith, digits-length k n)) ∙ s.left ∙ front-nil l)
+    sym (laid_in l₀ (digits_of k n) (omega (arith, digits-length k n)) ∙ s.left ∙ front-nil l)
 spelling-done l₀ k n l (suc i) rest s h = absurd (omega arith)
 
 -- the first digit of an odd number of them
 pub spelling-first : (l₀ : List ℕ) (k n : ℕ) (l : List ℕ) (i rest : ℕ) → Spelling l₀ k n l i rest → 0 < i → i ≤ 1
-    → set l 0 (48 + rest % 10) ≡ laid l₀ (digitsOf k n)
+    → set l 0 (48 + rest % 10) ≡ laid l₀ (digits_of k n)
 spelling-first l₀ k n l i rest s h m =
     let p : i - 1 ≡ 0 = omega arith in
     rw p at (spelling-done l₀ k n (set l (i - 1) (48 + rest % 10)) (i - 1) (rest / 10) (spelling-turn l₀ k n l i rest s h) (omega arith))

@@ -11,24 +11,24 @@ use Rattle.digits.proofs.Leading as leading
 pub all_digits : AllDigits
 all_digits = values.digits-all
 
-pub decimal-back : DecimalBack
-decimal-back = width.decimal-back
+pub decimal_back : DecimalBack
+decimal_back = width.decimal_back
 
-pub value-back : ValueBack
-value-back = values.value-back
+pub value_back : ValueBack
+value_back = values.value_back
 
 pub leading_zeros : LeadingZeros
 leading_zeros = leading.leading_zeros
 
-pub decimal-length : DecimalLength
-decimal-length = width.decimal-length
+pub decimal_length : DecimalLength
+decimal_length = width.decimal_length
 
 pub width_is : WidthIs
 width_is n = (width.width_some n, width.width-enough n, width.width-at-most n)
 
-pub decimal-padded : DecimalPadded
-decimal-padded k n =
+pub decimal_padded : DecimalPadded
+decimal_padded k n =
     record {
       digits = width.decimal-field k n;
-      long = width.decimal-length k n ∙ ap (λ x. max k (digits.width x)) (sym (width.decimal-back k n));
+      long = width.decimal_length k n ∙ ap (λ x. max k (digits.width x)) (sym (width.decimal_back k n));
     }

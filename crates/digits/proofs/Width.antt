@@ -8,12 +8,12 @@ use native.Mathlib.Nat.{pow-suc, pow-le-pow_right, le-max_right}
 use lib.ListN.{length}
 use lib.Dec.{ltb}
 use borrow.Author.Tests.{lt-ltb, le-ltb, ltb-true, ltb-false}
-use Rattle.digits.specs.Digits.{IsField, value_of, digitsOf, widthStep, width_by, width, decimal}
+use Rattle.digits.specs.Digits.{IsField, value_of, digits_of, width_step, width_by, width, decimal}
 use Rattle.digits.proofs.Values.{digits-length, digits-all, digits-back}
 
 -- fuel that is enough is as good as any other that is
 stable-by : (f g n : ℕ) (t : Bool) → ltb n 10 ≡ t → (ltb n 10 ≡ false → width_by f (n / 10) ≡ width_by g (n / 10))
-    → widthStep t (width_by f) n ≡ widthStep t (width_by g) n
+    → width_step t (width_by f) n ≡ width_step t (width_by g) n
 stable-by f g n true e ih = refl
 stable-by f g n false e ih = ap suc (ih e)
 
@@ -75,18 +75,18 @@ width-at-most =
     (λ n h ih w p k. at-most-by n w h ih p k)
 
 -- ---- k digits at least
-pub decimal-length : (k n : ℕ) → length (decimal k n) ≡ max k (width n)
+pub decimal_length : (k n : ℕ) → length (decimal k n) ≡ max k (width n)
 unfolding decimal
-decimal-length k n = digits-length (max k (width n)) n
+decimal_length k n = digits-length (max k (width n)) n
 
-pub decimal-back : (k n : ℕ) → value_of (decimal k n) ≡ n
+pub decimal_back : (k n : ℕ) → value_of (decimal k n) ≡ n
 unfolding decimal
-decimal-back k n =
+decimal_back k n =
     digits-back (max k (width n)) n
     (omega (arith, width-enough n, pow-le-pow_right {n = 10} (omega arith) (le-max_right k (width n))))
 
 -- a number written is a field
-pub digits-field : (k n : ℕ) → 0 < k → IsField (digitsOf k n)
+pub digits-field : (k n : ℕ) → 0 < k → IsField (digits_of k n)
 digits-field k n h = record { some = omega (arith, digits-length k n); digits = digits-all k n }
 
 pub decimal-field : (k n : ℕ) → IsField (decimal k n)

@@ -1,11 +1,11 @@
 -- What holds of every number and every run of digits (BEHAVIOUR: Text shapes): each way back, and how wide a number is. Proofs: proofs/Statements.antt.
 -- Assumes nothing.
 use Rattle.std.specs.Prelude.{ℕ, ◌^◌, ◌≤◌, ◌<◌, max, ◌≡◌, ◌↔◌, List, true, length}
-use Rattle.digits.specs.Digits.{allDigits, IsField, value_of, significant, digitsOf, width, decimal}
+use Rattle.digits.specs.Digits.{all_digits, IsField, value_of, significant, digits_of, width, decimal}
 
 -- every byte of a number's digits is a digit
 abbrev pub AllDigits : Type 0
-AllDigits = (k n : ℕ) → allDigits (digitsOf k n) ≡ true
+AllDigits = (k n : ℕ) → all_digits (digits_of k n) ≡ true
 
 -- a number written and read is the number
 abbrev pub DecimalBack : Type 0
@@ -13,11 +13,11 @@ DecimalBack = (k n : ℕ) → value_of (decimal k n) ≡ n
 
 -- digits read and written, as many as they are, are these digits
 abbrev pub ValueBack : Type 0
-ValueBack = (d : List ℕ) → allDigits d ≡ true → digitsOf (length d) (value_of d) ≡ d
+ValueBack = (d : List ℕ) → all_digits d ≡ true → digits_of (length d) (value_of d) ≡ d
 
 -- digits have one value exactly when they are the same but for leading zeros
 abbrev pub LeadingZeros : Type 0
-LeadingZeros = (d e : List ℕ) → allDigits d ≡ true → allDigits e ≡ true → (value_of d ≡ value_of e) ↔ (significant d ≡ significant e)
+LeadingZeros = (d e : List ℕ) → all_digits d ≡ true → all_digits e ≡ true → (value_of d ≡ value_of e) ↔ (significant d ≡ significant e)
 
 -- a number written in k digits at least has k, or as many as it is wide
 abbrev pub DecimalLength : Type 0

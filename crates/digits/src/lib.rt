@@ -1,8 +1,10 @@
 // Decimal digits both ways: a run of them read as its value and count, a number laid down at least so many wide. Refuses nothing
 // itself.
+#![tactic(auto)]
+
 ghost use Rattle.std.specs.Prelude.{◌≡◌, true, ◌∷◌, [], ◌-◌, ◌<◌, ◌^◌, min, max, take, drop};
 ghost use Rattle.lent.specs.Line.{laid};
-ghost use Rattle.digits.specs.Digits.{isDigit, valueFrom, digitFirst, run_of, digitsOf, width};
+ghost use Rattle.digits.specs.Digits.{is_digit, value_from, digit_first, run_of, digits_of, width};
 
 mod pairs;
 
@@ -15,7 +17,7 @@ pub struct Run {
 
 // Is this byte one of '0' to '9'?
 pub fn is_digit(b: u8) -> bool
-    ensures answer { result ≡ isDigit b }
+    ensures { result ≡ is_digit b }
 {
     if b < 48 {
         return false;
@@ -25,7 +27,7 @@ pub fn is_digit(b: u8) -> bool
 
 // Does a digit stand at i? At the end and past it none does.
 fn digit_at(s: &[u8], i: usize) -> bool
-    ensures answer { result ≡ digitFirst (drop i s.now) }
+    ensures { result ≡ digit_first (drop i s.now) }
 {
     if i < s.len() {
         return is_digit(s[i]);
@@ -36,8 +38,8 @@ fn digit_at(s: &[u8], i: usize) -> bool
 // The value of count digits with one more behind them, which from the tenth on is not taken. Asks a value of so many digits, and a digit.
 fn push(value: u64, count: usize, b: u8) -> u64
     requires value { value < 10 ^ min count 9 }
-    requires digit { isDigit b ≡ true }
-    ensures answer { result ≡ valueFrom value (take (9 - count) (b ∷ [])) }
+    requires digit { is_digit b ≡ true }
+    ensures { result ≡ value_from value (take (9 - count) (b ∷ [])) }
 {
     if count < 9 {
         return value * 10 + (b as u64 - 48);
@@ -47,7 +49,7 @@ fn push(value: u64, count: usize, b: u8) -> u64
 
 // The run of digits at a place of the text, the empty one past its end too.
 pub fn run_at(s: &[u8], at: usize) -> Run
-    ensures answer { result ≡ run_of (drop at s.now) }
+    ensures { result ≡ run_of (drop at s.now) }
 {
     let mut value: u64 = 0;
     let mut count: usize = 0;
@@ -62,7 +64,7 @@ pub fn run_at(s: &[u8], at: usize) -> Run
 
 // How many digits n is written with, where there are to be `least` of them at least.
 pub fn width_of(least: usize, n: u64) -> usize
-    ensures answer { result ≡ max least (width n) }
+    ensures { result ≡ max least (width n) }
 {
     // two digits are enough: nothing is counted
     if n < 100 {
@@ -84,7 +86,7 @@ pub fn width_of(least: usize, n: u64) -> usize
 
 // The last k digits of n at the front of a part; every other byte stays. Where they have no room nothing changes.
 pub fn put_digits(part: &mut [u8], k: usize, n: u64)
-    ensures line { part.new ≡ laid part.old (digitsOf k n) }
+    ensures { part.new ≡ laid part.old (digits_of k n) }
 {
     if part.len() < k {
         return;

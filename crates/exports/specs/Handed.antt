@@ -7,12 +7,12 @@ use Rattle.rates.specs.declared.Rated.{Rated}
 use Rattle.rates.specs.Rates as rates
 use Rattle.timecodes.specs.declared.Timecode.{Timecode}
 use Rattle.timecodes.specs.declared.Answer.{Answer}
-use Rattle.timecodes.specs.Kinds.{kindFrom, isPosition}
-use Rattle.timecodes.specs.Timecode.{timecodeAs}
+use Rattle.timecodes.specs.Kinds.{kind_from, is_position}
+use Rattle.timecodes.specs.Timecode.{timecode_as}
 use Rattle.timecodes.specs.Timecode as timecodes
 use Rattle.film.specs.declared.Filmed.{Filmed}
 use Rattle.film.specs.declared.Filmed.TheVariants as filmed
-use Rattle.film.specs.Film.{perfsPerFrame, perfsPerFoot, allowsPerfField}
+use Rattle.film.specs.Film.{perfs_per_frame_of, perfs_per_foot_of, allows_perf_field}
 use Rattle.time.specs.declared.Ticked.{Ticked}
 use Rattle.time.specs.declared.Timed.{Timed}
 use Rattle.time.specs.Ticks as ticks
@@ -38,53 +38,53 @@ use Rattle.exports.specs.declared.handed.TzqRate.{TzqRate}
 use Rattle.exports.specs.declared.handed.TzqFormat.{TzqFormat}
 
 -- the timecode that C handed over: a count and a rate, a position or else a length
-abbrev pub timecodeFrom : TzqTimecode → Timecode
-timecodeFrom t = timecodeAs (kindFrom t.position) t.count t.rate
+abbrev pub timecode_from : TzqTimecode → Timecode
+timecode_from t = timecode_as (kind_from t.position) t.count t.rate
 
 -- a refusal returns its number with count 0; a count alone is no position
-unfoldable pub handedCount : Counted → TzqCount
-handedCount a = record { refused = answers.number_of a; count = answers.count_of a; position = false }
+unfoldable pub handed_count : Counted → TzqCount
+handed_count a = record { refused = answers.number_of a; count = answers.count_of a; position = false }
 
 -- of a timecode its count, and whether it is a position
-unfoldable pub handedAnswer : Answer → TzqCount
-handedAnswer a =
-    let tc = timecodes.timecodeOf a in
-    record { refused = timecodes.number_of a; count = tc.count; position = isPosition tc.kind }
+unfoldable pub handed_answer : Answer → TzqCount
+handed_answer a =
+    let tc = timecodes.timecode_of a in
+    record { refused = timecodes.number_of a; count = tc.count; position = is_position tc.kind }
 
 -- a footage answer carries the count together with the film format chosen; a refusal of the text carries its place
-unfoldable pub handedRead : Read → TzqRead
-handedRead a =
-    let tc = reading.timecodeOf a in
+unfoldable pub handed_read : Read → TzqRead
+handed_read a =
+    let tc = reading.timecode_of a in
     record {
       refused = reading.number_of a;
       count = tc.count;
       format = reading.format_of a;
       place = reading.place_of a;
-      position = isPosition tc.kind;
+      position = is_position tc.kind;
     }
 
 -- a refused comparison has order 0
-unfoldable pub handedOrder : Compared → TzqOrder
-handedOrder a = record { refused = compare.number_of a; order = compare.order_in a }
+unfoldable pub handed_order : Compared → TzqOrder
+handed_order a = record { refused = compare.number_of a; order = compare.order_in a }
 
 -- any other number in the answer is 0
-unfoldable pub handedTicks : Ticked → TzqTicks
-handedTicks a = record { refused = ticks.number_of a; ticks = ticks.ticksIn a }
+unfoldable pub handed_ticks : Ticked → TzqTicks
+handed_ticks a = record { refused = ticks.number_of a; ticks = ticks.ticks_in a }
 
 -- a fraction 0/1
-unfoldable pub handedSeconds : Timed → TzqSeconds
-handedSeconds a =
-    record { refused = seconds.number_of a; numerator = seconds.numeratorOf a; denominator = seconds.denominatorOf a }
+unfoldable pub handed_seconds : Timed → TzqSeconds
+handed_seconds a =
+    record { refused = seconds.number_of a; numerator = seconds.numerator_of a; denominator = seconds.denominator_of a }
 
 -- a timecode with its rate; of a refusal both are 0
-unfoldable pub handedTimecode : Answer → TzqConverted
-handedTimecode a =
-    record { refused = timecodes.number_of a; count = (timecodes.timecodeOf a).count; rate = (timecodes.timecodeOf a).rate }
+unfoldable pub handed_timecode : Answer → TzqConverted
+handed_timecode a =
+    record { refused = timecodes.number_of a; count = (timecodes.timecode_of a).count; rate = (timecodes.timecode_of a).rate }
 
 -- the fields of the label, by name; of a refusal all are 0
-unfoldable pub handedSections : Sectioned → TzqSections
-handedSections a =
-    let s = sections.sectionsIn a in
+unfoldable pub handed_sections : Sectioned → TzqSections
+handed_sections a =
+    let s = sections.sections_in a in
     record {
       refused = sections.number_of a;
       negative = s.negative;
@@ -95,12 +95,12 @@ handedSections a =
     }
 
 -- and length 0
-unfoldable pub handedLength : Written → TzqLength
-handedLength a = record { refused = written.number_of a; length = written.length_of a }
+unfoldable pub handed_length : Written → TzqLength
+handed_length a = record { refused = written.number_of a; length = written.length_of a }
 
 -- the row of the table; of a refusal all numbers are 0
-unfoldable pub handedRate : Rated → TzqRate
-handedRate a =
+unfoldable pub handed_rate : Rated → TzqRate
+handed_rate a =
     let row = rates.row_of a in
     record {
       refused = rates.number_of a;
@@ -111,18 +111,18 @@ handedRate a =
     }
 
 -- the perfs a frame and a foot, and whether there is a perf field; of a refusal 0 and no
-unfoldable pub handedFormat : Filmed → TzqFormat
-handedFormat (filmed.Format format) =
+unfoldable pub handed_format : Filmed → TzqFormat
+handed_format (filmed.Format format) =
     record {
       refused = 0;
-      perfs_per_frame = perfsPerFrame format;
-      perfs_per_foot = perfsPerFoot format;
-      perf_field = allowsPerfField format;
+      perfs_per_frame = perfs_per_frame_of format;
+      perfs_per_foot = perfs_per_foot_of format;
+      perf_field = allows_perf_field format;
     }
-handedFormat (filmed.Refused e) = record { refused = e.number; perfs_per_frame = 0; perfs_per_foot = 0; perf_field = false }
+handed_format (filmed.Refused e) = record { refused = e.number; perfs_per_frame = 0; perfs_per_foot = 0; perf_field = false }
 
 -- the numbers of an answer that is right: the seconds of the timecode, or the first refusal
 pub record SecondsHanded (tc : Timecode) (r : TzqSeconds) : Type 0 where
   pub answer : Timed
   pub right : seconds.SecondsOf tc answer
-  pub handed : r ≡ handedSeconds answer
+  pub handed : r ≡ handed_seconds answer

@@ -11,26 +11,26 @@ use Rattle.exports.specs.declared.lists.TzqRecord.{TzqRecord}
 use Rattle.exports.specs.declared.lists.TzqChecked.{TzqChecked}
 
 -- a refusal's number and a kind; every other number is 0
-unfoldable pub recordOfKind : (refused kind : ℕ) → TzqRecord
-recordOfKind refused kind =
+unfoldable pub record_of_kind : (refused kind : ℕ) → TzqRecord
+record_of_kind refused kind =
     record { refused = refused; kind = kind; rate = 0; first = pos 0; end = pos 0; reel = 0; held = 0; size = 0 }
 
 -- a record's kind and its own numbers, the rate held behind it, and how many bytes it has
-unfoldable pub handedRecord : Record → (held size : ℕ) → TzqRecord
-handedRecord (Rate n) held size =
+unfoldable pub handed_record : Record → (held size : ℕ) → TzqRecord
+handed_record (Rate n) held size =
     record { refused = 0; kind = 1; rate = n; first = pos 0; end = pos 0; reel = 0; held = held; size = size }
-handedRecord (Shot first end) held size =
+handed_record (Shot first end) held size =
     record { refused = 0; kind = 2; rate = 0; first = first; end = end; reel = 0; held = held; size = size }
-handedRecord (Reel n) held size =
+handed_record (Reel n) held size =
     record { refused = 0; kind = 3; rate = 0; first = pos 0; end = pos 0; reel = n; held = held; size = size }
 
 -- no record where it is refused, and none at the end
-unfoldable pub handedEntry : Entry → TzqRecord
-handedEntry (entry.Taken r held size) = handedRecord r held size
-handedEntry (entry.Refused e) = recordOfKind e.number 0
-handedEntry entry.End = recordOfKind 0 0
+unfoldable pub handed_entry : Entry → TzqRecord
+handed_entry (entry.Taken r held size) = handed_record r held size
+handed_entry (entry.Refused e) = record_of_kind e.number 0
+handed_entry entry.End = record_of_kind 0 0
 
 -- how many records; of a refusal 0
-unfoldable pub handedChecked : Checked → TzqChecked
-handedChecked (checked.Records n) = record { refused = 0; records = n }
-handedChecked (checked.Refused e) = record { refused = e.number; records = 0 }
+unfoldable pub handed_checked : Checked → TzqChecked
+handed_checked (checked.Records n) = record { refused = 0; records = n }
+handed_checked (checked.Refused e) = record { refused = e.number; records = 0 }

@@ -17,33 +17,33 @@ use Rattle.reasons.specs.declared.Reasoned.{Reasoned}
 use Rattle.reasons.specs.declared.Reasoned.TheVariants.{Told, Refused}
 use Rattle.exports.specs.declared.why.FactNumbers.{FactNumbers}
 use Rattle.exports.specs.declared.why.TzqReason.{TzqReason}
-use Rattle.exports.specs.Handed.{handedRead}
+use Rattle.exports.specs.Handed.{handed_read}
 
 -- the film format counts only where one is stated
-abbrev pub statedFrom : (stated : Bool) (format : ℕ) → Stated
-statedFrom true format = stated.Format format
-statedFrom false format = stated.Nothing
+abbrev pub stated_from : (stated : Bool) (format : ℕ) → Stated
+stated_from true format = stated.Format format
+stated_from false format = stated.Nothing
 
 -- what the limit and the value speak of; 0 is no field's
-abbrev pub fieldNumber : Field → ℕ
-fieldNumber Count = 1
-fieldNumber Sign = 2
-fieldNumber Hours = 3
-fieldNumber Minutes = 4
-fieldNumber Seconds = 5
-fieldNumber Frames = 6
-fieldNumber Marker = 7
+abbrev pub field_number : Field → ℕ
+field_number Count = 1
+field_number Sign = 2
+field_number Hours = 3
+field_number Minutes = 4
+field_number Seconds = 5
+field_number Frames = 6
+field_number Marker = 7
 
 -- ---- the numbers of a fact
 -- none: all are 0
-unfoldable pub noFact : FactNumbers
-noFact = record { field = 0; limit = pos 0; value = pos 0; negative = false; hours = 0; minutes = 0; seconds = 0; frames = 0 }
+unfoldable pub no_fact : FactNumbers
+no_fact = record { field = 0; limit = pos 0; value = pos 0; negative = false; hours = 0; minutes = 0; seconds = 0; frames = 0 }
 
 -- a field with its limit and its value, each with its sign (0 in place of one of 2 ^ 63 or more, which no field comes to)
-unfoldable pub limitFact : Fault → FactNumbers
-limitFact f =
+unfoldable pub limit_fact : Fault → FactNumbers
+limit_fact f =
     record {
-      field = fieldNumber f.field;
+      field = field_number f.field;
       limit = fitted f.limit (signed f.minus f.limit);
       value = fitted f.value (signed f.minus f.value);
       negative = false;
@@ -54,8 +54,8 @@ limitFact f =
     }
 
 -- the fields of the first allowed label
-unfoldable pub firstFact : TimecodeSections → FactNumbers
-firstFact s =
+unfoldable pub first_fact : TimecodeSections → FactNumbers
+first_fact s =
     record {
       field = 0;
       limit = pos 0;
@@ -67,17 +67,17 @@ firstFact s =
       frames = s.frames;
     }
 
-abbrev pub factNumbers : Fact → FactNumbers
-factNumbers Nothing = noFact
-factNumbers (Limit f) = limitFact f
-factNumbers (First s) = firstFact s
+abbrev pub fact_numbers : Fact → FactNumbers
+fact_numbers Nothing = no_fact
+fact_numbers (Limit f) = limit_fact f
+fact_numbers (First s) = first_fact s
 
 -- ---- what is handed over
 -- what tzq_read hands over, its refusal as the number, the numbers of the fact, and the phrase's length
-unfoldable pub toldReason : Reason → TzqReason
-toldReason r =
-    let a = handedRead r.read in
-    let n = factNumbers r.fact in
+unfoldable pub told_reason : Reason → TzqReason
+told_reason r =
+    let a = handed_read r.read in
+    let n = fact_numbers r.fact in
     record {
       refused = 0;
       number = a.refused;
@@ -97,8 +97,8 @@ toldReason r =
     }
 
 -- a refusal returns its number; every other number is 0
-unfoldable pub noReason : Refusal → TzqReason
-noReason e =
+unfoldable pub no_reason : Refusal → TzqReason
+no_reason e =
     record {
       refused = e.number;
       number = 0;
@@ -117,6 +117,6 @@ noReason e =
       length = 0;
     }
 
-abbrev pub handedReason : Reasoned → TzqReason
-handedReason (Told r) = toldReason r
-handedReason (Refused e) = noReason e
+abbrev pub handed_reason : Reasoned → TzqReason
+handed_reason (Told r) = told_reason r
+handed_reason (Refused e) = no_reason e

@@ -1,7 +1,7 @@
 // What is handed to C: a struct of numbers for each kind of answer, the refusal's number first.
 ghost use Rattle.std.specs.Prelude.{◌≡◌};
-ghost use Rattle.timecodes.specs.Kinds.{isPosition};
-ghost use Rattle.exports.specs.Handed.{timecodeFrom, handedCount, handedAnswer, handedRead, handedOrder, handedTicks, handedSeconds, handedTimecode, handedSections, handedLength, handedRate, handedFormat};
+ghost use Rattle.timecodes.specs.Kinds.{is_position};
+ghost use Rattle.exports.specs.Handed.{timecode_from, handed_count, handed_answer, handed_read, handed_order, handed_ticks, handed_seconds, handed_timecode, handed_sections, handed_length, handed_rate, handed_format};
 
 use answers::Counted;
 use arithmetic::Compared;
@@ -120,21 +120,21 @@ pub struct TzqFormat {
 
 // A byte as a number.
 pub(crate) fn wide(n: u8) -> u64
-    ensures answer { result ≡ n }
+    ensures { result ≡ n }
 {
     n as u64
 }
 
 // The timecode that C handed over.
 pub(crate) fn timecode_from(t: TzqTimecode) -> Timecode
-    ensures answer { result ≡ timecodeFrom t }
+    ensures { result ≡ timecode_from t }
 {
     timecodes::new(t.count, t.rate, Kind::from(t.position))
 }
 
 // Whether a timecode is a position.
 fn is_position(tc: Timecode) -> bool
-    ensures answer { result ≡ isPosition tc.kind }
+    ensures { result ≡ is_position tc.kind }
 {
     let kind = tc.kind;
     kind.is_position()
@@ -142,7 +142,7 @@ fn is_position(tc: Timecode) -> bool
 
 // A count or its refusal.
 pub(crate) fn handed_count(a: Counted) -> TzqCount
-    ensures answer { result ≡ handedCount a }
+    ensures { result ≡ handed_count a }
 {
     match a {
         Counted::Count(count) => TzqCount {
@@ -160,7 +160,7 @@ pub(crate) fn handed_count(a: Counted) -> TzqCount
 
 // A timecode's count and kind, or its refusal: the rate is the caller's own.
 pub(crate) fn handed_answer(a: Answer) -> TzqCount
-    ensures answer { result ≡ handedAnswer a }
+    ensures { result ≡ handed_answer a }
 {
     match a {
         Answer::At(tc) => TzqCount {
@@ -178,7 +178,7 @@ pub(crate) fn handed_answer(a: Answer) -> TzqCount
 
 // What a text reads as, or its refusal.
 pub(crate) fn handed_read(a: Read) -> TzqRead
-    ensures answer { result ≡ handedRead a }
+    ensures { result ≡ handed_read a }
 {
     match a {
         Read::Label(tc) => TzqRead {
@@ -207,7 +207,7 @@ pub(crate) fn handed_read(a: Read) -> TzqRead
 
 // An order or its refusal.
 pub(crate) fn handed_order(a: Compared) -> TzqOrder
-    ensures answer { result ≡ handedOrder a }
+    ensures { result ≡ handed_order a }
 {
     match a {
         Compared::Order(order) => TzqOrder { refused: 0, order },
@@ -220,7 +220,7 @@ pub(crate) fn handed_order(a: Compared) -> TzqOrder
 
 // Ticks or their refusal.
 pub(crate) fn handed_ticks(a: Ticked) -> TzqTicks
-    ensures answer { result ≡ handedTicks a }
+    ensures { result ≡ handed_ticks a }
 {
     match a {
         Ticked::Ticks(ticks) => TzqTicks { refused: 0, ticks },
@@ -233,7 +233,7 @@ pub(crate) fn handed_ticks(a: Ticked) -> TzqTicks
 
 // Seconds or their refusal.
 pub(crate) fn handed_seconds(a: Timed) -> TzqSeconds
-    ensures answer { result ≡ handedSeconds a }
+    ensures { result ≡ handed_seconds a }
 {
     match a {
         Timed::Seconds { p, q } => TzqSeconds {
@@ -251,7 +251,7 @@ pub(crate) fn handed_seconds(a: Timed) -> TzqSeconds
 
 // A timecode at the end of a conversion, or its refusal.
 pub(crate) fn handed_timecode(a: Answer) -> TzqConverted
-    ensures answer { result ≡ handedTimecode a }
+    ensures { result ≡ handed_timecode a }
 {
     match a {
         Answer::At(tc) => TzqConverted {
@@ -269,7 +269,7 @@ pub(crate) fn handed_timecode(a: Answer) -> TzqConverted
 
 // Sections or their refusal.
 pub(crate) fn handed_sections(a: Sectioned) -> TzqSections
-    ensures answer { result ≡ handedSections a }
+    ensures { result ≡ handed_sections a }
 {
     match a {
         Sectioned::Sections(s) => TzqSections {
@@ -293,7 +293,7 @@ pub(crate) fn handed_sections(a: Sectioned) -> TzqSections
 
 // A length or its refusal.
 pub(crate) fn handed_length(a: Written) -> TzqLength
-    ensures answer { result ≡ handedLength a }
+    ensures { result ≡ handed_length a }
 {
     match a {
         Written::Length(length) => TzqLength { refused: 0, length },
@@ -306,7 +306,7 @@ pub(crate) fn handed_length(a: Written) -> TzqLength
 
 // A row or its refusal.
 pub(crate) fn handed_rate(a: Rated) -> TzqRate
-    ensures answer { result ≡ handedRate a }
+    ensures { result ≡ handed_rate a }
 {
     match a {
         Rated::Row(row) => TzqRate {
@@ -328,7 +328,7 @@ pub(crate) fn handed_rate(a: Rated) -> TzqRate
 
 // What is known of a film format, or its refusal.
 pub(crate) fn handed_format(a: Filmed) -> TzqFormat
-    ensures answer { result ≡ handedFormat a }
+    ensures { result ≡ handed_format a }
 {
     match a {
         Filmed::Format(format) => TzqFormat {

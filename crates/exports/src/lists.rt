@@ -1,11 +1,11 @@
 // Shot lists: walked record by record, tested as a whole, and written.
 ghost use Rattle.std.specs.Prelude.{◌≡◌, drop};
-ghost use Rattle.written.specs.Written.{answerTo, lineTo};
-ghost use Rattle.shot_lists.specs.Entries.{onDisk, entry_of};
-ghost use Rattle.shot_lists.specs.Reading.{checkedOf, read_of};
-ghost use Rattle.shot_writer.specs.ListText.{listDraft};
-ghost use Rattle.exports.specs.Handed.{handedLength};
-ghost use Rattle.exports.specs.HandedLists.{recordOfKind, handedRecord, handedEntry, handedChecked};
+ghost use Rattle.written.specs.Written.{answer_to, line_to};
+ghost use Rattle.shot_lists.specs.Entries.{on_disk, entry_of};
+ghost use Rattle.shot_lists.specs.Reading.{checked_of, read_of};
+ghost use Rattle.shot_writer.specs.ListText.{list_draft};
+ghost use Rattle.exports.specs.Handed.{handed_length};
+ghost use Rattle.exports.specs.HandedLists.{record_of_kind, handed_record, handed_entry, handed_checked};
 
 use crate::handed;
 use crate::handed::TzqLength;
@@ -36,7 +36,7 @@ pub struct TzqChecked {
 
 // A record's kind and numbers, with what is held behind it and its size.
 fn handed_record(found: Record, held: u64, size: usize) -> TzqRecord
-    ensures answer { result ≡ handedRecord found held size }
+    ensures { result ≡ handed_record found held size }
 {
     match found {
         Record::Rate(rate) => TzqRecord {
@@ -74,7 +74,7 @@ fn handed_record(found: Record, held: u64, size: usize) -> TzqRecord
 
 // No record, and why: 0 where the list is over.
 fn no_record(refused: u64) -> TzqRecord
-    ensures answer { result ≡ recordOfKind refused 0 }
+    ensures { result ≡ record_of_kind refused 0 }
 {
     TzqRecord {
         refused,
@@ -90,7 +90,7 @@ fn no_record(refused: u64) -> TzqRecord
 
 // A record, its refusal, or the end.
 fn handed_entry(a: Entry) -> TzqRecord
-    ensures answer { result ≡ handedEntry a }
+    ensures { result ≡ handed_entry a }
 {
     match a {
         Entry::Taken { found, held, size } => handed_record(found, held, size),
@@ -101,7 +101,7 @@ fn handed_entry(a: Entry) -> TzqRecord
 
 // The number of records, or the list's refusal.
 fn handed_checked(a: Checked) -> TzqChecked
-    ensures answer { result ≡ handedChecked a }
+    ensures { result ≡ handed_checked a }
 {
     match a {
         Checked::Records(records) => TzqChecked {
@@ -119,7 +119,7 @@ fn handed_checked(a: Checked) -> TzqChecked
 // frame out of bounds; 11: a shot before any rate; 12: its end before its first frame.
 #[unsafe(no_mangle)]
 pub extern "C" fn tzq_record_at(list: &[u8], at: usize, held: u64) -> TzqRecord
-    ensures answer { result ≡ handedEntry (entry_of onDisk held (drop at list.now)) }
+    ensures { result ≡ handed_entry (entry_of on_disk held (drop at list.now)) }
 {
     handed_entry(shot_lists::record_at(list, at, held))
 }
@@ -127,7 +127,7 @@ pub extern "C" fn tzq_record_at(list: &[u8], at: usize, held: u64) -> TzqRecord
 // A whole list, tested. Refuses what its earliest record at fault is refused.
 #[unsafe(no_mangle)]
 pub extern "C" fn tzq_check_list(list: &[u8]) -> TzqChecked
-    ensures answer { result ≡ handedChecked (checkedOf (read_of onDisk list.now)) }
+    ensures { result ≡ handed_checked (checked_of (read_of on_disk list.now)) }
 {
     handed_checked(shot_lists::check_list(list))
 }
@@ -136,8 +136,8 @@ pub extern "C" fn tzq_check_list(list: &[u8]) -> TzqChecked
 // at fault is refused; 8: no room.
 #[unsafe(no_mangle)]
 pub extern "C" fn tzq_write_list(given: &[i64], line: &mut [u8], place: usize) -> TzqLength
-    ensures answer { result ≡ handedLength (answerTo line.old place (listDraft given.now)) }
-    ensures line { line.new ≡ lineTo line.old place (listDraft given.now) }
+    ensures answer { result ≡ handed_length (answer_to line.old place (list_draft given.now)) }
+    ensures line { line.new ≡ line_to line.old place (list_draft given.now) }
 {
     handed::handed_length(shot_writer::write_list(given, line, place))
 }

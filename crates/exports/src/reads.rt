@@ -1,10 +1,10 @@
 // Texts read as a count.
 ghost use Rattle.std.specs.Prelude.{◌≡◌};
-ghost use Rattle.timecodes.specs.Kinds.{kindFrom};
+ghost use Rattle.timecodes.specs.Kinds.{kind_from};
 ghost use Rattle.timecodes.specs.Made.{settled};
-ghost use Rattle.reading.specs.For.{readFor};
-ghost use Rattle.runtime_reading.specs.Reading.{readRuntime};
-ghost use Rattle.exports.specs.Handed.{handedAnswer, handedRead};
+ghost use Rattle.reading.specs.For.{read_for};
+ghost use Rattle.runtime_reading.specs.Reading.{read_runtime};
+ghost use Rattle.exports.specs.Handed.{handed_answer, handed_read};
 
 use crate::handed;
 use crate::handed::{TzqCount, TzqRead};
@@ -16,7 +16,7 @@ use timecodes::Kind;
 // 3: a dropped label; 5: the count is out of bounds.
 #[unsafe(no_mangle)]
 pub extern "C" fn tzq_read(text: &[u8], rate: u64, position: bool) -> TzqRead
-    ensures answer { result ≡ handedRead (readFor (kindFrom position) text.now Stated.Nothing rate) }
+    ensures { result ≡ handed_read (read_for (kind_from position) text.now Stated.Nothing rate) }
 {
     handed::handed_read(reading::read_text(text, Stated::Nothing, rate, Kind::from(position)))
 }
@@ -26,7 +26,7 @@ pub extern "C" fn tzq_read(text: &[u8], rate: u64, position: bool) -> TzqRead
 // bounds.
 #[unsafe(no_mangle)]
 pub extern "C" fn tzq_read_as(text: &[u8], format: u64, rate: u64, position: bool) -> TzqRead
-    ensures answer { result ≡ handedRead (readFor (kindFrom position) text.now (Stated.Format format) rate) }
+    ensures { result ≡ handed_read (read_for (kind_from position) text.now (Stated.Format format) rate) }
 {
     handed::handed_read(reading::read_text(
         text,
@@ -40,7 +40,7 @@ pub extern "C" fn tzq_read_as(text: &[u8], format: u64, rate: u64, position: boo
 // 5: the count is out of bounds.
 #[unsafe(no_mangle)]
 pub extern "C" fn tzq_read_runtime(text: &[u8], rate: u64, position: bool) -> TzqCount
-    ensures answer { result ≡ handedAnswer (settled (kindFrom position) (readRuntime text.now rate)) }
+    ensures { result ≡ handed_answer (settled (kind_from position) (read_runtime text.now rate)) }
 {
     handed::handed_answer(runtime_reading::read_runtime(text, rate, Kind::from(position)))
 }

@@ -1,7 +1,7 @@
 // The router: the shards of a directory that a query asks.
 ghost use Rattle.std.specs.Prelude.{◌≡◌};
-ghost use Rattle.router.specs.Route.{routeOf};
-ghost use Rattle.exports.specs.HandedRoute.{handedRouted};
+ghost use Rattle.router.specs.Route.{route_of};
+ghost use Rattle.exports.specs.HandedRoute.{handed_routed};
 
 use crate::handed;
 use router::Routed;
@@ -18,7 +18,7 @@ pub struct TzqShards {
 
 // The shards, or the refusal.
 fn handed_routed(a: Routed) -> TzqShards
-    ensures answer { result ≡ handedRouted a }
+    ensures { result ≡ handed_routed a }
 {
     match a {
         Routed::Shards { first, after } => TzqShards {
@@ -47,7 +47,7 @@ pub extern "C" fn tzq_route(
     length: i64,
     text: &[u8],
 ) -> TzqShards
-    ensures answer { result ≡ handedRouted (routeOf rate firsts.now ends.now length text.now) }
+    ensures { result ≡ handed_routed (route_of rate firsts.now ends.now length text.now) }
 {
     handed_routed(router::route(rate, firsts, ends, length, text))
 }

@@ -1,13 +1,13 @@
 // Sums, products, divisions and comparison of timecodes.
 ghost use Rattle.std.specs.Prelude.{◌≡◌};
-ghost use Rattle.arithmetic.specs.Sum.{addOf, subOf};
-ghost use Rattle.arithmetic.specs.Product.{mulOf};
-ghost use Rattle.arithmetic.specs.Truncating.{div_of, remOf};
-ghost use Rattle.arithmetic.specs.Flooring.{divqOf};
-ghost use Rattle.arithmetic.specs.Remainder.{remqOf};
-ghost use Rattle.arithmetic.specs.Compare.{compareOf};
-ghost use Rattle.arithmetic.specs.Count.{neg_of, absOf, rebaseOf};
-ghost use Rattle.exports.specs.Handed.{timecodeFrom, handedAnswer, handedOrder};
+ghost use Rattle.arithmetic.specs.Sum.{add_of, sub_of};
+ghost use Rattle.arithmetic.specs.Product.{mul_of};
+ghost use Rattle.arithmetic.specs.Truncating.{div_of, rem_of};
+ghost use Rattle.arithmetic.specs.Flooring.{divq_of};
+ghost use Rattle.arithmetic.specs.Remainder.{remq_of};
+ghost use Rattle.arithmetic.specs.Compare.{compare_of};
+ghost use Rattle.arithmetic.specs.Count.{neg_of, abs_of, rebase_of};
+ghost use Rattle.exports.specs.Handed.{timecode_from, handed_answer, handed_order};
 
 use crate::handed;
 use crate::handed::{TzqCount, TzqOrder, TzqTimecode};
@@ -16,7 +16,7 @@ use crate::handed::{TzqCount, TzqOrder, TzqTimecode};
 // 5: a count, or the resulting count, is out of bounds.
 #[unsafe(no_mangle)]
 pub extern "C" fn tzq_add(a: TzqTimecode, b: TzqTimecode) -> TzqCount
-    ensures answer { result ≡ handedAnswer (addOf (timecodeFrom a) (timecodeFrom b)) }
+    ensures { result ≡ handed_answer (add_of (timecode_from a) (timecode_from b)) }
 {
     handed::handed_answer(arithmetic::add(handed::timecode_from(a), handed::timecode_from(b)))
 }
@@ -25,7 +25,7 @@ pub extern "C" fn tzq_add(a: TzqTimecode, b: TzqTimecode) -> TzqCount
 // 6: no such rate; 15: a position taken from a length; 5: a count, or the resulting count, is out of bounds.
 #[unsafe(no_mangle)]
 pub extern "C" fn tzq_sub(a: TzqTimecode, b: TzqTimecode) -> TzqCount
-    ensures answer { result ≡ handedAnswer (subOf (timecodeFrom a) (timecodeFrom b)) }
+    ensures { result ≡ handed_answer (sub_of (timecode_from a) (timecode_from b)) }
 {
     handed::handed_answer(arithmetic::sub(handed::timecode_from(a), handed::timecode_from(b)))
 }
@@ -33,7 +33,7 @@ pub extern "C" fn tzq_sub(a: TzqTimecode, b: TzqTimecode) -> TzqCount
 // How two timecodes compare, by instant. Refuses 6: no such rate; 15: a position and a length; 5: a count is out of bounds.
 #[unsafe(no_mangle)]
 pub extern "C" fn tzq_cmp(a: TzqTimecode, b: TzqTimecode) -> TzqOrder
-    ensures answer { result ≡ handedOrder (compareOf (timecodeFrom a) (timecodeFrom b)) }
+    ensures { result ≡ handed_order (compare_of (timecode_from a) (timecode_from b)) }
 {
     handed::handed_order(arithmetic::cmp(handed::timecode_from(a), handed::timecode_from(b)))
 }
@@ -42,7 +42,7 @@ pub extern "C" fn tzq_cmp(a: TzqTimecode, b: TzqTimecode) -> TzqOrder
 // is out of bounds.
 #[unsafe(no_mangle)]
 pub extern "C" fn tzq_mul(tc: TzqTimecode, p: i64, q: u64) -> TzqCount
-    ensures answer { result ≡ handedAnswer (mulOf (timecodeFrom tc) p q) }
+    ensures { result ≡ handed_answer (mul_of (timecode_from tc) p q) }
 {
     handed::handed_answer(arithmetic::mul(handed::timecode_from(tc), p, q))
 }
@@ -51,7 +51,7 @@ pub extern "C" fn tzq_mul(tc: TzqTimecode, p: i64, q: u64) -> TzqCount
 // 7: the divisor is zero.
 #[unsafe(no_mangle)]
 pub extern "C" fn tzq_div(tc: TzqTimecode, n: i64) -> TzqCount
-    ensures answer { result ≡ handedAnswer (div_of (timecodeFrom tc) n) }
+    ensures { result ≡ handed_answer (div_of (timecode_from tc) n) }
 {
     handed::handed_answer(arithmetic::div(handed::timecode_from(tc), n))
 }
@@ -59,7 +59,7 @@ pub extern "C" fn tzq_div(tc: TzqTimecode, n: i64) -> TzqCount
 // What `tzq_div` leaves, with the dividend's sign. Refuses as `tzq_div` does.
 #[unsafe(no_mangle)]
 pub extern "C" fn tzq_rem(tc: TzqTimecode, n: i64) -> TzqCount
-    ensures answer { result ≡ handedAnswer (remOf (timecodeFrom tc) n) }
+    ensures { result ≡ handed_answer (rem_of (timecode_from tc) n) }
 {
     handed::handed_answer(arithmetic::rem(handed::timecode_from(tc), n))
 }
@@ -68,7 +68,7 @@ pub extern "C" fn tzq_rem(tc: TzqTimecode, n: i64) -> TzqCount
 // 7: the divisor is zero; 5: the resulting count is out of bounds.
 #[unsafe(no_mangle)]
 pub extern "C" fn tzq_divq(tc: TzqTimecode, p: i64, q: u64) -> TzqCount
-    ensures answer { result ≡ handedAnswer (divqOf (timecodeFrom tc) p q) }
+    ensures { result ≡ handed_answer (divq_of (timecode_from tc) p q) }
 {
     handed::handed_answer(arithmetic::divq(handed::timecode_from(tc), p, q))
 }
@@ -76,7 +76,7 @@ pub extern "C" fn tzq_divq(tc: TzqTimecode, p: i64, q: u64) -> TzqCount
 // The remainder by p/q, with the dividend's sign, rounded. Refuses as `tzq_divq` does.
 #[unsafe(no_mangle)]
 pub extern "C" fn tzq_remq(tc: TzqTimecode, p: i64, q: u64) -> TzqCount
-    ensures answer { result ≡ handedAnswer (remqOf (timecodeFrom tc) p q) }
+    ensures { result ≡ handed_answer (remq_of (timecode_from tc) p q) }
 {
     handed::handed_answer(arithmetic::remq(handed::timecode_from(tc), p, q))
 }
@@ -84,7 +84,7 @@ pub extern "C" fn tzq_remq(tc: TzqTimecode, p: i64, q: u64) -> TzqCount
 // The negated count of a length. Refuses 6: no such rate; 15: a position; 5: the count is out of bounds.
 #[unsafe(no_mangle)]
 pub extern "C" fn tzq_neg(tc: TzqTimecode) -> TzqCount
-    ensures answer { result ≡ handedAnswer (neg_of (timecodeFrom tc)) }
+    ensures { result ≡ handed_answer (neg_of (timecode_from tc)) }
 {
     handed::handed_answer(arithmetic::neg(handed::timecode_from(tc)))
 }
@@ -92,7 +92,7 @@ pub extern "C" fn tzq_neg(tc: TzqTimecode) -> TzqCount
 // The absolute count of a length. Refuses 6: no such rate; 15: a position; 5: the count is out of bounds.
 #[unsafe(no_mangle)]
 pub extern "C" fn tzq_abs(tc: TzqTimecode) -> TzqCount
-    ensures answer { result ≡ handedAnswer (absOf (timecodeFrom tc)) }
+    ensures { result ≡ handed_answer (abs_of (timecode_from tc)) }
 {
     handed::handed_answer(arithmetic::abs(handed::timecode_from(tc)))
 }
@@ -100,7 +100,7 @@ pub extern "C" fn tzq_abs(tc: TzqTimecode) -> TzqCount
 // A length's count at another rate. Refuses 6: either rate is none; 15: a position; 5: the count is out of bounds.
 #[unsafe(no_mangle)]
 pub extern "C" fn tzq_rebase(tc: TzqTimecode, rate: u64) -> TzqCount
-    ensures answer { result ≡ handedAnswer (rebaseOf (timecodeFrom tc) rate) }
+    ensures { result ≡ handed_answer (rebase_of (timecode_from tc) rate) }
 {
     handed::handed_answer(arithmetic::rebase(handed::timecode_from(tc), rate))
 }

@@ -1,9 +1,9 @@
 // Why a text is read as it is: the numbers of what the reader answers, and of the fact behind it.
 ghost use Rattle.std.specs.Prelude.{◌≡◌};
-ghost use Rattle.timecodes.specs.Kinds.{kindFrom};
-ghost use Rattle.written.specs.Written.{Text, lineTo};
-ghost use Rattle.reasons.specs.Why.{phraseFor, whyOf};
-ghost use Rattle.exports.specs.HandedWhy.{statedFrom, fieldNumber, noFact, limitFact, firstFact, factNumbers, toldReason, noReason, handedReason};
+ghost use Rattle.timecodes.specs.Kinds.{kind_from};
+ghost use Rattle.written.specs.Written.{Text, line_to};
+ghost use Rattle.reasons.specs.Why.{phrase_for, why_of};
+ghost use Rattle.exports.specs.HandedWhy.{stated_from, field_number, no_fact, limit_fact, first_fact, fact_numbers, told_reason, no_reason, handed_reason};
 
 use crate::handed;
 use answers::Refusal;
@@ -50,7 +50,7 @@ struct FactNumbers {
 
 // The film format that is stated, or none.
 fn stated_from(stated: bool, format: u64) -> Stated
-    ensures answer { result ≡ statedFrom stated format }
+    ensures { result ≡ stated_from stated format }
 {
     if stated {
         return Stated::Format(format);
@@ -60,7 +60,7 @@ fn stated_from(stated: bool, format: u64) -> Stated
 
 // The number that C has for a field.
 fn field_number(field: Field) -> u64
-    ensures answer { result ≡ fieldNumber field }
+    ensures { result ≡ field_number field }
 {
     match field {
         Field::Count => 1,
@@ -75,7 +75,7 @@ fn field_number(field: Field) -> u64
 
 // No fact: every number is 0.
 fn no_fact() -> FactNumbers
-    ensures answer { result ≡ noFact }
+    ensures { result ≡ no_fact }
 {
     FactNumbers {
         field: 0,
@@ -91,7 +91,7 @@ fn no_fact() -> FactNumbers
 
 // A field at fault: its limit and its value, with their sign.
 fn limit_fact(f: Fault) -> FactNumbers
-    ensures answer { result ≡ limitFact f }
+    ensures { result ≡ limit_fact f }
 {
     let field = f.field;
     FactNumbers {
@@ -108,7 +108,7 @@ fn limit_fact(f: Fault) -> FactNumbers
 
 // The first allowed label.
 fn first_fact(s: TimecodeSections) -> FactNumbers
-    ensures answer { result ≡ firstFact s }
+    ensures { result ≡ first_fact s }
 {
     FactNumbers {
         field: 0,
@@ -124,7 +124,7 @@ fn first_fact(s: TimecodeSections) -> FactNumbers
 
 // The numbers of any fact.
 fn fact_numbers(fact: Fact) -> FactNumbers
-    ensures answer { result ≡ factNumbers fact }
+    ensures { result ≡ fact_numbers fact }
 {
     match fact {
         Fact::Nothing => no_fact(),
@@ -135,7 +135,7 @@ fn fact_numbers(fact: Fact) -> FactNumbers
 
 // What is told: the reader's numbers as `tzq_read` hands them over, and those of the fact.
 fn told_reason(r: Reason) -> TzqReason
-    ensures answer { result ≡ toldReason r }
+    ensures { result ≡ told_reason r }
 {
     let read = r.read;
     let fact = r.fact;
@@ -162,7 +162,7 @@ fn told_reason(r: Reason) -> TzqReason
 
 // A refusal of the tool's own: every other number is 0.
 fn no_reason(e: Refusal) -> TzqReason
-    ensures answer { result ≡ noReason e }
+    ensures { result ≡ no_reason e }
 {
     TzqReason {
         refused: handed::wide(e.number),
@@ -185,7 +185,7 @@ fn no_reason(e: Refusal) -> TzqReason
 
 // What is told, or the refusal.
 fn handed_reason(a: Reasoned) -> TzqReason
-    ensures answer { result ≡ handedReason a }
+    ensures { result ≡ handed_reason a }
 {
     match a {
         Reasoned::Told(r) => told_reason(r),
@@ -205,8 +205,8 @@ pub extern "C" fn tzq_why(
     line: &mut [u8],
     place: usize,
 ) -> TzqReason
-    ensures answer { result ≡ handedReason (whyOf (kindFrom position) text.now (statedFrom stated format) rate line.old place) }
-    ensures line { line.new ≡ lineTo line.old place (Text (phraseFor (kindFrom position) text.now (statedFrom stated format) rate)) }
+    ensures answer { result ≡ handed_reason (why_of (kind_from position) text.now (stated_from stated format) rate line.old place) }
+    ensures line { line.new ≡ line_to line.old place (Text (phrase_for (kind_from position) text.now (stated_from stated format) rate)) }
 {
     let said = stated_from(stated, format);
     handed_reason(reasons::why(text, said, rate, Kind::from(position), line, place))

@@ -1,11 +1,11 @@
 // Texts laid into the caller's line, and the sections of a label.
 ghost use Rattle.std.specs.Prelude.{◌≡◌};
-ghost use Rattle.written.specs.Written.{answerTo, lineTo};
+ghost use Rattle.written.specs.Written.{answer_to, line_to};
 ghost use Rattle.label_writer.specs.Sections.{sectioned};
-ghost use Rattle.label_writer.specs.LabelText.{labelDraft};
-ghost use Rattle.footage_writer.specs.FootageText.{footageDraft};
-ghost use Rattle.runtime_writer.specs.RuntimeText.{runtimeDraft};
-ghost use Rattle.exports.specs.Handed.{timecodeFrom, handedSections, handedLength};
+ghost use Rattle.label_writer.specs.LabelText.{label_draft};
+ghost use Rattle.footage_writer.specs.FootageText.{footage_draft};
+ghost use Rattle.runtime_writer.specs.RuntimeText.{runtime_draft};
+ghost use Rattle.exports.specs.Handed.{timecode_from, handed_sections, handed_length};
 
 use crate::handed;
 use crate::handed::{TzqLength, TzqSections, TzqTimecode};
@@ -13,7 +13,7 @@ use crate::handed::{TzqLength, TzqSections, TzqTimecode};
 // The sections of a timecode's label. Refuses 6: no such rate; 5: the count is out of bounds.
 #[unsafe(no_mangle)]
 pub extern "C" fn tzq_sections(tc: TzqTimecode) -> TzqSections
-    ensures answer { result ≡ handedSections (sectioned (timecodeFrom tc)) }
+    ensures { result ≡ handed_sections (sectioned (timecode_from tc)) }
 {
     handed::handed_sections(label_writer::sections(handed::timecode_from(tc)))
 }
@@ -21,8 +21,8 @@ pub extern "C" fn tzq_sections(tc: TzqTimecode) -> TzqSections
 // The label of a timecode, laid down from `place` on. Refuses 6: no such rate; 5: the count is out of bounds; 8: no room.
 #[unsafe(no_mangle)]
 pub extern "C" fn tzq_write_label(tc: TzqTimecode, line: &mut [u8], place: usize) -> TzqLength
-    ensures answer { result ≡ handedLength (answerTo line.old place (labelDraft (timecodeFrom tc))) }
-    ensures line { line.new ≡ lineTo line.old place (labelDraft (timecodeFrom tc)) }
+    ensures answer { result ≡ handed_length (answer_to line.old place (label_draft (timecode_from tc))) }
+    ensures line { line.new ≡ line_to line.old place (label_draft (timecode_from tc)) }
 {
     handed::handed_length(label_writer::write_label(handed::timecode_from(tc), line, place))
 }
@@ -36,8 +36,8 @@ pub extern "C" fn tzq_write_footage(
     line: &mut [u8],
     place: usize,
 ) -> TzqLength
-    ensures answer { result ≡ handedLength (answerTo line.old place (footageDraft (timecodeFrom tc) format)) }
-    ensures line { line.new ≡ lineTo line.old place (footageDraft (timecodeFrom tc) format) }
+    ensures answer { result ≡ handed_length (answer_to line.old place (footage_draft (timecode_from tc) format)) }
+    ensures line { line.new ≡ line_to line.old place (footage_draft (timecode_from tc) format) }
 {
     handed::handed_length(footage_writer::write_footage(
         handed::timecode_from(tc),
@@ -56,8 +56,8 @@ pub extern "C" fn tzq_write_runtime(
     line: &mut [u8],
     place: usize,
 ) -> TzqLength
-    ensures answer { result ≡ handedLength (answerTo line.old place (runtimeDraft (timecodeFrom tc) precision)) }
-    ensures line { line.new ≡ lineTo line.old place (runtimeDraft (timecodeFrom tc) precision) }
+    ensures answer { result ≡ handed_length (answer_to line.old place (runtime_draft (timecode_from tc) precision)) }
+    ensures line { line.new ≡ line_to line.old place (runtime_draft (timecode_from tc) precision) }
 {
     handed::handed_length(runtime_writer::write_runtime(
         handed::timecode_from(tc),

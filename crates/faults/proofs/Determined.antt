@@ -7,7 +7,7 @@ use Rattle.faults.proofs.is_none.Reads as is-none-reads
 use Rattle.faults.specs.contracts.under as under
 use Rattle.faults.proofs.under.Reads as under-reads
 use Rattle.faults.specs.contracts.exactly as exactly
-use Rattle.faults.proofs.exactly.Reads as exactly-Reads
+use Rattle.faults.proofs.exactly.Reads as exactly_Reads
 use Rattle.faults.specs.contracts.sign_fault as sign-fault
 use Rattle.faults.proofs.sign_fault.Reads as sign-fault-reads
 use Rattle.faults.specs.contracts.count_fault as count-fault
@@ -21,7 +21,7 @@ is-none-determined κs a asked x y p q = ap (λ z. (z, x.1)) (p ∙ sym q)
 pub under-determined : Determined under.ended under-reads.Asked under-reads.Learnt
 under-determined κs a asked x y p q = ap (λ z. (z, x.1)) (p ∙ sym q)
 
-pub exactly-determined : Determined exactly.ended exactly-Reads.Asked exactly-Reads.Learnt
+pub exactly-determined : Determined exactly.ended exactly_Reads.Asked exactly_Reads.Learnt
 exactly-determined κs a asked x y p q = ap (λ z. (z, x.1)) (p ∙ sym q)
 
 pub sign-fault-determined : Determined sign-fault.ended sign-fault-reads.Asked sign-fault-reads.Learnt

@@ -7,52 +7,52 @@ use Rattle.std.proofs.Math.IntN.{neg_ℤ-neg_ℤ}
 use Rattle.numbers.specs.Sign.{signed}
 use Rattle.numbers.specs.SignLaws.{abs_neg, abs-signed}
 use Rattle.numbers.specs.DistanceLaws.{far, far-across, far-neg}
-use Rattle.answers.specs.Refusals.{mostCount, isCount}
+use Rattle.answers.specs.Refusals.{most_count, is_count}
 use Rattle.faults.specs.declared.Field.{Field}
 use Rattle.faults.specs.declared.Field.TheVariants.{Count}
 use Rattle.faults.specs.declared.Found.{Found}
 use Rattle.faults.specs.declared.Found.TheVariants.{NoFault, At}
-use Rattle.faults.specs.Faults.{NearestAllowed, fault, isNone, under, exactly, signFault, countFault, leftmost}
+use Rattle.faults.specs.Faults.{NearestAllowed, fault, is_none, under, exactly, sign_fault, count_fault, leftmost}
 
 -- ---- when there is none
-pub under_none : (field : Field) (bound value : ℕ) → isNone (under field bound value) ≡ ltb value bound
+pub under_none : (field : Field) (bound value : ℕ) → is_none (under field bound value) ≡ ltb value bound
 unfolding under
 under_none field bound value = by (ltb value bound)
   where
-    by : (t : Bool) → isNone (cond t NoFault (At (fault field false (bound - 1) value))) ≡ t
+    by : (t : Bool) → is_none (cond t NoFault (At (fault field false (bound - 1) value))) ≡ t
     by true = refl
     by false = refl
 
-pub exactly-none : (field : Field) (only value : ℕ) → isNone (exactly field only value) ≡ eqb value only
+pub exactly-none : (field : Field) (only value : ℕ) → is_none (exactly field only value) ≡ eqb value only
 unfolding exactly
 exactly-none field only value = by (eqb value only)
   where
-    by : (t : Bool) → isNone (cond t NoFault (At (fault field false only value))) ≡ t
+    by : (t : Bool) → is_none (cond t NoFault (At (fault field false only value))) ≡ t
     by true = refl
     by false = refl
 
-pub sign-none : (minus : Bool) → isNone (signFault minus) ≡ not minus
+pub sign-none : (minus : Bool) → is_none (sign_fault minus) ≡ not minus
 sign-none true = refl
 sign-none false = refl
 
-pub count_none : (minus : Bool) (m : ℕ) → isNone (countFault minus m) ≡ leb m mostCount
-unfolding countFault
-count_none minus m = by (leb m mostCount)
+pub count_none : (minus : Bool) (m : ℕ) → is_none (count_fault minus m) ≡ leb m most_count
+unfolding count_fault
+count_none minus m = by (leb m most_count)
   where
-    by : (t : Bool) → isNone (cond t NoFault (At (fault Count minus mostCount m))) ≡ t
+    by : (t : Bool) → is_none (cond t NoFault (At (fault Count minus most_count m))) ≡ t
     by true = refl
     by false = refl
 
-pub leftmost-none : (left right : Found) → isNone (leftmost left right) ≡ (isNone left && isNone right)
+pub leftmost-none : (left right : Found) → is_none (leftmost left right) ≡ (is_none left && is_none right)
 leftmost-none NoFault right = refl
 leftmost-none (At f) right = refl
 
 -- ---- what is found by a test
-pub leftmost-other : (left right : Found) → isNone left ≡ true → leftmost left right ≡ right
+pub leftmost-other : (left right : Found) → is_none left ≡ true → leftmost left right ≡ right
 leftmost-other NoFault right e = refl
 leftmost-other (At f) right e = absurd (subst T (sym e) tt)
 
-pub leftmost-own : (left right : Found) → isNone left ≡ false → leftmost left right ≡ left
+pub leftmost-own : (left right : Found) → is_none left ≡ false → leftmost left right ≡ left
 leftmost-own NoFault right e = absurd (subst T e tt)
 leftmost-own (At f) right e = refl
 
@@ -68,9 +68,9 @@ pub exactly-at : (field : Field) (only value : ℕ) → eqb value only ≡ false
 unfolding exactly
 exactly-at field only value e = rw e
 
-pub count_at : (minus : Bool) (m : ℕ) → mostCount < m → countFault minus m ≡ At (fault Count minus mostCount m)
-unfolding countFault
-count_at minus m h = rw (lt-leb m mostCount h)
+pub count_at : (minus : Bool) (m : ℕ) → most_count < m → count_fault minus m ≡ At (fault Count minus most_count m)
+unfolding count_fault
+count_at minus m h = rw (lt-leb m most_count h)
 
 -- ---- the limit is the nearest allowed value
 -- of numbers from 0 on, where those that are allowed are those under a bound
@@ -79,7 +79,7 @@ pub nearest-under : (Allowed : ℤ → Type 0) (bound value : ℕ) → 0 < bound
     → ((n : ℕ) → n < bound → Allowed (pos n))
     → NearestAllowed Allowed (pos (bound - 1)) (pos value)
 nearest-under Allowed bound value some h only all = record {
-  not-allowed = λ a. let b = (only (pos value) a).0 in absurd (omega arith);
+  not_allowed = λ a. let b = (only (pos value) a).0 in absurd (omega arith);
   allowed = all (bound - 1) (omega arith);
   farther = λ x a other. farther-by x (only x a) other;
 }
@@ -95,31 +95,31 @@ nearest-under Allowed bound value some h only all = record {
 pub nearest-only : (Allowed : ℤ → Type 0) (only value : ℕ) → ¬ (value ≡ only) → ((x : ℤ) → Allowed x → x ≡ pos only) → Allowed (pos only)
     → NearestAllowed Allowed (pos only) (pos value)
 nearest-only Allowed only value other one it = record {
-  not-allowed = λ a. other (ap nat_abs (one (pos value) a));
+  not_allowed = λ a. other (ap nat_abs (one (pos value) a));
   allowed = it;
   farther = λ x a apart. absurd (apart (one x a));
 }
 
 -- of counts, within their bounds on both sides of zero
-pub nearest-count : (minus : Bool) (m : ℕ) → mostCount < m → NearestAllowed (λ z. isCount z ≡ true) (signed minus mostCount) (signed minus m)
+pub nearest-count : (minus : Bool) (m : ℕ) → most_count < m → NearestAllowed (λ z. is_count z ≡ true) (signed minus most_count) (signed minus m)
 nearest-count minus m h = record {
-  not-allowed = λ a. let b = leb-true (nat_abs (signed minus m)) mostCount a in let e = abs-signed minus m in absurd (omega arith);
-  allowed = ap (λ (k : ℕ). leb k mostCount) (abs-signed minus mostCount);
-  farther = λ x a other. farther-by minus x (leb-true (nat_abs x) mostCount a) other;
+  not_allowed = λ a. let b = leb-true (nat_abs (signed minus m)) most_count a in let e = abs-signed minus m in absurd (omega arith);
+  allowed = ap (λ (k : ℕ). leb k most_count) (abs-signed minus most_count);
+  farther = λ x a other. farther-by minus x (leb-true (nat_abs x) most_count a) other;
 }
   where
     -- above zero
-    up : (x : ℤ) → nat_abs x ≤ mostCount → ¬ (x ≡ pos mostCount) → nat_abs (pos mostCount -ℤ pos m) < nat_abs (x -ℤ pos m)
-    up (pos n) b other = let apart : ¬ (n ≡ mostCount) = λ e. other (ap pos e) in rw (far n m, far mostCount m) (omega arith)
-    up (negsuc n) b other = rw (far-across (suc n) m, far mostCount m) (omega arith)
+    up : (x : ℤ) → nat_abs x ≤ most_count → ¬ (x ≡ pos most_count) → nat_abs (pos most_count -ℤ pos m) < nat_abs (x -ℤ pos m)
+    up (pos n) b other = let apart : ¬ (n ≡ most_count) = λ e. other (ap pos e) in rw (far n m, far most_count m) (omega arith)
+    up (negsuc n) b other = rw (far-across (suc n) m, far most_count m) (omega arith)
 
-    farther-by : (s : Bool) (x : ℤ) → nat_abs x ≤ mostCount → ¬ (x ≡ signed s mostCount)
-        → nat_abs (signed s mostCount -ℤ signed s m) < nat_abs (x -ℤ signed s m)
+    farther-by : (s : Bool) (x : ℤ) → nat_abs x ≤ most_count → ¬ (x ≡ signed s most_count)
+        → nat_abs (signed s most_count -ℤ signed s m) < nat_abs (x -ℤ signed s m)
     farther-by false x b other = up x b other
     farther-by true x b other =
         let back : neg_ℤ (neg_ℤ x) ≡ x = neg_ℤ-neg_ℤ x in
         let turned = up (neg_ℤ x) (rw (abs_neg x) b) (λ e. other (sym back ∙ ap neg_ℤ e)) in
-        let near = far-neg (pos mostCount) (pos m) in
+        let near = far-neg (pos most_count) (pos m) in
         let off = far-neg (neg_ℤ x) (pos m) in
         let same = ap (λ (z : ℤ). nat_abs (z -ℤ neg_ℤ (pos m))) back in
         omega arith

@@ -1,7 +1,9 @@
 // What is at fault in a text: which field, its value, and the nearest value that is allowed there. What decides that a text is refused and
 // what tells why are then one test. Refuses nothing itself.
+#![tactic(auto)]
+
 ghost use Rattle.std.specs.Prelude.{◌≡◌, ◌-◌};
-ghost use Rattle.faults.specs.Faults.{isNone, under, exactly, signFault, countFault, leftmost};
+ghost use Rattle.faults.specs.Faults.{is_none, under, exactly, sign_fault, count_fault, leftmost};
 
 // A field of a text, or the count that it comes to.
 #[derive(Drop)]
@@ -34,7 +36,7 @@ pub enum Found {
 
 // Whether there is none.
 pub fn is_none(found: Found) -> bool
-    ensures answer { result ≡ isNone found }
+    ensures { result ≡ is_none found }
 {
     match found {
         Found::NoFault => true,
@@ -44,7 +46,7 @@ pub fn is_none(found: Found) -> bool
 
 // The last number under a bound; 0 where none is.
 fn last_under(bound: u64) -> u64
-    ensures answer { result ≡ bound - 1 }
+    ensures { result ≡ bound - 1 }
 {
     if bound == 0 {
         return 0;
@@ -54,7 +56,7 @@ fn last_under(bound: u64) -> u64
 
 // A field whose values lie under a bound.
 pub fn under(field: Field, bound: u64, value: u64) -> Found
-    ensures answer { result ≡ under field bound value }
+    ensures { result ≡ under field bound value }
 {
     if value < bound {
         return Found::NoFault;
@@ -69,7 +71,7 @@ pub fn under(field: Field, bound: u64, value: u64) -> Found
 
 // A field that has one value only.
 pub fn exactly(field: Field, only: u64, value: u64) -> Found
-    ensures answer { result ≡ exactly field only value }
+    ensures { result ≡ exactly field only value }
 {
     if value == only {
         return Found::NoFault;
@@ -84,7 +86,7 @@ pub fn exactly(field: Field, only: u64, value: u64) -> Found
 
 // A sign where none may be.
 pub fn sign_fault(minus: bool) -> Found
-    ensures answer { result ≡ signFault minus }
+    ensures { result ≡ sign_fault minus }
 {
     if !minus {
         return Found::NoFault;
@@ -99,7 +101,7 @@ pub fn sign_fault(minus: bool) -> Found
 
 // A count by sign and magnitude, outside its bounds.
 pub fn count_fault(minus: bool, m: u64) -> Found
-    ensures answer { result ≡ countFault minus m }
+    ensures { result ≡ count_fault minus m }
 {
     if m <= answers::MOST_COUNT {
         return Found::NoFault;
@@ -114,7 +116,7 @@ pub fn count_fault(minus: bool, m: u64) -> Found
 
 // The one to the left, or where it has none the other.
 pub fn leftmost(left: Found, right: Found) -> Found
-    ensures answer { result ≡ leftmost left right }
+    ensures { result ≡ leftmost left right }
 {
     if is_none(left) {
         return right;

@@ -6,13 +6,13 @@ use mathlib.Core.List.{List, [], ◌++◌}
 use lib.ListN.{length, take}
 use denote.Triple.Entry.{Args}
 use Rattle.outcomes.specs.Outcome.{Times, Outcome, Allowed}
-use Rattle.lines.specs.Output.{answerText}
+use Rattle.lines.specs.Output.{answer_text}
 use Rattle.streams.specs.declared.gathered.Gathered.{Gathered}
 use Rattle.streams.specs.Lines.{Lines}
 use Rattle.streams.specs.Parting.{each}
-use Rattle.streams.specs.Gathering.{noByte}
+use Rattle.streams.specs.Gathering.{no_byte}
 use Rattle.feeding.specs.declared.Fed.{Fed}
-use Rattle.feeding.specs.Feeding.{After, fedOf, fedAt, fedAnswer, finished}
+use Rattle.feeding.specs.Feeding.{After, fed_of, fed_at, fed_answer, finished}
 use Rattle.feeding.specs.Statements.{Writes, ends, goes}
 use Rattle.feeding.proofs.Statements.{answered}
 use Rattle.feeding.specs.contracts.feed as feed
@@ -32,10 +32,10 @@ pub data Flow : (buffer out : List ℕ) → Gathered → (input text : List ℕ)
       → Flow a.1.0.now a.1.1.0.now a.1.1.1.0 (take x.0.eaten a.0.now ++ input) (take x.0.used x.1.1.1.0 ++ text)
 
 -- the three equations of `feed` are one of what is kept
-fed-is : (f : Fed) (buffer out : List ℕ) (e : After) → (f ≡ fedAnswer e) × ((buffer ≡ e.machine.buffer) × (out ≡ e.machine.sheet.bytes))
-    → fedAt buffer out f ≡ e
+fed-is : (f : Fed) (buffer out : List ℕ) (e : After) → (f ≡ fed_answer e) × ((buffer ≡ e.machine.buffer) × (out ≡ e.machine.sheet.bytes))
+    → fed_at buffer out f ≡ e
 fed-is f buffer out e p =
-    ap (fedAt buffer out) p.0 ∙ ap (λ z. fedAt z out (fedAnswer e)) p.1.0 ∙ ap (λ z. fedAt e.machine.buffer z (fedAnswer e)) p.1.1
+    ap (fed_at buffer out) p.0 ∙ ap (λ z. fed_at z out (fed_answer e)) p.1.0 ∙ ap (λ z. fed_at e.machine.buffer z (fed_answer e)) p.1.1
 
 -- it is what the definition says
 flow-is : (buffer out : List ℕ) (g : Gathered) (input text : List ℕ) → Flow buffer out g input text → Writes buffer out g input text
@@ -44,11 +44,11 @@ flow-is _ _ _ _ _ (last κs a x p) =
     ap (λ z. take z x.1.1.0) p.0 ∙ ap (take (finished a.0.now a.1.0.now a.1.1.0).used) p.1 in
     rw e (ends a.0.now a.1.0.now a.1.1.0)
 flow-is _ _ _ _ _ (fed κs a x input text p f) =
-    goes a.1.0.now a.1.1.0.now a.1.1.1.0 a.0.now input text (fedAt x.1.1.0 x.1.1.1.0 x.0)
-    (fed-is x.0 x.1.1.0 x.1.1.1.0 (fedOf a.1.0.now a.1.1.0.now a.1.1.1.0 a.0.now) p)
+    goes a.1.0.now a.1.1.0.now a.1.1.1.0 a.0.now input text (fed_at x.1.1.0 x.1.1.1.0 x.0)
+    (fed-is x.0 x.1.1.0 x.1.1.1.0 (fed_of a.1.0.now a.1.1.0.now a.1.1.1.0 a.0.now) p)
     (flow-is _ _ _ input text f)
 
 -- the answers to the lines of the input, in their order, and nothing else
-pub whole : (buffer out input text : List ℕ) (ls : List (List ℕ)) → Flow buffer out noByte input text
-    → 65 ≤ length buffer → 47 ≤ length out → Lines input ls → text ≡ each answerText ls
-whole buffer out input text ls f h r lines = answered buffer out input text ls h r lines (flow-is buffer out noByte input text f)
+pub whole : (buffer out input text : List ℕ) (ls : List (List ℕ)) → Flow buffer out no_byte input text
+    → 65 ≤ length buffer → 47 ≤ length out → Lines input ls → text ≡ each answer_text ls
+whole buffer out input text ls f h r lines = answered buffer out input text ls h r lines (flow-is buffer out no_byte input text f)

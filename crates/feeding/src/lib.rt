@@ -1,9 +1,11 @@
 // The line program's answers: a chunk of input, of any size, goes through a buffer for the line and a lent sheet, and each line that ends
 // is answered. It reads and writes nothing itself, and asks nothing of its caller: where the sheet has no room for another answer it
 // stops, and says how far it came.
+#![tactic(auto)]
+
 ghost use Rattle.std.specs.Prelude.{◌≡◌, ◌&&◌, min, ltb};
 ghost use Rattle.streams.specs.Sheet.{sheet};
-ghost use Rattle.feeding.specs.Feeding.{answered, goesOn, fedAt, fedAnswer, stepped, fedOf, finished};
+ghost use Rattle.feeding.specs.Feeding.{answered, goes_on, fed_at, fed_answer, stepped, fed_of, finished};
 
 use streams::Gathered;
 
@@ -17,7 +19,7 @@ pub struct Fed {
 
 // The smaller of two numbers.
 fn least(a: usize, b: usize) -> usize
-    ensures answer { result ≡ min a b }
+    ensures { result ≡ min a b }
 {
     if b < a {
         return b;
@@ -37,9 +39,9 @@ fn answer(buffer: &[u8], g: Gathered, out: &mut [u8], used: usize) -> usize
 
 // The chunk's bytes up to the next newline, and the answer to the line that ends there.
 fn step(chunk: &[u8], buffer: &mut [u8], out: &mut [u8], f: Fed) -> Fed
-    ensures answer { result ≡ fedAnswer (stepped chunk.now (fedAt buffer.old out.old f)) }
-    ensures buffer { buffer.new ≡ (stepped chunk.now (fedAt buffer.old out.old f)).machine.buffer }
-    ensures sheet { out.new ≡ (stepped chunk.now (fedAt buffer.old out.old f)).machine.sheet.bytes }
+    ensures answer { result ≡ fed_answer (stepped chunk.now (fed_at buffer.old out.old f)) }
+    ensures buffer { buffer.new ≡ (stepped chunk.now (fed_at buffer.old out.old f)).machine.buffer }
+    ensures sheet { out.new ≡ (stepped chunk.now (fed_at buffer.old out.old f)).machine.sheet.bytes }
 {
     let s = streams::gather(chunk, f.eaten, buffer, f.gathered);
     let g = s.gathered;
@@ -59,8 +61,8 @@ fn step(chunk: &[u8], buffer: &mut [u8], out: &mut [u8], f: Fed) -> Fed
 }
 
 // Is there a byte more of the chunk, and room on the sheet for the longest answer?
-fn goes_on(n: usize, i: usize, total: usize, used: usize) -> bool
-    ensures answer { result ≡ ltb i n && goesOn total used }
+fn goes_on_lem(n: usize, i: usize, total: usize, used: usize) -> bool
+    ensures { result ≡ ltb i n && goes_on total used }
 {
     if i < n {
         return lent::room(total, used, 47);
@@ -70,16 +72,16 @@ fn goes_on(n: usize, i: usize, total: usize, used: usize) -> bool
 
 // A chunk, onto a sheet that has nothing yet; the buffer and the sheet afterwards.
 pub fn feed(chunk: &[u8], buffer: &mut [u8], out: &mut [u8], g: Gathered) -> Fed
-    ensures answer { result ≡ fedAnswer (fedOf buffer.old out.old g chunk.now) }
-    ensures buffer { buffer.new ≡ (fedOf buffer.old out.old g chunk.now).machine.buffer }
-    ensures sheet { out.new ≡ (fedOf buffer.old out.old g chunk.now).machine.sheet.bytes }
+    ensures answer { result ≡ fed_answer (fed_of buffer.old out.old g chunk.now) }
+    ensures buffer { buffer.new ≡ (fed_of buffer.old out.old g chunk.now).machine.buffer }
+    ensures sheet { out.new ≡ (fed_of buffer.old out.old g chunk.now).machine.sheet.bytes }
 {
     let mut f = Fed {
         gathered: g,
         used: 0,
         eaten: 0,
     };
-    while goes_on(chunk.len(), f.eaten, out.len(), f.used) {
+    while goes_on_lem(chunk.len(), f.eaten, out.len(), f.used) {
         f = step(chunk, buffer, out, f);
     }
     f

@@ -9,7 +9,7 @@ use mathlib.Core.Logic.{inl, inr}
 use borrow.Author.Tests.{ltb-true, ltb-false}
 use lib.Arith.{digits_div, digits_mod}
 use lib.Dec.{ltb}
-use Rattle.film.specs.Footage.{lastPerf, footageBy}
+use Rattle.film.specs.Footage.{last_perf, footage_by}
 use Rattle.film.specs.Statements.{Follows}
 
 -- P perfs a frame, at least one, and no more than a foot has
@@ -19,31 +19,31 @@ module _ (P foot : ℕ) (some : 0 < P) (few : P ≤ foot) where
   at x q r e h = (ap (λ (k : ℕ). k / foot) e ∙ digits_div q h, ap (λ (k : ℕ). k % foot / P) e ∙ ap (λ (k : ℕ). k / P) (digits_mod q h))
 
   -- the first frame is frame 0 of foot 0
-  pub first : ((footageBy 0 P foot).feet ≡ 0) × ((footageBy 0 P foot).frames ≡ 0)
+  pub first : ((footage_by 0 P foot).feet ≡ 0) × ((footage_by 0 P foot).frames ≡ 0)
   first =
-      let less : lastPerf 0 P < P = omega arith in
-      let there = at (lastPerf 0 P) 0 (lastPerf 0 P) (omega arith) (omega arith) in
+      let less : last_perf 0 P < P = omega arith in
+      let there = at (last_perf 0 P) 0 (last_perf 0 P) (omega arith) (omega arith) in
       (there.0, there.1 ∙ div-eq_of_lt less)
 
   -- and each next frame follows this one
   module _ (f : ℕ) where
     abbrev rest : ℕ
-    rest = lastPerf f P % foot
+    rest = last_perf f P % foot
 
     -- its last perf is P on
-    on : lastPerf (f + 1) P ≡ lastPerf f P / foot * foot + (rest + P)
-    on = omega (arith, div-add-mod' (lastPerf f P) foot)
+    on : last_perf (f + 1) P ≡ last_perf f P / foot * foot + (rest + P)
+    on = omega (arith, div-add-mod' (last_perf f P) foot)
 
-    by : (t : Bool) → ltb (rest + P) foot ≡ t → Follows (footageBy f P foot) (footageBy (f + 1) P foot)
+    by : (t : Bool) → ltb (rest + P) foot ≡ t → Follows (footage_by f P foot) (footage_by (f + 1) P foot)
     by true e =
-        let there = at (lastPerf (f + 1) P) (lastPerf f P / foot) (rest + P) on (ltb-true (rest + P) foot e) in
+        let there = at (last_perf (f + 1) P) (last_perf f P / foot) (rest + P) on (ltb-true (rest + P) foot e) in
         inl (there.0, there.1 ∙ add-div_right rest some)
     by false e =
         let past = ltb-false (rest + P) foot e in
-        let before = mod-lt (lastPerf f P) {m = foot} (omega arith) in
+        let before = mod-lt (last_perf f P) {m = foot} (omega arith) in
         let less : rest + P - foot < P = omega arith in
-        let there = at (lastPerf (f + 1) P) (lastPerf f P / foot + 1) (rest + P - foot) (omega (arith, on)) (omega arith) in
+        let there = at (last_perf (f + 1) P) (last_perf f P / foot + 1) (rest + P - foot) (omega (arith, on)) (omega arith) in
         inr (there.0, there.1 ∙ div-eq_of_lt less)
 
-    pub next : Follows (footageBy f P foot) (footageBy (f + 1) P foot)
+    pub next : Follows (footage_by f P foot) (footage_by (f + 1) P foot)
     next = by (ltb (rest + P) foot) refl

@@ -6,12 +6,12 @@ use Rattle.faults.specs.declared.Found.{Found}
 use Rattle.faults.specs.declared.Found.TheVariants.{NoFault}
 use Rattle.faults.specs.Faults.{under, exactly, leftmost}
 use Rattle.film.specs.declared.FilmFormat.{FilmFormat}
-use Rattle.film.specs.OnFilm.{framesInFoot}
+use Rattle.film.specs.OnFilm.{frames_in_foot}
 
 -- the marker, if the footage is marked, is feet modulo 3
-unfoldable pub markerFault : (feet : ℕ) (marked : Bool) (marker : ℕ) → Found
-markerFault feet marked marker = cond marked (exactly Marker (feet % 3) marker) NoFault
+unfoldable pub marker_fault : (feet : ℕ) (marked : Bool) (marker : ℕ) → Found
+marker_fault feet marked marker = cond marked (exactly Marker (feet % 3) marker) NoFault
 
 -- the frames number is one of that foot's; then the marker
-unfoldable pub filmFault : FilmFormat → (feet frames : ℕ) (marked : Bool) (marker : ℕ) → Found
-filmFault format feet frames marked marker = leftmost (under Frames (framesInFoot format feet) frames) (markerFault feet marked marker)
+unfoldable pub film_fault : FilmFormat → (feet frames : ℕ) (marked : Bool) (marker : ℕ) → Found
+film_fault format feet frames marked marker = leftmost (under Frames (frames_in_foot format feet) frames) (marker_fault feet marked marker)

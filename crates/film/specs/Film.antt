@@ -2,55 +2,55 @@
 -- Assumes nothing.
 use Rattle.std.specs.Prelude.{ℕ, ◌-◌, ◌%◌, Bool, not, ◌&&◌, List, [], ◌∷◌, leb, eqb, get_or}
 use Rattle.answers.specs.Order.{Condition, when, unless}
-use Rattle.answers.specs.Refusals.{noSuch}
+use Rattle.answers.specs.Refusals.{no_such}
 use Rattle.film.specs.declared.FilmFormat.{FilmFormat}
 use Rattle.film.specs.declared.FilmFormat.TheVariants.{FF35mm4perf, FF35mm3perf, FF35mm2perf, FF16mm}
 use Rattle.film.specs.declared.Filmed.{Filmed}
 use Rattle.film.specs.declared.Filmed.TheVariants.{Format, Refused}
 
 -- formats 1 to 4
-abbrev pub formatNumber : FilmFormat → ℕ
-formatNumber FF35mm4perf = 1
-formatNumber FF35mm3perf = 2
-formatNumber FF35mm2perf = 3
-formatNumber FF16mm = 4
+abbrev pub format_number : FilmFormat → ℕ
+format_number FF35mm4perf = 1
+format_number FF35mm3perf = 2
+format_number FF35mm2perf = 3
+format_number FF16mm = 4
 
 -- P, the perfs a frame
-abbrev pub perfsPerFrame : FilmFormat → ℕ
-perfsPerFrame FF35mm4perf = 4
-perfsPerFrame FF35mm3perf = 3
-perfsPerFrame FF35mm2perf = 2
-perfsPerFrame FF16mm = 1
+abbrev pub perfs_per_frame_of : FilmFormat → ℕ
+perfs_per_frame_of FF35mm4perf = 4
+perfs_per_frame_of FF35mm3perf = 3
+perfs_per_frame_of FF35mm2perf = 2
+perfs_per_frame_of FF16mm = 1
 
 -- the perfs a foot
-abbrev pub perfsPerFoot : FilmFormat → ℕ
-perfsPerFoot FF35mm4perf = 64
-perfsPerFoot FF35mm3perf = 64
-perfsPerFoot FF35mm2perf = 64
-perfsPerFoot FF16mm = 20
+abbrev pub perfs_per_foot_of : FilmFormat → ℕ
+perfs_per_foot_of FF35mm4perf = 64
+perfs_per_foot_of FF35mm3perf = 64
+perfs_per_foot_of FF35mm2perf = 64
+perfs_per_foot_of FF16mm = 20
 
 -- a format has a perf field where a foot is no whole number of frames
-abbrev pub allowsPerfField : FilmFormat → Bool
-allowsPerfField format = not (eqb (perfsPerFoot format % perfsPerFrame format) 0)
+abbrev pub allows_perf_field : FilmFormat → Bool
+allows_perf_field format = not (eqb (perfs_per_foot_of format % perfs_per_frame_of format) 0)
 
 -- a film format is a number from 1 to 4
-unfoldable pub isFormat : ℕ → Bool
-isFormat n = leb 1 n && leb n 4
+unfoldable pub is_format : ℕ → Bool
+is_format n = leb 1 n && leb n 4
 
 -- in the order of their numbers
 abbrev pub formats : List FilmFormat
 formats = FF35mm4perf ∷ FF35mm3perf ∷ FF35mm2perf ∷ FF16mm ∷ []
 
 -- 6: no such film format (1 to 4)
-abbrev pub badFormat : (format : ℕ) → Condition
-badFormat format = when noSuch (not (isFormat format))
+abbrev pub bad_format : (format : ℕ) → Condition
+bad_format format = when no_such (not (is_format format))
 
 -- the format of a number (4-perf stands for one that has none, which is refused before)
 abbrev pub format_in : (format : ℕ) → FilmFormat
 format_in format = get_or formats (format - 1) FF35mm4perf
 
-unfoldable pub formatAt : ℕ → Filmed
-formatAt n = unless Refused (badFormat n ∷ []) (Format (format_in n))
+unfoldable pub format_at : ℕ → Filmed
+format_at n = unless Refused (bad_format n ∷ []) (Format (format_in n))
 
 -- the refusal number of an answer (0: not refused), and its film format's number (a refusal's is 0)
 abbrev pub number_of : Filmed → ℕ
@@ -58,5 +58,5 @@ number_of (Format format) = 0
 number_of (Refused e) = e.number
 
 abbrev pub format_of : Filmed → ℕ
-format_of (Format format) = formatNumber format
+format_of (Format format) = format_number format
 format_of (Refused e) = 0

@@ -5,22 +5,22 @@ use Rattle.film.specs.declared.FilmFormat.{FilmFormat}
 use Rattle.film.specs.declared.FilmFormat.TheVariants.{FF35mm4perf, FF35mm3perf, FF35mm2perf, FF16mm}
 use Rattle.film.specs.declared.Filmed.TheVariants.{Format}
 use Rattle.film.specs.declared.Footage.{Footage}
-use Rattle.film.specs.Film.{formatNumber, formatAt, allowsPerfField}
-use Rattle.film.specs.Footage.{footageCount, footageOf}
-use Rattle.film.specs.OnFilm.{onFilm}
+use Rattle.film.specs.Film.{format_number, format_at, allows_perf_field}
+use Rattle.film.specs.Footage.{footage_count, footage_of}
+use Rattle.film.specs.OnFilm.{on_film}
 
 -- a film format and its number give each other back
 abbrev pub FormatNumbered : Type 0
-FormatNumbered = (n : ℕ) (format : FilmFormat) → (formatAt n ≡ Format format) ↔ (n ≡ formatNumber format)
+FormatNumbered = (n : ℕ) (format : FilmFormat) → (format_at n ≡ Format format) ↔ (n ≡ format_number format)
 
 -- only 3-perf has a perf field
 abbrev pub OnlyThreePerf : Type 0
-OnlyThreePerf = (format : FilmFormat) → (allowsPerfField format ≡ true) ↔ (format ≡ FF35mm3perf)
+OnlyThreePerf = (format : FilmFormat) → (allows_perf_field format ≡ true) ↔ (format ≡ FF35mm3perf)
 
 -- the feet and frames that are written of a count are read as that count
 abbrev pub FootageBack : Type 0
 FootageBack =
-    (format : FilmFormat) (f : ℕ) → footageCount format (footageOf format f).feet (footageOf format f).frames ≡ f
+    (format : FilmFormat) (f : ℕ) → footage_count format (footage_of format f).feet (footage_of format f).frames ≡ f
 
 -- a footage follows another: it is the next frame of the same foot, or the first of the next foot
 abbrev pub Follows : (this next : Footage) → Type 0
@@ -30,15 +30,15 @@ Follows this next = ((next.feet ≡ this.feet) × (next.frames ≡ this.frames +
 abbrev pub FootageNext : Type 0
 FootageNext =
     (format : FilmFormat)
-    → (((footageOf format 0).feet ≡ 0) × ((footageOf format 0).frames ≡ 0))
-    × ((f : ℕ) → Follows (footageOf format f) (footageOf format (f + 1)))
+    → (((footage_of format 0).feet ≡ 0) × ((footage_of format 0).frames ≡ 0))
+    × ((f : ℕ) → Follows (footage_of format f) (footage_of format (f + 1)))
 
 -- ---- which footages can be on the film
 -- a frames number occurs in a foot: some count, within its bounds or not, has by the writing formula that number in that foot
 pub record Occurs (format : FilmFormat) (feet frames : ℕ) : Type 0 where
   pub count : ℕ
-  pub feet-of : (footageOf format count).feet ≡ feet
-  pub frames-of : (footageOf format count).frames ≡ frames
+  pub feet_of : (footage_of format count).feet ≡ feet
+  pub frames_of : (footage_of format count).frames ≡ frames
 
 -- the frames numbers that occur in a foot, being those of some count, are those below 16, 32 and 20 in 4-perf, 2-perf and 16 mm
 abbrev pub FramesInFoot : Type 0
@@ -65,16 +65,16 @@ OffFilm format feet frames marked marker = (¬ Occurs format feet frames) ⊎ ((
 abbrev pub OnFilmExactly : Type 0
 OnFilmExactly =
     (format : FilmFormat) (feet frames : ℕ) (marked : Bool) (marker : ℕ)
-    → (onFilm format feet frames marked marker ≡ true) ↔ OnFilm format feet frames marked marker
+    → (on_film format feet frames marked marker ≡ true) ↔ OnFilm format feet frames marked marker
 
 -- and where that fails, it cannot, exactly
 abbrev pub OffFilmExactly : Type 0
 OffFilmExactly =
     (format : FilmFormat) (feet frames : ℕ) (marked : Bool) (marker : ℕ)
-    → (onFilm format feet frames marked marker ≡ false) ↔ OffFilm format feet frames marked marker
+    → (on_film format feet frames marked marker ≡ false) ↔ OffFilm format feet frames marked marker
 
 -- feet and frames that occur are those that are written of their count, and the marker is feet modulo 3
 abbrev pub FootageForth : Type 0
 FootageForth =
     (format : FilmFormat) (feet frames : ℕ) → Occurs format feet frames
-    → footageOf format (footageCount format feet frames) ≡ record { feet = feet; frames = frames; perf = feet % 3 }
+    → footage_of format (footage_count format feet frames) ≡ record { feet = feet; frames = frames; perf = feet % 3 }

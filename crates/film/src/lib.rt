@@ -1,12 +1,14 @@
 // The four film formats by number, and footage: the count of feet and frames, the feet and frames of a count, and which can be on the film.
 // A number that is no film format is refused 6, a count outside its bounds 5.
+#![tactic(auto)]
+
 ghost use Rattle.std.specs.Prelude.{◌≡◌, ◌≤◌, ◌<◌};
 ghost use Rattle.numbers.specs.Sign.{signed};
-ghost use Rattle.answers.specs.Refusals.{mostCount, beyond, held};
-ghost use Rattle.film.specs.Film.{formatNumber, perfsPerFrame, perfsPerFoot, allowsPerfField, formatAt};
-ghost use Rattle.film.specs.Footage.{footageCount, footageOr, footageOf, footageIn};
-ghost use Rattle.film.specs.OnFilm.{framesInFoot, onFilm};
-ghost use Rattle.film.specs.Faults.{markerFault, filmFault};
+ghost use Rattle.answers.specs.Refusals.{most_count, beyond, held};
+ghost use Rattle.film.specs.Film.{format_number, perfs_per_frame_of, perfs_per_foot_of, allows_perf_field, format_at};
+ghost use Rattle.film.specs.Footage.{footage_count, footage_or, footage_of, footage_in};
+ghost use Rattle.film.specs.OnFilm.{frames_in_foot, on_film};
+ghost use Rattle.film.specs.Faults.{marker_fault, film_fault};
 
 use answers::{Counted, Refusal};
 use faults::{Field, Found};
@@ -38,7 +40,7 @@ pub struct Footage {
 impl FilmFormat {
     // The number of a format: 1 to 4.
     pub fn number(self) -> u64
-        ensures answer { result ≡ formatNumber self }
+        ensures { result ≡ format_number self }
     {
         match self {
             FilmFormat::FF35mm4perf => 1,
@@ -50,7 +52,7 @@ impl FilmFormat {
 
     // The perfs a frame.
     pub fn perfs_per_frame(self) -> u64
-        ensures answer { result ≡ perfsPerFrame self }
+        ensures { result ≡ perfs_per_frame_of self }
     {
         match self {
             FilmFormat::FF35mm4perf => 4,
@@ -62,7 +64,7 @@ impl FilmFormat {
 
     // The perfs a (logical) foot.
     pub fn perfs_per_foot(self) -> u64
-        ensures answer { result ≡ perfsPerFoot self }
+        ensures { result ≡ perfs_per_foot_of self }
     {
         match self {
             FilmFormat::FF35mm4perf => 64,
@@ -74,14 +76,14 @@ impl FilmFormat {
 
     // Whether a footage of this format may have a perf field: where a foot is no whole number of frames.
     pub fn allows_perf_field(self) -> bool
-        ensures answer { result ≡ allowsPerfField self }
+        ensures { result ≡ allows_perf_field self }
     {
         self.perfs_per_foot() % self.perfs_per_frame() != 0
     }
 
     // How many frames a foot has: those whose last perf lies in it.
     fn frames_in_foot(self, feet: u64) -> u64
-        ensures answer { result ≡ framesInFoot self feet }
+        ensures { result ≡ frames_in_foot self feet }
     {
         match self {
             FilmFormat::FF35mm4perf => 16,
@@ -99,7 +101,7 @@ impl FilmFormat {
 
 // The marker of a footage, if it is marked: feet modulo 3.
 fn marker_fault(feet: u64, marked: bool, marker: u64) -> Found
-    ensures answer { result ≡ markerFault feet marked marker }
+    ensures { result ≡ marker_fault feet marked marker }
 {
     if !marked {
         return Found::NoFault;
@@ -110,7 +112,7 @@ fn marker_fault(feet: u64, marked: bool, marker: u64) -> Found
 // The first field from the left that no footage of that foot has: a frames number that does not occur in it, or a marker that is not feet
 // modulo 3.
 pub fn film_fault(format: FilmFormat, feet: u64, frames: u64, marked: bool, marker: u64) -> Found
-    ensures answer { result ≡ filmFault format feet frames marked marker }
+    ensures { result ≡ film_fault format feet frames marked marker }
 {
     let first = faults::under(Field::Frames, format.frames_in_foot(feet), frames);
     faults::leftmost(first, marker_fault(feet, marked, marker))
@@ -118,14 +120,14 @@ pub fn film_fault(format: FilmFormat, feet: u64, frames: u64, marked: bool, mark
 
 // Whether a footage can be on the film: none of its fields is at fault.
 pub fn on_film(format: FilmFormat, feet: u64, frames: u64, marked: bool, marker: u64) -> bool
-    ensures answer { result ≡ onFilm format feet frames marked marker }
+    ensures { result ≡ on_film format feet frames marked marker }
 {
     faults::is_none(film_fault(format, feet, frames, marked, marker))
 }
 
 // The film format of a number. Refuses 6: no such film format.
 pub fn format_at(no: u64) -> Filmed
-    ensures answer { result ≡ formatAt no }
+    ensures { result ≡ format_at no }
 {
     match no {
         1 => Filmed::Format(FilmFormat::FF35mm4perf),
@@ -138,14 +140,14 @@ pub fn format_at(no: u64) -> Filmed
 
 // The count of feet and frames that were read, with this sign. Refuses 5: it is outside its bounds.
 pub fn footage_count(format: FilmFormat, minus: bool, feet: u64, frames: u64) -> Counted
-    ensures answer { result ≡ held (signed minus (footageCount format feet frames)) }
+    ensures { result ≡ held (signed minus (footage_count format feet frames)) }
 {
     answers::held(minus, footage_frames(format, feet, frames))
 }
 
 // The exact count of feet and frames, where each has at most 9 digits; a number beyond all bounds for others, whose count is no less.
 pub fn footage_frames(format: FilmFormat, feet: u64, frames: u64) -> u64
-    ensures answer { result ≡ footageOr format feet frames }
+    ensures { result ≡ footage_or format feet frames }
 {
     if feet >= answers::BEYOND {
         return answers::BEYOND;
@@ -158,8 +160,8 @@ pub fn footage_frames(format: FilmFormat, feet: u64, frames: u64) -> u64
 
 // The count of feet and frames. Asks at most 9 digits of each.
 fn count_of(format: FilmFormat, feet: u64, frames: u64) -> u64
-    requires fields { (feet < beyond) × (frames < beyond) }
-    ensures answer { result ≡ footageCount format feet frames }
+    requires { (feet < beyond) × (frames < beyond) }
+    ensures { result ≡ footage_count format feet frames }
 {
     match format {
         FilmFormat::FF35mm4perf => 16 * feet + frames,
@@ -171,7 +173,7 @@ fn count_of(format: FilmFormat, feet: u64, frames: u64) -> u64
 
 // The feet and frames that are written of an absolute count; zeros for one outside its bounds.
 pub fn feet_and_frames(format: FilmFormat, f: u64) -> Footage
-    ensures answer { result ≡ footageIn format f }
+    ensures { result ≡ footage_in format f }
 {
     if f > answers::MOST_COUNT {
         return Footage {
@@ -185,8 +187,8 @@ pub fn feet_and_frames(format: FilmFormat, f: u64) -> Footage
 
 // The feet and frames of an absolute count. Asks a count within its bounds.
 fn footage_of(format: FilmFormat, f: u64) -> Footage
-    requires count { f ≤ mostCount }
-    ensures answer { result ≡ footageOf format f }
+    requires { f ≤ most_count }
+    ensures { result ≡ footage_of format f }
 {
     let per_frame = format.perfs_per_frame();
     let per_foot = format.perfs_per_foot();

@@ -8,19 +8,19 @@ use native.Mathlib.Omega.{arith}
 use lib.ListN.{length}
 use borrow.Author.Tests.{lt-ltb, ltb-false}
 use Rattle.beginnings.specs.Beginning.{LongestBeginning}
-use Rattle.digits.specs.Digits.{allDigits, IsField, valueFrom, value_of, decimal}
-use Rattle.digits.proofs.Width.{decimal-back}
+use Rattle.digits.specs.Digits.{all_digits, IsField, value_from, value_of, decimal}
+use Rattle.digits.proofs.Width.{decimal_back}
 use Rattle.scanner.specs.declared.fields.Dividers.{Dividers}
 use Rattle.scanner.specs.declared.fields.Dividers.TheVariants.{Plus}
 use Rattle.scanner.specs.declared.text.Fit.TheVariants.{Fits, TooLong, NoShape}
-use Rattle.scanner.specs.Long.{isLong, fieldsLong, ShortField}
-use Rattle.scanner.specs.Shapes.{FieldsShape, last, more, pointed, TextParts, textParts, withMinus, TextShape, someLong, HasTextShape, Possible}
+use Rattle.scanner.specs.Long.{is_long, fields_long, ShortField}
+use Rattle.scanner.specs.Shapes.{FieldsShape, last, more, pointed, TextParts, text_parts, with_minus, TextShape, some_long, HasTextShape, Possible}
 use Rattle.scanner.proofs.Long.{neither, not-long, value-short, written-short}
 use Rattle.scanner.proofs.Bodies.{point-some}
-use Rattle.scanner.proofs.Statements.{one-text-shape, text-bounded, fields-count, fit-told, text-short, text-long, long-place, place-long, stop-longest, text-stops}
+use Rattle.scanner.proofs.Statements.{one_text_shape, text_bounded, fields-count, fit-told, text-short, text-long, long-place, place-long, stop_longest, text-stops}
 use Rattle.footage_scan.specs.declared.FootageScan.{FootageScan}
-use Rattle.footage_scan.specs.Shape.{footageGrammar, footageParts, asText, hasPerf, footageLong, HasFootageShape, FootageParts, FootageShape, IsFootage, LongFootage}
-use Rattle.footage_scan.specs.Footage.{fittingFootage, footageFrom, footageScan}
+use Rattle.footage_scan.specs.Shape.{footage_grammar, footage_parts, as_text, has_perf, footage_long, HasFootageShape, FootageParts, FootageShape, IsFootage, LongFootage}
+use Rattle.footage_scan.specs.Footage.{fitting_footage, footage_from, footage_scan}
 use Rattle.footage_scan.specs.Statements.{FootageReads, PerfPresent, FootageFits, FootageTooLong, FootageNoShape, OneFootageShape, FootageBelow, FootageTextBack}
 
 -- ---- a footage's grammar asks for two fields
@@ -35,16 +35,16 @@ two (d ∷ []) e = absurd (omega arith)
 two (d ∷ f ∷ []) e = record { feet = d; frames = f; is = refl }
 two (d ∷ f ∷ r ∷ fs) e = absurd (omega arith)
 
-two_fields : (l : List ℕ) (p : TextParts) → TextShape footageGrammar l p → Two p.fields
-two_fields l p t = let c = fields-count footageGrammar l p t in two p.fields (omega (arith, c.0, c.1))
+two_fields : (l : List ℕ) (p : TextParts) → TextShape footage_grammar l p → Two p.fields
+two_fields l p t = let c = fields-count footage_grammar l p t in two p.fields (omega (arith, c.0, c.1))
 
-has-footage : (l : List ℕ) (long : Bool) → HasTextShape footageGrammar l long → HasFootageShape l long
+has-footage : (l : List ℕ) (long : Bool) → HasTextShape footage_grammar l long → HasFootageShape l long
 has-footage l long h =
     let p = h.parts in
     let t = two_fields l p h.shape in
-    let q = footageParts p.minus t.feet t.frames p.tail in
-    let e : asText q ≡ p = ap (λ (x : List (List ℕ)). textParts p.minus x p.tail) t.is in
-    record { parts = q; shape = rw e h.shape; digits = ap (someLong footageGrammar) e ∙ h.digits }
+    let q = footage_parts p.minus t.feet t.frames p.tail in
+    let e : as_text q ≡ p = ap (λ (x : List (List ℕ)). text_parts p.minus x p.tail) t.is in
+    record { parts = q; shape = rw e h.shape; digits = ap (some_long footage_grammar) e ∙ h.digits }
 
 -- feet and frames are fields
 first_field : {d : Dividers} {k : ℕ} {l f : List ℕ} {fs : List (List ℕ)} → FieldsShape d k l (f ∷ fs) → IsField f
@@ -58,84 +58,84 @@ pub footage-fields : (l : List ℕ) (p : FootageParts) → FootageShape l p → 
 footage-fields l p t = let s = t.shape in (first_field s.shape, second-field s.front p.feet p.frames s.shape)
 
 -- ---- each fit
-pub footage-reads : FootageReads
-unfolding footageScan
-footage-reads l p shape short =
-    let perf = (neither (isLong (length p.perf)) (fieldsLong (p.feet ∷ p.frames ∷ [])) short).0 in
-    ap footageFrom (text-short footageGrammar l (asText p) shape short)
-    ∙ ap (fittingFootage p.minus (value_of p.feet) (value_of p.frames) (hasPerf p.perf)) (value-short p.perf perf)
+pub footage_reads : FootageReads
+unfolding footage_scan
+footage_reads l p shape short =
+    let perf = (neither (is_long (length p.perf)) (fields_long (p.feet ∷ p.frames ∷ [])) short).0 in
+    ap footage_from (text-short footage_grammar l (as_text p) shape short)
+    ∙ ap (fitting_footage p.minus (value_of p.feet) (value_of p.frames) (has_perf p.perf)) (value-short p.perf perf)
 
-pub perf-present : PerfPresent
-perf-present [] = (λ e. refl, λ e. refl)
-perf-present (b ∷ perf) = (λ e. let none = ltb-false 0 (length (b ∷ perf)) e in absurd (omega arith), λ e. ap hasPerf e)
+pub perf_present : PerfPresent
+perf_present [] = (λ e. refl, λ e. refl)
+perf_present (b ∷ perf) = (λ e. let none = ltb-false 0 (length (b ∷ perf)) e in absurd (omega arith), λ e. ap has_perf e)
 
-pub footage-fits : FootageFits
-unfolding footageScan
-footage-fits l = (
-  λ e. has-footage l false (fit-told footageGrammar l Fits e),
-  λ h. ap (λ (x : FootageScan). x.fit) (footage-reads l h.parts h.shape h.digits),
+pub footage_fits : FootageFits
+unfolding footage_scan
+footage_fits l = (
+  λ e. has-footage l false (fit-told footage_grammar l Fits e),
+  λ h. ap (λ (x : FootageScan). x.fit) (footage_reads l h.parts h.shape h.digits),
 )
 
-pub footage-too-long : FootageTooLong
-unfolding footageScan
-footage-too-long l place = (
-  λ e. fit-told footageGrammar l (TooLong place) (ap (λ (x : FootageScan). x.fit) e),
-  λ h. ap footageFrom (text-long footageGrammar l place h),
+pub footage_too_long : FootageTooLong
+unfolding footage_scan
+footage_too_long l place = (
+  λ e. fit-told footage_grammar l (TooLong place) (ap (λ (x : FootageScan). x.fit) e),
+  λ h. ap footage_from (text-long footage_grammar l place h),
 )
 
 -- where something is too long, the first such field has a place, and back
 pub footage-long-place : (l : List ℕ) → HasFootageShape l true → (place : ℕ) × LongFootage l place
-footage-long-place l h = long-place footageGrammar l (record { parts = asText h.parts; shape = h.shape; digits = h.digits })
+footage-long-place l h = long-place footage_grammar l (record { parts = as_text h.parts; shape = h.shape; digits = h.digits })
 
 pub footage-place-long : (l : List ℕ) (place : ℕ) → LongFootage l place → HasFootageShape l true
-footage-place-long l place h = has-footage l true (place-long footageGrammar l place h)
+footage-place-long l place h = has-footage l true (place-long footage_grammar l place h)
 
 -- there are footages
-possible : Possible footageGrammar
+possible : Possible footage_grammar
 possible = record { some = omega arith; enough = omega arith }
 
 -- ---- what the fit alone tells
-pub footage-fit-long : (l : List ℕ) (place : ℕ) → (footageScan l).fit ≡ TooLong place → LongFootage l place
-unfolding footageScan
-footage-fit-long l place e = fit-told footageGrammar l (TooLong place) e
+pub footage-fit-long : (l : List ℕ) (place : ℕ) → (footage_scan l).fit ≡ TooLong place → LongFootage l place
+unfolding footage_scan
+footage-fit-long l place e = fit-told footage_grammar l (TooLong place) e
 
-pub footage-fit-none : (l : List ℕ) (stop : ℕ) → (footageScan l).fit ≡ NoShape stop → (p : FootageParts) → ¬ FootageShape l p
-unfolding footageScan
-footage-fit-none l stop e p = fit-told footageGrammar l (NoShape stop) e (asText p)
+pub footage-fit-none : (l : List ℕ) (stop : ℕ) → (footage_scan l).fit ≡ NoShape stop → (p : FootageParts) → ¬ FootageShape l p
+unfolding footage_scan
+footage-fit-none l stop e p = fit-told footage_grammar l (NoShape stop) e (as_text p)
 
-pub footage-fit-stop : (l : List ℕ) (stop : ℕ) → (footageScan l).fit ≡ NoShape stop → LongestBeginning IsFootage l stop
-unfolding footageScan
-footage-fit-stop l stop e = stop-longest footageGrammar l stop possible e
+pub footage-fit-stop : (l : List ℕ) (stop : ℕ) → (footage_scan l).fit ≡ NoShape stop → LongestBeginning IsFootage l stop
+unfolding footage_scan
+footage-fit-stop l stop e = stop_longest footage_grammar l stop possible e
 
 -- a text that is no footage is none by the grammar
-no_text : (l : List ℕ) → ((p : FootageParts) → ¬ FootageShape l p) → (p : TextParts) → ¬ TextShape footageGrammar l p
+no_text : (l : List ℕ) → ((p : FootageParts) → ¬ FootageShape l p) → (p : TextParts) → ¬ TextShape footage_grammar l p
 no_text l h p t =
-    let q = has-footage l (someLong footageGrammar p) (record { parts = p; shape = t; digits = refl }) in h q.parts q.shape
+    let q = has-footage l (some_long footage_grammar p) (record { parts = p; shape = t; digits = refl }) in h q.parts q.shape
 
-pub footage-no-shape : FootageNoShape
-unfolding footageScan
-footage-no-shape l stop = (
+pub footage_no_shape : FootageNoShape
+unfolding footage_scan
+footage_no_shape l stop = (
   λ e. let fit = ap (λ (x : FootageScan). x.fit) e in (footage-fit-none l stop fit, footage-fit-stop l stop fit),
-  λ h. ap footageFrom (text-stops footageGrammar l stop possible (no_text l h.0) h.1),
+  λ h. ap footage_from (text-stops footage_grammar l stop possible (no_text l h.0) h.1),
 )
 
-pub one-footage-shape : OneFootageShape
-one-footage-shape l p q s t =
-    let e = one-text-shape footageGrammar l (asText p) (asText q) s t in
+pub one_footage_shape : OneFootageShape
+one_footage_shape l p q s t =
+    let e = one_text_shape footage_grammar l (as_text p) (as_text q) s t in
     let fields : p.feet ∷ p.frames ∷ [] ≡ q.feet ∷ q.frames ∷ [] = ap (λ (x : TextParts). x.fields) e in
     let feet : p.feet ≡ q.feet = cc in
     let frames : p.frames ≡ q.frames = cc in
-    ap₂ (λ (x y : List ℕ). footageParts p.minus x y p.perf) feet frames
-    ∙ ap₂ (λ (m : Bool) (x : List ℕ). footageParts m q.feet q.frames x) (ap (λ (x : TextParts). x.minus) e) (ap (λ (x : TextParts). x.tail) e)
+    ap₂ (λ (x y : List ℕ). footage_parts p.minus x y p.perf) feet frames
+    ∙ ap₂ (λ (m : Bool) (x : List ℕ). footage_parts m q.feet q.frames x) (ap (λ (x : TextParts). x.minus) e) (ap (λ (x : TextParts). x.tail) e)
 
-pub footage-below : FootageBelow
-unfolding footageScan
-footage-below l = let b = text-bounded footageGrammar l in (b.below 2, b.below 3, b.tail)
+pub footage_below : FootageBelow
+unfolding footage_scan
+footage_below l = let b = text_bounded footage_grammar l in (b.below 2, b.below 3, b.tail)
 
 -- ---- written and read
 -- two fields divided by `+`, and digits behind a `.` or none, are a footage
-pub footage-shape : (m : Bool) (d e w : List ℕ) → IsField d → IsField e → allDigits w ≡ true
-    → FootageShape (withMinus m ((d ++ 43 ∷ e) ++ pointed w)) (footageParts m d e w)
+pub footage-shape : (m : Bool) (d e w : List ℕ) → IsField d → IsField e → all_digits w ≡ true
+    → FootageShape (with_minus m ((d ++ 43 ∷ e) ++ pointed w)) (footage_parts m d e w)
 footage-shape m d e w i j digits =
     record {
       body = (d ++ 43 ∷ e) ++ pointed w;
@@ -151,32 +151,32 @@ footage-shape m d e w i j digits =
     }
 
 -- none of its fields is too long, where none has over 9 digits
-pub footage-short : (m : Bool) (d e w : List ℕ) → ShortField d → ShortField e → isLong (length w) ≡ false → footageLong (footageParts m d e w) ≡ false
-unfolding fieldsLong
+pub footage-short : (m : Bool) (d e w : List ℕ) → ShortField d → ShortField e → is_long (length w) ≡ false → footage_long (footage_parts m d e w) ≡ false
+unfolding fields_long
 footage-short m d e w i j short = rw (short, not-long d i, not-long e j)
 
 module _ (m : Bool) (feet frames : ℕ) (h : feet < 10 ^ 9) (k : frames < 10 ^ 9) where
   -- with any digits behind a `.`, or none
-  text-back : (w : List ℕ) → allDigits w ≡ true → isLong (length w) ≡ false
-      → footageScan (withMinus m ((decimal 1 feet ++ 43 ∷ decimal 2 frames) ++ pointed w)) ≡ fittingFootage m feet frames (hasPerf w) (value_of w)
+  text-back : (w : List ℕ) → all_digits w ≡ true → is_long (length w) ≡ false
+      → footage_scan (with_minus m ((decimal 1 feet ++ 43 ∷ decimal 2 frames) ++ pointed w)) ≡ fitting_footage m feet frames (has_perf w) (value_of w)
   text-back w digits short =
       let i = written-short 1 feet (omega arith) h in
       let j = written-short 2 frames (omega arith) k in
-      footage-reads (withMinus m ((decimal 1 feet ++ 43 ∷ decimal 2 frames) ++ pointed w)) (footageParts m (decimal 1 feet) (decimal 2 frames) w)
+      footage_reads (with_minus m ((decimal 1 feet ++ 43 ∷ decimal 2 frames) ++ pointed w)) (footage_parts m (decimal 1 feet) (decimal 2 frames) w)
       (footage-shape m (decimal 1 feet) (decimal 2 frames) w i.is j.is digits)
       (footage-short m (decimal 1 feet) (decimal 2 frames) w i j short)
-      ∙ rw (decimal-back 1 feet, decimal-back 2 frames)
+      ∙ rw (decimal_back 1 feet, decimal_back 2 frames)
 
-pub footage-text-back : FootageTextBack
-unfolding allDigits valueFrom
-footage-text-back m feet frames h k = (
-  ap (λ (x : List ℕ). footageScan (withMinus m x)) (sym (append-nil (decimal 1 feet ++ 43 ∷ decimal 2 frames)))
+pub footage_text_back : FootageTextBack
+unfolding all_digits value_from
+footage_text_back m feet frames h k = (
+  ap (λ (x : List ℕ). footage_scan (with_minus m x)) (sym (append-nil (decimal 1 feet ++ 43 ∷ decimal 2 frames)))
       ∙ text-back m feet frames h k [] refl refl,
   λ perf j. let f = written-short 1 perf (omega arith) j in
       let w = decimal 1 perf in
-      ap (λ (x : List ℕ). footageScan (withMinus m x))
+      ap (λ (x : List ℕ). footage_scan (with_minus m x))
       (sym (append_assoc (decimal 1 feet) (43 ∷ decimal 2 frames) (46 ∷ w))
       ∙ ap (λ (x : List ℕ). (decimal 1 feet ++ 43 ∷ decimal 2 frames) ++ x) (sym (point-some w f.is.some)))
       ∙ text-back m feet frames h k w f.is.digits (not-long w f)
-      ∙ ap₂ (fittingFootage m feet frames) (lt-ltb 0 (length w) f.is.some) (decimal-back 1 perf),
+      ∙ ap₂ (fitting_footage m feet frames) (lt-ltb 0 (length w) f.is.some) (decimal_back 1 perf),
 )

@@ -4,22 +4,22 @@ use Rattle.std.specs.Prelude.{ℕ, List, Bool, false, ltb, get_or}
 use Rattle.scanner.specs.declared.text.Fit.{Fit}
 use Rattle.scanner.specs.declared.text.Fit.TheVariants.{Fits}
 use Rattle.scanner.specs.declared.text.TextScan.{TextScan}
-use Rattle.scanner.specs.Text.{textScan}
+use Rattle.scanner.specs.Text.{text_scan}
 use Rattle.footage_scan.specs.declared.FootageScan.{FootageScan}
-use Rattle.footage_scan.specs.Shape.{footageGrammar}
+use Rattle.footage_scan.specs.Shape.{footage_grammar}
 
 -- a footage, with its sign, feet and frames, whether it has a perf field, and that field's value (0 where it has none)
-abbrev pub fittingFootage : (minus : Bool) (feet frames : ℕ) (perf : Bool) (marker : ℕ) → FootageScan
-fittingFootage minus feet frames perf marker =
+abbrev pub fitting_footage : (minus : Bool) (feet frames : ℕ) (perf : Bool) (marker : ℕ) → FootageScan
+fitting_footage minus feet frames perf marker =
     record { fit = Fits; minus = minus; feet = feet; frames = frames; perf = perf; marker = marker }
 
 -- no footage: no sign, all 0, and no perf field
-abbrev pub misfitFootage : Fit → FootageScan
-misfitFootage fit = record { fit = fit; minus = false; feet = 0; frames = 0; perf = false; marker = 0 }
+abbrev pub misfit_footage : Fit → FootageScan
+misfit_footage fit = record { fit = fit; minus = false; feet = 0; frames = 0; perf = false; marker = 0 }
 
 -- right-justified in four places, the last two fields are feet and frames; the tail is the perf field
-abbrev pub footageFrom : TextScan → FootageScan
-footageFrom scan =
+abbrev pub footage_from : TextScan → FootageScan
+footage_from scan =
     record {
       fit = scan.fit;
       minus = scan.minus;
@@ -29,5 +29,5 @@ footageFrom scan =
       marker = scan.tail;
     }
 
-unfoldable pub footageScan : List ℕ → FootageScan
-footageScan l = footageFrom (textScan footageGrammar l)
+unfoldable pub footage_scan : List ℕ → FootageScan
+footage_scan l = footage_from (text_scan footage_grammar l)

@@ -1,6 +1,8 @@
 // A footage's text taken apart: its sign, its feet and frames, whether it has a perf field and its marker, or why it is none.
+#![tactic(auto)]
+
 ghost use Rattle.std.specs.Prelude.{◌≡◌};
-ghost use Rattle.footage_scan.specs.Footage.{footageScan};
+ghost use Rattle.footage_scan.specs.Footage.{footage_scan};
 
 use scanner::{Dividers, Fit, Grammar};
 
@@ -26,7 +28,7 @@ pub struct FootageScan {
 
 // The sign and the fields of a footage; the crate's feet and frames regex and what it captures.
 pub fn scan_footage(text: &[u8]) -> FootageScan
-    ensures answer { result ≡ footageScan text.now }
+    ensures { result ≡ footage_scan text.now }
 {
     let scan = scanner::scan_text(text, FOOTAGE);
     let fit = scan.fit;

@@ -9,8 +9,8 @@ use lib.ListN.{length, get_or}
 use lib.Dec.{eqb}
 use borrow.Author.Tests.{eqb-true}
 use Rattle.digits.proofs.Values.{both}
-use Rattle.hex.specs.Digits.{allHexDigits}
-use Rattle.hex.specs.Hex.{isHex, pairBytes, bytesOfHex, digitPairs, hexText}
+use Rattle.hex.specs.Digits.{all_hex_digits}
+use Rattle.hex.specs.Hex.{is_hex, pair_bytes, bytes_of_hex, digit_pairs, hex_text}
 use Rattle.hex.specs.Grammar.{Pairs, none, pair, Hex, dash, some}
 use Rattle.hex.proofs.Digits.{digit_value, digit-below, value-digit, lower-digit}
 use Rattle.hex.proofs.Pairs.{all-hex-cons, all-hex-head, all-hex-tail}
@@ -19,12 +19,12 @@ use Rattle.hex.proofs.Taking.{hex-even, bytes-taken}
 -- ---- what the grammar has
 -- pairs are digits, an even number of them, and worth their bytes
 pub record Paired (text bytes : List ℕ) : Type 0 where
-  pub digits : allHexDigits text ≡ true
+  pub digits : all_hex_digits text ≡ true
   pub even : length text % 2 ≡ 0
-  pub worth : pairBytes text ≡ bytes
+  pub worth : pair_bytes text ≡ bytes
 
 pub pairs-paired : {text bytes : List ℕ} → Pairs text bytes → Paired text bytes
-unfolding allHexDigits pairBytes
+unfolding all_hex_digits pair_bytes
 pairs-paired none = record { digits = refl; even = refl; worth = refl }
 pairs-paired (pair {b} {c} {m} {n} {text} {bytes} p q r) =
     let s = pairs-paired r in
@@ -37,12 +37,12 @@ pairs-paired (pair {b} {c} {m} {n} {text} {bytes} p q r) =
       worth = rw (v, w, s.worth);
     }
 
-hex-some : (b : ℕ) (text bytes : List ℕ) → Paired (b ∷ text) bytes → isHex (b ∷ text) ≡ true
+hex-some : (b : ℕ) (text bytes : List ℕ) → Paired (b ∷ text) bytes → is_hex (b ∷ text) ≡ true
 hex-some b [] bytes s = absurd (omega (arith, s.even))
 hex-some b (c ∷ text) bytes s = hex-even (b ∷ c ∷ text) (omega arith) s.even ∙ s.digits
 
-pub hex-taken : (text bytes : List ℕ) → Hex text bytes → (isHex text ≡ true) × (bytesOfHex text ≡ bytes)
-unfolding isHex bytesOfHex pairBytes
+pub hex-taken : (text bytes : List ℕ) → Hex text bytes → (is_hex text ≡ true) × (bytes_of_hex text ≡ bytes)
+unfolding is_hex bytes_of_hex pair_bytes
 hex-taken _ _ dash = (refl, refl)
 hex-taken _ _ (some {b} {text} {bytes} p) =
     let s = pairs-paired p in
@@ -50,23 +50,23 @@ hex-taken _ _ (some {b} {text} {bytes} p) =
     (e, bytes-taken (b ∷ text) e ∙ s.worth)
 
 -- ---- what is taken
-pairs-found : (text : List ℕ) → allHexDigits text ≡ true → length text % 2 ≡ 0 → Pairs text (pairBytes text)
-unfolding pairBytes
+pairs-found : (text : List ℕ) → all_hex_digits text ≡ true → length text % 2 ≡ 0 → Pairs text (pair_bytes text)
+unfolding pair_bytes
 pairs-found [] e h = none
 pairs-found (b ∷ []) e h = absurd (omega arith)
 pairs-found (b ∷ c ∷ text) e h =
     let t = all-hex-tail b (c ∷ text) e in
     pair (value-digit b (all-hex-head b (c ∷ text) e)) (value-digit c (all-hex-head c text t)) (pairs-found text (all-hex-tail c text t) (omega arith))
 
-hex-pairs : (text : List ℕ) → isHex text ≡ true → Hex text (pairBytes text)
-unfolding isHex pairBytes
+hex-pairs : (text : List ℕ) → is_hex text ≡ true → Hex text (pair_bytes text)
+unfolding is_hex pair_bytes
 hex-pairs [] e = let z : ◌≡◌ {A = ℕ} 0 1 = cc in absurd (omega arith)
 hex-pairs (b ∷ []) e = rw (eqb-true b 45 e) dash
 hex-pairs (b ∷ c ∷ text) e =
-    let t = both (eqb (length text % 2) 0) (allHexDigits (b ∷ c ∷ text)) e in
+    let t = both (eqb (length text % 2) 0) (all_hex_digits (b ∷ c ∷ text)) e in
     some (pairs-found (b ∷ c ∷ text) t.1 (omega (arith, eqb-true (length text % 2) 0 t.0)))
 
-pub hex-found : (text : List ℕ) → isHex text ≡ true → Hex text (bytesOfHex text)
+pub hex-found : (text : List ℕ) → is_hex text ≡ true → Hex text (bytes_of_hex text)
 hex-found text e = rw (bytes-taken text e) (hex-pairs text e)
 
 -- ---- bytes, and what is shown of them
@@ -82,15 +82,15 @@ hex-below dash i = pairs_below none i
 hex-below (some p) i = pairs_below p i
 
 -- bytes below 256 are those of the HEX that is shown
-shown-pairs : (bytes : List ℕ) → ((i : ℕ) → get_or bytes i 0 < 256) → Pairs (digitPairs bytes) bytes
-unfolding digitPairs
+shown-pairs : (bytes : List ℕ) → ((i : ℕ) → get_or bytes i 0 < 256) → Pairs (digit_pairs bytes) bytes
+unfolding digit_pairs
 shown-pairs [] h = none
 shown-pairs (b ∷ bytes) h =
     let k : b < 256 = h 0 in
     let e : 16 * (b / 16) + b % 16 ≡ b = omega arith in
     rw e at (pair (lower-digit (b / 16) (omega arith)) (lower-digit (b % 16) (omega arith)) (shown-pairs bytes (λ i. h (suc i))))
 
-pub hex-shown : (bytes : List ℕ) → ((i : ℕ) → get_or bytes i 0 < 256) → Hex (hexText bytes) bytes
-unfolding hexText digitPairs
+pub hex-shown : (bytes : List ℕ) → ((i : ℕ) → get_or bytes i 0 < 256) → Hex (hex_text bytes) bytes
+unfolding hex_text digit_pairs
 hex-shown [] h = dash
 hex-shown (b ∷ bytes) h = some (shown-pairs (b ∷ bytes) h)

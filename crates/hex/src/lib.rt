@@ -1,10 +1,12 @@
 // Bytes as HEX, both ways: two digits a byte, the high one first, lower case shown and either case taken, `-` for none at all. Refuses
 // nothing itself: a text that is no HEX says so, and what has no room changes nothing.
+#![tactic(auto)]
+
 ghost use Rattle.std.specs.Prelude.{◌≡◌, true, ◌+◌, ◌*◌, ◌/◌, ◌<◌, ◌≤◌, length};
 ghost use Rattle.lent.specs.Line.{laid};
-ghost use Rattle.streams.specs.Sheet.{sheet, putOn};
-ghost use Rattle.hex.specs.Digits.{isFromTo, hexValue, allHexDigits, lowerDigit};
-ghost use Rattle.hex.specs.Hex.{isHex, pairBytes, bytesOfHex, hexedOf, digitPairs, hexText};
+ghost use Rattle.streams.specs.Sheet.{sheet, put_on};
+ghost use Rattle.hex.specs.Digits.{is_from_to, hex_value, all_hex_digits, lower_digit};
+ghost use Rattle.hex.specs.Hex.{is_hex, pair_bytes, bytes_of_hex, hexed_of, digit_pairs, hex_text};
 
 // Whether a text is HEX whose bytes have room, and how many bytes it has; 0 where it is not.
 #[derive(Drop)]
@@ -15,7 +17,7 @@ pub struct Hexed {
 
 // Is this byte one of those from `first` to `last`?
 fn is_from_to(first: u8, last: u8, b: u8) -> bool
-    ensures answer { result ≡ isFromTo first last b }
+    ensures { result ≡ is_from_to first last b }
 {
     if b < first {
         return false;
@@ -25,7 +27,7 @@ fn is_from_to(first: u8, last: u8, b: u8) -> bool
 
 // What a digit is worth, in either case; 16 where it is none.
 fn hex_value(b: u8) -> u8
-    ensures answer { result ≡ hexValue b }
+    ensures { result ≡ hex_value b }
 {
     if is_from_to(b'0', b'9', b) {
         return b - b'0';
@@ -41,7 +43,7 @@ fn hex_value(b: u8) -> u8
 
 // Is every byte of a text a digit?
 fn all_hex_digits(text: &[u8]) -> bool
-    ensures answer { result ≡ allHexDigits text.now }
+    ensures { result ≡ all_hex_digits text.now }
 {
     let mut i = 0;
     while i < text.len() {
@@ -55,7 +57,7 @@ fn all_hex_digits(text: &[u8]) -> bool
 
 // Is a text HEX?
 fn is_hex(text: &[u8]) -> bool
-    ensures answer { result ≡ isHex text.now }
+    ensures { result ≡ is_hex text.now }
 {
     if text.len() == 0 {
         return false;
@@ -73,16 +75,16 @@ fn is_hex(text: &[u8]) -> bool
 fn byte_of(high: u8, low: u8) -> u8
     requires high { high < 16 }
     requires low { low < 16 }
-    ensures answer { result ≡ 16 * high + low }
+    ensures { result ≡ 16 * high + low }
 {
     16 * high + low
 }
 
 // The bytes of HEX at the front of a part; every other byte stays. Asks HEX, and room.
 fn fill(text: &[u8], into: &mut [u8])
-    requires hex { isHex text.now ≡ true }
+    requires hex { is_hex text.now ≡ true }
     requires room { length text.now / 2 ≤ length into.old }
-    ensures bytes { into.new ≡ laid into.old (pairBytes text.now) }
+    ensures { into.new ≡ laid into.old (pair_bytes text.now) }
 {
     let mut i = 0;
     while i < text.len() / 2 {
@@ -95,8 +97,8 @@ fn fill(text: &[u8], into: &mut [u8])
 
 // The bytes of a text at the front of a buffer, where the text is HEX and they have room; every other byte stays. Else nothing changes.
 pub fn read(text: &[u8], into: &mut [u8]) -> Hexed
-    ensures answer { result ≡ hexedOf text.now (length into.old) }
-    ensures bytes { into.new ≡ laid into.old (bytesOfHex text.now) }
+    ensures answer { result ≡ hexed_of text.now (length into.old) }
+    ensures bytes { into.new ≡ laid into.old (bytes_of_hex text.now) }
 {
     let count = text.len() / 2;
     if is_hex(text) {
@@ -113,8 +115,8 @@ pub fn read(text: &[u8], into: &mut [u8]) -> Hexed
 
 // The digit of a value, in lower case. Asks a value below 16.
 fn lower_digit(n: u8) -> u8
-    requires value { n < 16 }
-    ensures answer { result ≡ lowerDigit n }
+    requires { n < 16 }
+    ensures { result ≡ lower_digit n }
 {
     if n < 10 {
         return b'0' + n;
@@ -124,8 +126,8 @@ fn lower_digit(n: u8) -> u8
 
 // Two digits for each byte at the front of a part; every other byte stays. Asks room.
 fn put_pairs(part: &mut [u8], bytes: &[u8])
-    requires room { 2 * length bytes.now ≤ length part.old }
-    ensures line { part.new ≡ laid part.old (digitPairs bytes.now) }
+    requires { 2 * length bytes.now ≤ length part.old }
+    ensures { part.new ≡ laid part.old (digit_pairs bytes.now) }
 {
     let mut i = 0;
     while i < bytes.len() {
@@ -137,8 +139,8 @@ fn put_pairs(part: &mut [u8], bytes: &[u8])
 
 // The HEX of bytes put on a sheet; where it has no room nothing changes. The answer: how many bytes of the sheet are used then.
 pub fn put(out: &mut [u8], used: usize, bytes: &[u8]) -> usize
-    ensures answer { result ≡ (putOn (sheet out.old used) (hexText bytes.now)).used }
-    ensures sheet { out.new ≡ (putOn (sheet out.old used) (hexText bytes.now)).bytes }
+    ensures answer { result ≡ (put_on (sheet out.old used) (hex_text bytes.now)).used }
+    ensures sheet { out.new ≡ (put_on (sheet out.old used) (hex_text bytes.now)).bytes }
 {
     if bytes.len() == 0 {
         return streams::put_byte(out, used, b'-');

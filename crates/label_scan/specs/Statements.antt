@@ -4,32 +4,32 @@ use Rattle.std.specs.Prelude.{ℕ, ◌^◌, ◌<◌, ◌≡◌, ◌↔◌, List,
 use Rattle.beginnings.specs.Beginning.{LongestBeginning}
 use Rattle.digits.specs.Digits.{value_of, decimal}
 use Rattle.scanner.specs.declared.text.Fit.TheVariants.{Fits, TooLong, NoShape}
-use Rattle.scanner.specs.Long.{fieldsLong}
+use Rattle.scanner.specs.Long.{fields_long}
 use Rattle.scanner.specs.Justified.{justified}
-use Rattle.scanner.specs.Scan.{isDivider}
-use Rattle.scanner.specs.Shapes.{withMinus}
+use Rattle.scanner.specs.Scan.{is_divider}
+use Rattle.scanner.specs.Shapes.{with_minus}
 use Rattle.label_scan.specs.Shape.{LabelShape, HasLabelShape, IsLabel, LongLabel}
-use Rattle.label_scan.specs.Label.{fittingLabel, misfitLabel, labelScan}
+use Rattle.label_scan.specs.Label.{fitting_label, misfit_label, label_scan}
 
 -- a text of the shape, no field of over 9 digits, reads as its sign and the values of its fields, right-justified, absent ones zero
 abbrev pub LabelReads : Type 0
 LabelReads =
-    (l : List ℕ) (minus : Bool) (fields : List (List ℕ)) → LabelShape l minus fields → fieldsLong fields ≡ false
-    → labelScan l ≡ fittingLabel minus (justified (map value_of fields))
+    (l : List ℕ) (minus : Bool) (fields : List (List ℕ)) → LabelShape l minus fields → fields_long fields ≡ false
+    → label_scan l ≡ fitting_label minus (justified (map value_of fields))
 
 -- a text fits exactly when it has the shape, and no field has over 9 digits
 abbrev pub LabelFits : Type 0
-LabelFits = (l : List ℕ) → ((labelScan l).fit ≡ Fits) ↔ HasLabelShape l false
+LabelFits = (l : List ℕ) → ((label_scan l).fit ≡ Fits) ↔ HasLabelShape l false
 
 -- it is too long exactly when it has the shape, but a field has over 9 digits; the first such begins at the place
 abbrev pub LabelTooLong : Type 0
-LabelTooLong = (l : List ℕ) (place : ℕ) → (labelScan l ≡ misfitLabel (TooLong place)) ↔ LongLabel l place
+LabelTooLong = (l : List ℕ) (place : ℕ) → (label_scan l ≡ misfit_label (TooLong place)) ↔ LongLabel l place
 
 -- it has no shape exactly when it has not this one; where the scan stopped is the length of the longest beginning that also begins a label
 abbrev pub LabelNoShape : Type 0
 LabelNoShape =
     (l : List ℕ) (stop : ℕ)
-    → (labelScan l ≡ misfitLabel (NoShape stop))
+    → (label_scan l ≡ misfit_label (NoShape stop))
     ↔ (((minus : Bool) (fields : List (List ℕ)) → ¬ LabelShape l minus fields) × LongestBeginning IsLabel l stop)
 
 -- a text has the shape in one way only
@@ -41,6 +41,6 @@ OneLabelShape =
 abbrev pub LabelBack : Type 0
 LabelBack =
     (minus : Bool) (h m s f a b c : ℕ) → h < 10 ^ 9 → m < 10 ^ 9 → s < 10 ^ 9 → f < 10 ^ 9
-    → isDivider a ≡ true → isDivider b ≡ true → isDivider c ≡ true
-    → labelScan (withMinus minus (decimal 2 h ++ (a ∷ decimal 2 m ++ (b ∷ decimal 2 s ++ (c ∷ decimal 2 f)))))
-    ≡ fittingLabel minus (h ∷ m ∷ s ∷ f ∷ [])
+    → is_divider a ≡ true → is_divider b ≡ true → is_divider c ≡ true
+    → label_scan (with_minus minus (decimal 2 h ++ (a ∷ decimal 2 m ++ (b ∷ decimal 2 s ++ (c ∷ decimal 2 f)))))
+    ≡ fitting_label minus (h ∷ m ∷ s ∷ f ∷ [])

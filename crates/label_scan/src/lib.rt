@@ -1,6 +1,8 @@
 // A label's text taken apart: its sign and its four fields, or why it is none.
+#![tactic(auto)]
+
 ghost use Rattle.std.specs.Prelude.{◌≡◌};
-ghost use Rattle.label_scan.specs.Label.{labelScan};
+ghost use Rattle.label_scan.specs.Label.{label_scan};
 
 use scanner::{Dividers, Fit, Grammar};
 
@@ -22,7 +24,7 @@ pub struct LabelScan {
 
 // The sign and the fields of a label: what the crate takes by TIMECODE_REGEX and the sections of `parse_timecode_string`.
 pub fn scan_label(text: &[u8]) -> LabelScan
-    ensures answer { result ≡ labelScan text.now }
+    ensures { result ≡ label_scan text.now }
 {
     let scan = scanner::scan_text(text, LABEL);
     let fit = scan.fit;

@@ -1,10 +1,12 @@
 // The label of a timecode: its sections, and its text laid into the caller's line. Refuses 6, 5 and, where the text has no room, 8.
+#![tactic(auto)]
+
 ghost use Rattle.std.specs.Prelude.{◌≡◌};
 ghost use Rattle.lent.specs.Line.{laid};
 ghost use Rattle.timecodes.specs.Admitted.{Valid};
-ghost use Rattle.written.specs.Written.{Text, answerTo, lineTo};
-ghost use Rattle.label_writer.specs.Sections.{labelSections, sectioned};
-ghost use Rattle.label_writer.specs.LabelText.{framesMark, sectionsText, sectionsLength, labelDraft};
+ghost use Rattle.written.specs.Written.{Text, answer_to, line_to};
+ghost use Rattle.label_writer.specs.Sections.{label_sections, sectioned};
+ghost use Rattle.label_writer.specs.LabelText.{frames_mark, sections_text, sections_length, label_draft};
 
 use answers::{Refusal, Verdict};
 use timecodes::Timecode;
@@ -29,7 +31,7 @@ pub enum Sectioned {
 
 // The sections of a timecode's label (vtc's `sections`). Refuses 6: no such rate; 5: a count out of its bounds.
 pub fn sections(tc: Timecode) -> Sectioned
-    ensures answer { result ≡ sectioned tc }
+    ensures { result ≡ sectioned tc }
 {
     match timecodes::admit(tc) {
         Verdict::Passed => Sectioned::Sections(label_sections(tc)),
@@ -39,8 +41,8 @@ pub fn sections(tc: Timecode) -> Sectioned
 
 // The sections of the label. Asks a timecode that is admitted.
 fn label_sections(tc: Timecode) -> TimecodeSections
-    requires timecode { Valid tc }
-    ensures answer { result ≡ labelSections tc.rate tc.count }
+    requires { Valid tc }
+    ensures { result ≡ label_sections tc.rate tc.count }
 {
     let fields = labels::sections(numbers::magnitude(tc.count), tc.rate);
     TimecodeSections {
@@ -55,8 +57,8 @@ fn label_sections(tc: Timecode) -> TimecodeSections
 // The label of a timecode, laid down from `place` on (vtc's `timecode`): its length, and every byte of the line afterwards.
 // Refuses 6: no such rate; 5: a count out of its bounds; 8: place plus text length exceeds the line's length.
 pub fn write_label(tc: Timecode, line: &mut [u8], place: usize) -> Written
-    ensures answer { result ≡ answerTo line.old place (labelDraft tc) }
-    ensures line { line.new ≡ lineTo line.old place (labelDraft tc) }
+    ensures answer { result ≡ answer_to line.old place (label_draft tc) }
+    ensures line { line.new ≡ line_to line.old place (label_draft tc) }
 {
     match timecodes::admit(tc) {
         Verdict::Passed => write_sections(label_sections(tc), tc.rate, line, place),
@@ -66,8 +68,8 @@ pub fn write_label(tc: Timecode, line: &mut [u8], place: usize) -> Written
 
 // The text of sections, laid down from `place` on: its length first, one test of room, then the rest of the line is lent on.
 fn write_sections(s: TimecodeSections, rate: u64, line: &mut [u8], place: usize) -> Written
-    ensures answer { result ≡ answerTo line.old place (Text (sectionsText (framesMark rate) s)) }
-    ensures line { line.new ≡ lineTo line.old place (Text (sectionsText (framesMark rate) s)) }
+    ensures answer { result ≡ answer_to line.old place (Text (sections_text (frames_mark rate) s)) }
+    ensures line { line.new ≡ line_to line.old place (Text (sections_text (frames_mark rate) s)) }
 {
     let need = sections_length(s);
     if lent::room(line.len(), place, need) {
@@ -79,7 +81,7 @@ fn write_sections(s: TimecodeSections, rate: u64, line: &mut [u8], place: usize)
 
 // How many bytes the text of sections has.
 pub fn sections_length(s: TimecodeSections) -> usize
-    ensures answer { result ≡ sectionsLength s }
+    ensures { result ≡ sections_length s }
 {
     written::clock_length(s.negative, s.hours, s.minutes, s.seconds)
         + written::field_length(s.frames)
@@ -88,7 +90,7 @@ pub fn sections_length(s: TimecodeSections) -> usize
 // Sign and fields at the front of a part, with the mark of a rate before frames; every other byte stays. Where they have no room nothing
 // changes.
 pub fn put_sections(part: &mut [u8], s: TimecodeSections, rate: u64)
-    ensures line { part.new ≡ laid part.old (sectionsText (framesMark rate) s) }
+    ensures { part.new ≡ laid part.old (sections_text (frames_mark rate) s) }
 {
     if sections_length(s) <= part.len() {
         let at = written::clock_length(s.negative, s.hours, s.minutes, s.seconds);
@@ -99,7 +101,7 @@ pub fn put_sections(part: &mut [u8], s: TimecodeSections, rate: u64)
 
 // What stands before frames: ';' at the drop rates, else ':'.
 fn frames_mark(rate: u64) -> u8
-    ensures answer { result ≡ framesMark rate }
+    ensures { result ≡ frames_mark rate }
 {
     if rates::is_drop(rate) { b';' } else { b':' }
 }

@@ -5,12 +5,12 @@ use mathlib.Core.List.{[], ◌∷◌}
 use Prim.Native.Nat.{ℕ, ◌+◌, ◌*◌, ◌/◌, ◌%◌, ◌<◌}
 use native.Mathlib.Omega.{arith}
 use lib.Arith.{digits_div, digits_mod}
-use Rattle.labels.specs.Sections.{fieldsAt}
+use Rattle.labels.specs.Sections.{fields_at}
 
 pub fields_back :
     (timebase h m s f : ℕ) → m < 60 → s < 60 → f < timebase
-    → fieldsAt timebase ((60 * (60 * h + m) + s) * timebase + f) ≡ h ∷ m ∷ s ∷ f ∷ []
-unfolding fieldsAt
+    → fields_at timebase ((60 * (60 * h + m) + s) * timebase + f) ≡ h ∷ m ∷ s ∷ f ∷ []
+unfolding fields_at
 fields_back timebase h m s f lm ls lf =
     let q : ℕ = 60 * (60 * h + m) + s in
     let es : q % 60 ≡ s = omega arith in

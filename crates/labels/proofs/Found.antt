@@ -6,13 +6,13 @@ use native.Mathlib.Nat.{div-add-mod', mod-lt, div-lt_iff_lt-mul, mul-le-mul_righ
 use native.Mathlib.Omega.{arith}
 use Rattle.labels.specs.Label.{LabelOf}
 use Rattle.labels.specs.LabelLaws.{count-by-minutes, minute-whole}
-use Rattle.labels.specs.Sections.{fieldsAt, droppedBefore, sectionsOf}
+use Rattle.labels.specs.Sections.{fields_at, dropped_before, sections_of}
 use Rattle.labels.proofs.Earlier.{place-second, fields-in-minute, kept-place}
 
 -- place o of minute M, where it is kept, has its label
 label-there :
     (timebase D M o : ℕ) → D < timebase → o < 60 * timebase → (0 < M % 10 → D ≤ o)
-    → LabelOf timebase D ((60 * timebase - D) * M + D * (M / 10) + o) (fieldsAt timebase (M * (60 * timebase) + o))
+    → LabelOf timebase D ((60 * timebase - D) * M + D * (M / 10) + o) (fields_at timebase (M * (60 * timebase) + o))
 label-there timebase D M o d h k =
     subst (λ l. LabelOf timebase D ((60 * timebase - D) * M + D * (M / 10) + o) l) (sym (fields-in-minute timebase D M o d h))
     (record {
@@ -80,12 +80,12 @@ module _ (timebase D n : ℕ) (d : D < timebase) where
       let s : k * w + o ≡ r = omega (arith, part) in
       sym (div-add-mod' n tens) ∙ ap (λ m. t * m + r) e ∙ ap (λ m. t * (10 * w + D) + m) (sym s)
 
-  number : n + droppedBefore timebase D n ≡ (10 * t + k) * (60 * timebase) + o
-  unfolding droppedBefore
+  number : n + dropped_before timebase D n ≡ (10 * t + k) * (60 * timebase) + o
+  unfolding dropped_before
   number = number_by w D n t k o split ∙ ap (λ m. m + o) (minute-whole timebase D (omega arith) (10 * t + k))
 
-  pub found : LabelOf timebase D n (sectionsOf timebase D n)
-  unfolding sectionsOf
+  pub found : LabelOf timebase D n (sections_of timebase D n)
+  unfolding sections_of
   found =
-      subst (λ c. LabelOf timebase D c (fieldsAt timebase (n + droppedBefore timebase D n))) (count_by w D n t k o split minute)
+      subst (λ c. LabelOf timebase D c (fields_at timebase (n + dropped_before timebase D n))) (count_by w D n t k o split minute)
       (rw number (label-there timebase D (10 * t + k) o d place kept))

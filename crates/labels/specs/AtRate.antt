@@ -6,56 +6,56 @@ use Rattle.numbers.specs.Sign.{signed}
 use Rattle.answers.specs.declared.Counted.{Counted}
 use Rattle.answers.specs.declared.Counted.TheVariants.{Refused}
 use Rattle.answers.specs.Order.{unless}
-use Rattle.answers.specs.Refusals.{mostCount, beyond, noSuch, held}
-use Rattle.rates.specs.Rates.{isRate, rateRow, badRate, dropFrames}
-use Rattle.labels.specs.Label.{countIn, isShort}
-use Rattle.labels.specs.Sections.{sectionsOf}
+use Rattle.answers.specs.Refusals.{most_count, beyond, no_such, held}
+use Rattle.rates.specs.Rates.{is_rate, rate_row, bad_rate, drop_frames}
+use Rattle.labels.specs.Label.{count_in, is_short}
+use Rattle.labels.specs.Sections.{sections_of}
 
 -- the count of fields at a rate, negated for `-`
-abbrev pub labelFrames : (rate : ℕ) (minus : Bool) (fields : List ℕ) → ℤ
-labelFrames rate minus fields = signed minus (countIn (rateRow rate).timebase (dropFrames rate) fields)
+abbrev pub label_frames : (rate : ℕ) (minus : Bool) (fields : List ℕ) → ℤ
+label_frames rate minus fields = signed minus (count_in (rate_row rate).timebase (drop_frames rate) fields)
 
 -- the same without its sign, of fields of at most 9 digits; of others, whose count is no less, and where there is no such rate, a number beyond
 -- all bounds
-unfoldable pub framesOr : (rate : ℕ) (fields : List ℕ) → ℕ
-framesOr rate fields = cond (isRate rate && isShort fields) (countIn (rateRow rate).timebase (dropFrames rate) fields) beyond
+unfoldable pub frames_or : (rate : ℕ) (fields : List ℕ) → ℕ
+frames_or rate fields = cond (is_rate rate && is_short fields) (count_in (rate_row rate).timebase (drop_frames rate) fields) beyond
 
-pub framesOr-in :
-    (rate : ℕ) (fields : List ℕ) → isRate rate ≡ true → isShort fields ≡ true
-    → framesOr rate fields ≡ countIn (rateRow rate).timebase (dropFrames rate) fields
-unfolding framesOr
-framesOr-in rate fields e f = rw (e, f)
+pub frames_or-in :
+    (rate : ℕ) (fields : List ℕ) → is_rate rate ≡ true → is_short fields ≡ true
+    → frames_or rate fields ≡ count_in (rate_row rate).timebase (drop_frames rate) fields
+unfolding frames_or
+frames_or-in rate fields e f = rw (e, f)
 
-pub framesOr-unrated : (rate : ℕ) (fields : List ℕ) → isRate rate ≡ false → framesOr rate fields ≡ beyond
-unfolding framesOr
-framesOr-unrated rate fields e = rw e
+pub frames_or-unrated : (rate : ℕ) (fields : List ℕ) → is_rate rate ≡ false → frames_or rate fields ≡ beyond
+unfolding frames_or
+frames_or-unrated rate fields e = rw e
 
-pub framesOr-long : (rate : ℕ) (fields : List ℕ) → isRate rate ≡ true → isShort fields ≡ false → framesOr rate fields ≡ beyond
-unfolding framesOr
-framesOr-long rate fields e f = rw (e, f)
+pub frames_or-long : (rate : ℕ) (fields : List ℕ) → is_rate rate ≡ true → is_short fields ≡ false → frames_or rate fields ≡ beyond
+unfolding frames_or
+frames_or-long rate fields e f = rw (e, f)
 
 -- 6: no such rate; else it, held to its bounds
-unfoldable pub labelCounted : (rate : ℕ) (minus : Bool) (fields : List ℕ) → Counted
-labelCounted rate minus fields = unless Refused (badRate rate ∷ []) (held (labelFrames rate minus fields))
+unfoldable pub label_counted : (rate : ℕ) (minus : Bool) (fields : List ℕ) → Counted
+label_counted rate minus fields = unless Refused (bad_rate rate ∷ []) (held (label_frames rate minus fields))
 
-pub labelCounted-in :
-    (rate : ℕ) (minus : Bool) (fields : List ℕ) → isRate rate ≡ true
-    → labelCounted rate minus fields ≡ held (labelFrames rate minus fields)
-unfolding labelCounted
-labelCounted-in rate minus fields e = rw e
+pub label_counted-in :
+    (rate : ℕ) (minus : Bool) (fields : List ℕ) → is_rate rate ≡ true
+    → label_counted rate minus fields ≡ held (label_frames rate minus fields)
+unfolding label_counted
+label_counted-in rate minus fields e = rw e
 
-pub labelCounted-out :
-    (rate : ℕ) (minus : Bool) (fields : List ℕ) → isRate rate ≡ false → labelCounted rate minus fields ≡ Refused noSuch
-unfolding labelCounted
-labelCounted-out rate minus fields e = rw e
+pub label_counted-out :
+    (rate : ℕ) (minus : Bool) (fields : List ℕ) → is_rate rate ≡ false → label_counted rate minus fields ≡ Refused no_such
+unfolding label_counted
+label_counted-out rate minus fields e = rw e
 
 -- the fields of the label of a count within its bounds, at a rate; else four zeros
-unfoldable pub sectionsAt : (rate n : ℕ) → List ℕ
-sectionsAt rate n =
-    cond (isRate rate && leb n mostCount) (sectionsOf (rateRow rate).timebase (dropFrames rate) n) (0 ∷ 0 ∷ 0 ∷ 0 ∷ [])
+unfoldable pub sections_at : (rate n : ℕ) → List ℕ
+sections_at rate n =
+    cond (is_rate rate && leb n most_count) (sections_of (rate_row rate).timebase (drop_frames rate) n) (0 ∷ 0 ∷ 0 ∷ 0 ∷ [])
 
-pub sectionsAt-in :
-    (rate n : ℕ) → isRate rate ≡ true → n ≤ mostCount
-    → sectionsAt rate n ≡ sectionsOf (rateRow rate).timebase (dropFrames rate) n
-unfolding sectionsAt
-sectionsAt-in rate n e h = rw (e, le-leb n mostCount h)
+pub sections_at-in :
+    (rate n : ℕ) → is_rate rate ≡ true → n ≤ most_count
+    → sections_at rate n ≡ sections_of (rate_row rate).timebase (drop_frames rate) n
+unfolding sections_at
+sections_at-in rate n e h = rw (e, le-leb n most_count h)

@@ -4,11 +4,11 @@ use Rattle.std.specs.Prelude.{ℕ, List}
 use Rattle.faults.specs.declared.Field.TheVariants.{Hours, Minutes, Seconds, Frames}
 use Rattle.faults.specs.declared.Found.{Found}
 use Rattle.faults.specs.Faults.{under, leftmost}
-use Rattle.labels.specs.Label.{hoursIn, minutesIn, secondsIn, framesIn}
+use Rattle.labels.specs.Label.{hours_in, minutes_in, seconds_in, frames_in}
 
 -- hours under 24, minutes and seconds under 60, frames under the timebase, from the left
-unfoldable pub strictFault : (timebase : ℕ) (fields : List ℕ) → Found
-strictFault timebase fields =
-    leftmost (under Hours 24 (hoursIn fields))
-    (leftmost (under Minutes 60 (minutesIn fields))
-    (leftmost (under Seconds 60 (secondsIn fields)) (under Frames timebase (framesIn fields))))
+unfoldable pub strict_fault : (timebase : ℕ) (fields : List ℕ) → Found
+strict_fault timebase fields =
+    leftmost (under Hours 24 (hours_in fields))
+    (leftmost (under Minutes 60 (minutes_in fields))
+    (leftmost (under Seconds 60 (seconds_in fields)) (under Frames timebase (frames_in fields))))

@@ -8,35 +8,35 @@ use Prim.Native.Nat.{ℕ, zero, suc, ◌+◌, ◌*◌, ◌-◌, ◌/◌, ◌%◌
 use Rattle.std.proofs.Math.Nat.{mul-sub, mul-le-mul_left}
 use native.Mathlib.Omega.{arith}
 use borrow.Author.Tests.{lt-ltb, le-ltb, eq-eqb, ne_eqb, ltb-true, ltb-false}
-use Rattle.labels.specs.Label.{labelCount, isDropped}
+use Rattle.labels.specs.Label.{label_count, is_dropped}
 
 module _ (D minutes seconds frames : ℕ) where
   -- none is dropped in a minute that is a multiple of 10, after second 0, from frame D on
-  pub kept-tenth : minutes % 10 ≡ 0 → isDropped D minutes seconds frames ≡ false
-  unfolding isDropped
+  pub kept-tenth : minutes % 10 ≡ 0 → is_dropped D minutes seconds frames ≡ false
+  unfolding is_dropped
   kept-tenth e = rw (eq-eqb (minutes % 10) 0 e) (rw (and-false (ltb frames D)) (and-false (eqb seconds 0)))
 
-  pub kept_second : 0 < seconds → isDropped D minutes seconds frames ≡ false
-  unfolding isDropped
+  pub kept_second : 0 < seconds → is_dropped D minutes seconds frames ≡ false
+  unfolding is_dropped
   kept_second h = rw (ne_eqb seconds 0 (λ z. omega (arith, z))) refl
 
-  pub kept_frame : D ≤ frames → isDropped D minutes seconds frames ≡ false
-  unfolding isDropped
+  pub kept_frame : D ≤ frames → is_dropped D minutes seconds frames ≡ false
+  unfolding is_dropped
   kept_frame h = rw (le-ltb frames D h) (and-false (eqb seconds 0))
 
   -- all others are
-  pub all-dropped : 0 < minutes % 10 → seconds ≡ 0 → frames < D → isDropped D minutes seconds frames ≡ true
-  unfolding isDropped
+  pub all-dropped : 0 < minutes % 10 → seconds ≡ 0 → frames < D → is_dropped D minutes seconds frames ≡ true
+  unfolding is_dropped
   all-dropped h e l = rw (ne_eqb (minutes % 10) 0 (λ z. omega (arith, z)), eq-eqb seconds 0 e, lt-ltb frames D l) refl
 
 -- where D is 0 none is
-pub none_dropped : (minutes seconds frames : ℕ) → isDropped 0 minutes seconds frames ≡ false
+pub none_dropped : (minutes seconds frames : ℕ) → is_dropped 0 minutes seconds frames ≡ false
 none_dropped minutes seconds frames = kept_frame 0 minutes seconds frames (omega arith)
 
 -- a label that is kept, in a minute that is no multiple of 10, is D frames or more past the minute's start
 pub kept-past :
     (timebase D minutes seconds frames : ℕ) → D ≤ timebase
-    → isDropped D minutes seconds frames ≡ false → 0 < minutes % 10 → D ≤ seconds * timebase + frames
+    → is_dropped D minutes seconds frames ≡ false → 0 < minutes % 10 → D ≤ seconds * timebase + frames
 kept-past timebase D minutes zero frames d k h = by (ltb frames D) refl
   where
     by : (b : Bool) → ltb frames D ≡ b → D ≤ zero * timebase + frames
@@ -67,9 +67,9 @@ module _ (timebase D : ℕ) (d : D ≤ timebase) where
 
     -- each minute counts 60 x timebase - D, each tenth one D more
     pub count-by-minutes :
-        labelCount timebase D hours minutes seconds frames
+        label_count timebase D hours minutes seconds frames
         ≡ (60 * timebase - D) * (60 * hours + minutes) + D * ((60 * hours + minutes) / 10) + (seconds * timebase + frames)
-    unfolding labelCount
+    unfolding label_count
     count-by-minutes =
         let M : ℕ = 60 * hours + minutes in
         let l : M / 10 ≤ M = omega arith in

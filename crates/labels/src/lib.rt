@@ -1,19 +1,21 @@
 // Labels and counts: the count of a label's four fields, whether it is dropped, and the fields of the label of a count.
 // A label's fields are an array of hours, minutes, seconds and frames; d labels are dropped in each minute but each tenth.
 // Refused 6: no such rate; 5: a count outside its bounds.
+#![tactic(auto)]
+
 ghost use Rattle.std.specs.Prelude.{◌≡◌, ◌≤◌, ◌<◌};
-ghost use Rattle.answers.specs.Refusals.{mostCount};
-ghost use Rattle.labels.specs.Label.{countIn, droppedIn, isShort, Short};
-ghost use Rattle.labels.specs.Sections.{fieldsAt, droppedBefore, sectionsOf};
-ghost use Rattle.labels.specs.AtRate.{framesOr, labelCounted, sectionsAt};
-ghost use Rattle.labels.specs.Faults.{strictFault};
+ghost use Rattle.answers.specs.Refusals.{most_count};
+ghost use Rattle.labels.specs.Label.{count_in, dropped_in, is_short, Short};
+ghost use Rattle.labels.specs.Sections.{fields_at, dropped_before, sections_of};
+ghost use Rattle.labels.specs.AtRate.{frames_or, label_counted, sections_at};
+ghost use Rattle.labels.specs.Faults.{strict_fault};
 
 use answers::Counted;
 use faults::{Field, Found};
 
 // The count of a label's fields at a rate, with this sign. Refuses 6: no such rate; 5: it is outside its bounds.
 pub fn label_count(fields: [u64; 4], rate: u64, minus: bool) -> Counted
-    ensures answer { result ≡ labelCounted rate minus fields }
+    ensures { result ≡ label_counted rate minus fields }
 {
     if !rates::is_rate(rate) {
         return Counted::Refused(answers::NO_SUCH);
@@ -24,7 +26,7 @@ pub fn label_count(fields: [u64; 4], rate: u64, minus: bool) -> Counted
 // The exact count of a label's fields at a rate, where each has at most 9 digits; a number beyond all bounds for others, whose count is no
 // less, and where there is no such rate.
 pub fn label_frames(fields: [u64; 4], rate: u64) -> u64
-    ensures answer { result ≡ framesOr rate fields }
+    ensures { result ≡ frames_or rate fields }
 {
     if !rates::is_rate(rate) {
         return answers::BEYOND;
@@ -39,7 +41,7 @@ pub fn label_frames(fields: [u64; 4], rate: u64) -> u64
 
 // Whether each field has at most 9 digits.
 fn is_short(fields: [u64; 4]) -> bool
-    ensures answer { result ≡ isShort fields }
+    ensures { result ≡ is_short fields }
 {
     if fields[0] >= answers::BEYOND {
         return false;
@@ -57,7 +59,7 @@ fn is_short(fields: [u64; 4]) -> bool
 fn count_in(fields: [u64; 4], timebase: u64, d: u64) -> u64
     requires fields { Short fields }
     requires rate { (timebase ≤ 60) × (d < timebase) }
-    ensures answer { result ≡ countIn timebase d fields }
+    ensures { result ≡ count_in timebase d fields }
 {
     let m = 60 * fields[0] + fields[1];
     (60 * m + fields[2]) * timebase + fields[3] - d * (m - m / 10)
@@ -65,7 +67,7 @@ fn count_in(fields: [u64; 4], timebase: u64, d: u64) -> u64
 
 // Whether a label's fields are those of a dropped label.
 pub fn is_dropped(fields: [u64; 4], d: u64) -> bool
-    ensures answer { result ≡ droppedIn d fields }
+    ensures { result ≡ dropped_in d fields }
 {
     if fields[2] != 0 {
         return false;
@@ -79,7 +81,7 @@ pub fn is_dropped(fields: [u64; 4], d: u64) -> bool
 // The first field from the left that a strict label of the day does not have: hours under 24, minutes and seconds under 60, frames under
 // the timebase.
 pub fn strict_fault(fields: [u64; 4], timebase: u64) -> Found
-    ensures answer { result ≡ strictFault timebase fields }
+    ensures { result ≡ strict_fault timebase fields }
 {
     let hours = faults::under(Field::Hours, 24, fields[0]);
     let minutes = faults::under(Field::Minutes, 60, fields[1]);
@@ -93,7 +95,7 @@ pub fn strict_fault(fields: [u64; 4], timebase: u64) -> Found
 
 // The fields of the one allowed label whose count is n, at a rate (vtc's `sections`); zeros where there is no such rate or count.
 pub fn sections(n: u64, rate: u64) -> [u64; 4]
-    ensures answer { result ≡ sectionsAt rate n }
+    ensures { result ≡ sections_at rate n }
 {
     if !rates::is_rate(rate) {
         return [0; 4];
@@ -108,9 +110,9 @@ pub fn sections(n: u64, rate: u64) -> [u64; 4]
 
 // The fields of the label of a count. Asks a count within its bounds, a timebase up to 60, and d below it.
 fn sections_of(n: u64, timebase: u64, d: u64) -> [u64; 4]
-    requires count { n ≤ mostCount }
+    requires count { n ≤ most_count }
     requires rate { (timebase ≤ 60) × (d < timebase) }
-    ensures answer { result ≡ sectionsOf timebase d n }
+    ensures { result ≡ sections_of timebase d n }
 {
     let number = n + drop_frame_adjustment(n, timebase, d);
     fields_at(number, timebase)
@@ -118,9 +120,9 @@ fn sections_of(n: u64, timebase: u64, d: u64) -> [u64; 4]
 
 // How many labels are dropped before the one with the count n. It divides before it multiplies.
 fn drop_frame_adjustment(n: u64, timebase: u64, d: u64) -> u64
-    requires count { n ≤ mostCount }
+    requires count { n ≤ most_count }
     requires rate { (timebase ≤ 60) × (d < timebase) }
-    ensures answer { result ≡ droppedBefore timebase d n }
+    ensures { result ≡ dropped_before timebase d n }
 {
     let tens = 600 * timebase - 9 * d;
     let t = n / tens;
@@ -133,8 +135,8 @@ fn drop_frame_adjustment(n: u64, timebase: u64, d: u64) -> u64
 
 // The fields of the label with a number, dropped labels numbered too.
 fn fields_at(number: u64, timebase: u64) -> [u64; 4]
-    requires rate { 0 < timebase }
-    ensures answer { result ≡ fieldsAt timebase number }
+    requires { 0 < timebase }
+    ensures { result ≡ fields_at timebase number }
 {
     let s = number / timebase;
     let m = s / 60;

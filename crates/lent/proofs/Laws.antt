@@ -12,7 +12,7 @@ use lib.Dec.{leb}
 use lib.Seq.{take_all, drop-drop, take_at, drop_at, take-suc-set, drop-set-lt, length-take-le}
 use borrow.Author.Tests.{le-leb, lt-leb, leb-true, leb-false}
 use borrow.Rule.Slice.PartMut.{put_mid, mid_of}
-use Rattle.lent.specs.Line.{front, laid, splice, hasRoom, fits, lineAfter}
+use Rattle.lent.specs.Line.{front, laid, splice, has_room, fits, line_after}
 
 -- ---- a text at the front
 -- no text changes nothing
@@ -141,23 +141,23 @@ laid-three l m last last₂ t u v b d h p q e r f =
 
 -- ---- room
 -- the test that cannot wrap is the test on the sum
-room_by : (total place need : ℕ) (t : Bool) → leb need (total - place) ≡ t → place ≤ total → t ≡ hasRoom total place need
+room_by : (total place need : ℕ) (t : Bool) → leb need (total - place) ≡ t → place ≤ total → t ≡ has_room total place need
 room_by total place need true e h = sym (le-leb (place + need) total (omega (arith, leb-true need (total - place) e)))
 room_by total place need false e h = sym (lt-leb (place + need) total (omega (arith, leb-false need (total - place) e)))
 
-pub room_within : (total place need : ℕ) → place ≤ total → leb need (total - place) ≡ hasRoom total place need
+pub room_within : (total place need : ℕ) → place ≤ total → leb need (total - place) ≡ has_room total place need
 room_within total place need h = room_by total place need (leb need (total - place)) refl h
 
-pub room-past : (total place need : ℕ) → total < place → false ≡ hasRoom total place need
+pub room-past : (total place need : ℕ) → total < place → false ≡ has_room total place need
 room-past total place need h = sym (lt-leb (place + need) total (omega arith))
 
 module _ (line : List ℕ) (place : ℕ) (text : List ℕ) where
   -- from what `room` answered for a text of `need` bytes
-  pub fits-yes : (need : ℕ) (r : Bool) → need ≡ length text → r ≡ hasRoom (length line) place need → r ≡ true
+  pub fits-yes : (need : ℕ) (r : Bool) → need ≡ length text → r ≡ has_room (length line) place need → r ≡ true
       → place + length text ≤ length line
   fits-yes need r e f g = omega (arith, leb-true (place + need) (length line) (sym f ∙ g))
 
-  pub fits-no : (need : ℕ) (r : Bool) → need ≡ length text → r ≡ hasRoom (length line) place need → r ≡ false
+  pub fits-no : (need : ℕ) (r : Bool) → need ≡ length text → r ≡ has_room (length line) place need → r ≡ false
       → length line < place + length text
   fits-no need r e f g = omega (arith, leb-false (place + need) (length line) (sym f ∙ g))
 
@@ -165,13 +165,13 @@ module _ (line : List ℕ) (place : ℕ) (text : List ℕ) where
   pub fits-true : place + length text ≤ length line → fits line place text ≡ true
   fits-true h = le-leb (place + length text) (length line) h
 
-  pub line-laid : place + length text ≤ length line → lineAfter line place text ≡ splice line place text
-  unfolding lineAfter
+  pub line-laid : place + length text ≤ length line → line_after line place text ≡ splice line place text
+  unfolding line_after
   line-laid h = rw (fits-true h)
 
   -- the line after its rest from `place` on was lent, and came back as `last` with the text laid down at its front
   pub line-lent : (last : List ℕ) → place + length text ≤ length line → last ≡ laid (mid_of place (length line - place) line) text
-      → put_mid place (length line - place) line last ≡ lineAfter line place text
+      → put_mid place (length line - place) line last ≡ line_after line place text
   line-lent last h e =
       let part = mid_of place (length line - place) line in
       let f = e ∙ laid_in part text (omega (arith, part_length line place)) in
@@ -181,6 +181,6 @@ module _ (line : List ℕ) (place : ℕ) (text : List ℕ) where
   pub fits-false : length line < place + length text → fits line place text ≡ false
   fits-false h = lt-leb (place + length text) (length line) h
 
-  pub line_kept : length line < place + length text → lineAfter line place text ≡ line
-  unfolding lineAfter
+  pub line_kept : length line < place + length text → line_after line place text ≡ line
+  unfolding line_after
   line_kept h = rw (fits-false h)

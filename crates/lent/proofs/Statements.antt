@@ -10,13 +10,13 @@ use native.Mathlib.Nat.{zero-add}
 use lib.ListN.{length, take, drop, get_or, get_or-append}
 use lib.Seq.{get_or-take, get_or-drop, get_or-append-add, length-take-le}
 use borrow.Author.Tests.{leb-true}
-use Rattle.lent.specs.Line.{laid, splice, fits, lineAfter}
+use Rattle.lent.specs.Line.{laid, splice, fits, line_after}
 use Rattle.lent.specs.Statements.{LaidIs, SameLength, TextThere, OthersStay}
 use Rattle.lent.proofs.Laws.{front-is, splice-length, line-laid}
 
-pub laid-is : LaidIs
-unfolding laid lineAfter
-laid-is l text = rw (front-is l text, zero-add (length text))
+pub laid_is : LaidIs
+unfolding laid line_after
+laid_is l text = rw (front-is l text, zero-add (length text))
 
 module _ (line : List ℕ) (place : ℕ) (text : List ℕ) where
   length-by : (t : Bool) → fits line place text ≡ t → length (cond t (splice line place text) line) ≡ length line
@@ -44,11 +44,11 @@ module _ (line : List ℕ) (place : ℕ) (text : List ℕ) where
         ∙ get_or-take place line i 0 k
 
 pub same_length : SameLength
-unfolding lineAfter
+unfolding line_after
 same_length line place text = length-by line place text (fits line place text) refl
 
-pub text-there : TextThere
-text-there line place text i h k =
+pub text_there : TextThere
+text_there line place text i h k =
     ap (λ (l : List ℕ). get_or l (place + i) 0) (line-laid line place text h) ∙ there line place text h i k
 
 past : (line : List ℕ) (place : ℕ) (text : List ℕ) (h : place + length text ≤ length line) (i : ℕ) → place + length text ≤ i
@@ -71,6 +71,6 @@ others_by line place text i true e o =
     ⊎_elim (before line place text h i) (past line place text h i) o
 others_by line place text i false e o = refl
 
-pub others-stay : OthersStay
-unfolding lineAfter
-others-stay line place text i o = others_by line place text i (fits line place text) refl o
+pub others_stay : OthersStay
+unfolding line_after
+others_stay line place text i o = others_by line place text i (fits line place text) refl o

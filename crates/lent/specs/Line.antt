@@ -15,13 +15,13 @@ unfoldable pub splice : (l : List ℕ) (at : ℕ) (text : List ℕ) → List ℕ
 splice l at text = take at l ++ (text ++ drop (at + length text) l)
 
 -- `need` bytes from `place` on lie within a line of `total` bytes; the sum is that of unbounded numbers
-abbrev pub hasRoom : (total place need : ℕ) → Bool
-hasRoom total place need = leb (place + need) total
+abbrev pub has_room : (total place need : ℕ) → Bool
+has_room total place need = leb (place + need) total
 
 -- place plus text length does not exceed the line's length (where it does: refusal 8)
 abbrev pub fits : (line : List ℕ) (place : ℕ) (text : List ℕ) → Bool
-fits line place text = hasRoom (length line) place (length text)
+fits line place text = has_room (length line) place (length text)
 
 -- every text is laid down from a stated place inside the caller's line; a refusal changes no lent byte
-unfoldable pub lineAfter : (line : List ℕ) (place : ℕ) (text : List ℕ) → List ℕ
-lineAfter line place text = cond (fits line place text) (splice line place text) line
+unfoldable pub line_after : (line : List ℕ) (place : ℕ) (text : List ℕ) → List ℕ
+line_after line place text = cond (fits line place text) (splice line place text) line

@@ -1,11 +1,13 @@
 // Text laid into a lent line: a byte or a text at the front of a part, and whether a text has room. Refuses nothing itself: what has no
 // room changes nothing.
+#![tactic(auto)]
+
 ghost use Rattle.std.specs.Prelude.{◌≡◌, ◌∷◌, []};
-ghost use Rattle.lent.specs.Line.{laid, hasRoom};
+ghost use Rattle.lent.specs.Line.{laid, has_room};
 
 // One byte at the front of a part; every other byte stays. In a part of no bytes nothing changes.
 pub fn put_byte(part: &mut [u8], b: u8)
-    ensures line { part.new ≡ laid part.old (b ∷ []) }
+    ensures { part.new ≡ laid part.old (b ∷ []) }
 {
     if 0 < part.len() {
         part[0] = b;
@@ -14,7 +16,7 @@ pub fn put_byte(part: &mut [u8], b: u8)
 
 // A text at the front of a part, copied byte by byte; every other byte stays. Where it has no room nothing changes.
 pub fn put_text(part: &mut [u8], text: &[u8])
-    ensures line { part.new ≡ laid part.old text.now }
+    ensures { part.new ≡ laid part.old text.now }
 {
     if part.len() < text.len() {
         return;
@@ -28,7 +30,7 @@ pub fn put_text(part: &mut [u8], text: &[u8])
 
 // Do `need` bytes from `place` on lie within a line of `total` bytes? No place, however large, wraps.
 pub fn room(total: usize, place: usize, need: usize) -> bool
-    ensures answer { result ≡ hasRoom total place need }
+    ensures { result ≡ has_room total place need }
 {
     if total < place {
         return false;

@@ -1,7 +1,9 @@
 // The line program: reads lines, two digits of rate, a space and a text, and writes for each its count, label and ticks, or why it is refused.
 // All that it decides is feeding's, for input of any size and any chunks; here are the buffers, the reads and the writes.
+#![tactic(auto)]
+
 ghost use Rattle.std.specs.Prelude.{◌≡◌, ◌*◌, ◌≤◌, length};
-ghost use Rattle.feeding.specs.Feeding.{fedOf};
+ghost use Rattle.feeding.specs.Feeding.{fed_of};
 
 use streams::Gathered;
 
@@ -17,9 +19,9 @@ fn write_sheet(out: &[u8], used: usize) {
 fn pour(chunk: &[u8], buffer: &mut [u8], out: &mut [u8], g: Gathered) -> Gathered
     requires line { 65 ≤ length buffer.old }
     requires sheet { 47 * length chunk.now ≤ length out.old }
-    ensures whole { (fedOf buffer.old out.old g chunk.now).eaten ≡ length chunk.now }
-    ensures gathered { result ≡ (fedOf buffer.old out.old g chunk.now).machine.gathered }
-    ensures buffer { buffer.new ≡ (fedOf buffer.old out.old g chunk.now).machine.buffer }
+    ensures whole { (fed_of buffer.old out.old g chunk.now).eaten ≡ length chunk.now }
+    ensures gathered { result ≡ (fed_of buffer.old out.old g chunk.now).machine.gathered }
+    ensures buffer { buffer.new ≡ (fed_of buffer.old out.old g chunk.now).machine.buffer }
 {
     let fed = feeding::feed(chunk, buffer, out, g);
     write_sheet(out, fed.used);
@@ -85,7 +87,7 @@ fn run(buffer: &mut [u8], out: &mut [u8])
 
 // A sheet for the answers to a chunk.
 fn sheet() -> [u8; 192512]
-    ensures long { 192512 ≡ length result }
+    ensures { 192512 ≡ length result }
 {
     [0u8; 192512]
 }

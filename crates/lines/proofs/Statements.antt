@@ -6,8 +6,8 @@ use mathlib.Core.Bool.{Bool, false}
 use native.Mathlib.Omega.{arith}
 use lib.IntN.{nat_abs}
 use lib.ListN.{length}
-use Rattle.numbers.specs.Sign.{isNeg}
-use Rattle.digits.specs.Digits.{digitsOf, width_by, width, decimal}
+use Rattle.numbers.specs.Sign.{is_neg}
+use Rattle.digits.specs.Digits.{digits_of, width_by, width, decimal}
 use Rattle.digits.proofs.Width.{width-at-most}
 use Rattle.answers.specs.declared.Refusal.{Refusal}
 use Rattle.timecodes.specs.declared.Timecode.{Timecode}
@@ -16,54 +16,54 @@ use Rattle.timecodes.specs.declared.Answer.TheVariants.{At, Refused}
 use Rattle.timecodes.specs.Admitted.{Valid}
 use Rattle.timecodes.specs.AdmittedLaws.{valid-count-le, valid-count}
 use Rattle.timecodes.specs.Instant.{instant}
-use Rattle.timecodes.specs.InstantLaws.{instant-abs-le, instantIn-valid}
-use Rattle.written.specs.Parts.{signedText}
+use Rattle.timecodes.specs.InstantLaws.{instant-abs-le, instant_in-valid}
+use Rattle.written.specs.Parts.{signed_text}
 use Rattle.written.proofs.Parts.{sign-most, padded-length}
-use Rattle.label_writer.specs.Sections.{labelSections}
-use Rattle.label_writer.specs.LabelText.{framesMark, labelText}
+use Rattle.label_writer.specs.Sections.{label_sections}
+use Rattle.label_writer.specs.LabelText.{frames_mark, label_text}
 use Rattle.label_writer.proofs.Answers.{sections-same}
-use Rattle.label_writer.proofs.Statements.{label-bounds}
+use Rattle.label_writer.proofs.Statements.{label_bounds}
 use Rattle.lines.specs.Input.{line_of}
-use Rattle.lines.specs.Output.{timecodeText, refusedText, heldText, answerText, columnsOf}
+use Rattle.lines.specs.Output.{timecode_text, refused_text, held_text, answer_text, columns_of}
 use Rattle.lines.specs.Statements.{ReadAtRate, NotBegun, ShortAnswer}
 use Rattle.lines.proofs.Begun.{not_line, made-read}
 use Rattle.lines.proofs.Texts.{columns-length, refused-length, sections-there, columns-are}
 use Rattle.lines.proofs.Held.{Sound, line-sound}
 
-pub read-at-rate : ReadAtRate
-read-at-rate = made-read
+pub read_at_rate : ReadAtRate
+read_at_rate = made-read
 
-pub not-begun : NotBegun
-unfolding answerText refusedText decimal digitsOf width width_by
-not-begun line e = ap heldText (not_line line e)
+pub not_begun : NotBegun
+unfolding answer_text refused_text decimal digits_of width width_by
+not_begun line e = ap held_text (not_line line e)
 
 -- a sign, and no more digits than are enough
-signed-most : (minus : Bool) (m k : ℕ) → 0 < k → m < 10 ^ k → length (signedText minus m) ≤ k + 1
+signed-most : (minus : Bool) (m k : ℕ) → 0 < k → m < 10 ^ k → length (signed_text minus m) ≤ k + 1
 signed-most minus m k p h = omega (arith, padded-length minus 1 m, sign-most minus, width-at-most m k p h)
 
 -- 10 bytes of count, 14 of label, 20 of ticks, two spaces and a newline
-timecode-short : (tc : Timecode) → Valid tc → length (timecodeText tc) ≤ 47
-unfolding labelText
+timecode-short : (tc : Timecode) → Valid tc → length (timecode_text tc) ≤ 47
+unfolding label_text
 timecode-short tc v =
-    let s = labelSections tc.rate tc.count in
+    let s = label_sections tc.rate tc.count in
     omega (
       arith,
       ap length (columns-are tc v s (sections-there tc v)),
-      columns-length (columnsOf tc s),
-      signed-most (isNeg tc.count) (nat_abs tc.count) 9 (omega arith) (omega (arith, valid-count-le tc v)),
-      sections-same (framesMark tc.rate) s,
-      label-bounds tc.rate tc.count v.rate (valid-count tc v),
-      ap (λ z. length (signedText (isNeg z) (nat_abs z))) (instantIn-valid tc v),
-      signed-most (isNeg (instant tc)) (nat_abs (instant tc)) 19 (omega arith) (omega (arith, instant-abs-le tc v)),
+      columns-length (columns_of tc s),
+      signed-most (is_neg tc.count) (nat_abs tc.count) 9 (omega arith) (omega (arith, valid-count-le tc v)),
+      sections-same (frames_mark tc.rate) s,
+      label_bounds tc.rate tc.count v.rate (valid-count tc v),
+      ap (λ z. length (signed_text (is_neg z) (nat_abs z))) (instant_in-valid tc v),
+      signed-most (is_neg (instant tc)) (nat_abs (instant tc)) 19 (omega arith) (omega (arith, instant-abs-le tc v)),
     )
 
-refused-short : (e : Refusal) → e.number < 100 → length (refusedText e.number) ≤ 47
+refused-short : (e : Refusal) → e.number < 100 → length (refused_text e.number) ≤ 47
 refused-short e h = omega (arith, refused-length e.number, padded-length false 1 e.number, width-at-most e.number 2 (omega arith) (omega arith))
 
-held-short : (held : Answer) → Sound held → length (heldText held) ≤ 47
+held-short : (held : Answer) → Sound held → length (held_text held) ≤ 47
 held-short (At tc) v = timecode-short tc v
 held-short (Refused e) h = refused-short e h
 
-pub short-answer : ShortAnswer
-unfolding answerText
-short-answer line = held-short (line_of line) (line-sound line)
+pub short_answer : ShortAnswer
+unfolding answer_text
+short_answer line = held-short (line_of line) (line-sound line)

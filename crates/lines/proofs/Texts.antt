@@ -11,41 +11,41 @@ use Rattle.answers.specs.OrderLaws.{unless-clear}
 use Rattle.timecodes.specs.declared.Timecode.{Timecode}
 use Rattle.timecodes.specs.Admitted.{Valid, admits}
 use Rattle.timecodes.specs.AdmittedLaws.{valid-admits}
-use Rattle.timecodes.specs.InstantLaws.{instantIn-valid}
+use Rattle.timecodes.specs.InstantLaws.{instant_in-valid}
 use Rattle.label_writer.specs.declared.TimecodeSections.{TimecodeSections}
 use Rattle.label_writer.specs.declared.Sectioned.TheVariants.{Sections, Refused}
-use Rattle.label_writer.specs.Sections.{labelSections, sectioned}
-use Rattle.label_writer.specs.LabelText.{framesMark, sectionsText, sectionsLength, labelText}
+use Rattle.label_writer.specs.Sections.{label_sections, sectioned}
+use Rattle.label_writer.specs.LabelText.{frames_mark, sections_text, sections_length, label_text}
 use Rattle.label_writer.proofs.Answers.{sections-same}
-use Rattle.written.specs.Parts.{signedText}
+use Rattle.written.specs.Parts.{signed_text}
 use Rattle.lines.specs.declared.Columns.{Columns}
-use Rattle.lines.specs.Output.{bytes_of, timecodeText, refusedText, endedText, labelColumn, columnsOf, columnsText}
+use Rattle.lines.specs.Output.{bytes_of, timecode_text, refused_text, ended_text, label_column, columns_of, columns_text}
 
 -- ---- lengths
-pub ended-length : (minus : Bool) (m end : ℕ) → length (endedText minus m end) ≡ length (signedText minus m) + 1
-ended-length minus m end = length-append (signedText minus m) (end ∷ [])
+pub ended-length : (minus : Bool) (m end : ℕ) → length (ended_text minus m end) ≡ length (signed_text minus m) + 1
+ended-length minus m end = length-append (signed_text minus m) (end ∷ [])
 
-pub label-length : (c : Columns) → length (labelColumn c) ≡ sectionsLength c.sections + 1
-label-length c =
-    let text = sectionsText (framesMark c.rate) c.sections in
-    omega (arith, length-append text (32 ∷ []), sections-same (framesMark c.rate) c.sections)
+pub label_length : (c : Columns) → length (label_column c) ≡ sections_length c.sections + 1
+label_length c =
+    let text = sections_text (frames_mark c.rate) c.sections in
+    omega (arith, length-append text (32 ∷ []), sections-same (frames_mark c.rate) c.sections)
 
 pub columns-length : (c : Columns)
-    → length (columnsText c)
-    ≡ length (signedText c.below c.count) + sectionsLength c.sections + length (signedText c.minus c.ticks) + 3
+    → length (columns_text c)
+    ≡ length (signed_text c.below c.count) + sections_length c.sections + length (signed_text c.minus c.ticks) + 3
 columns-length c =
     omega (
       arith,
-      length-append (endedText c.below c.count 32) (labelColumn c ++ endedText c.minus c.ticks 10),
-      length-append (labelColumn c) (endedText c.minus c.ticks 10),
+      length-append (ended_text c.below c.count 32) (label_column c ++ ended_text c.minus c.ticks 10),
+      length-append (label_column c) (ended_text c.minus c.ticks 10),
       ended-length c.below c.count 32,
-      label-length c,
+      label_length c,
       ended-length c.minus c.ticks 10,
     )
 
-pub refused-length : (number : ℕ) → length (refusedText number) ≡ length (signedText false number) + 9
-unfolding refusedText
-refused-length number = omega (arith, length-append (bytes_of "refused ") (endedText false number 10), ended-length false number 10)
+pub refused-length : (number : ℕ) → length (refused_text number) ≡ length (signed_text false number) + 9
+unfolding refused_text
+refused-length number = omega (arith, length-append (bytes_of "refused ") (ended_text false number 10), ended-length false number 10)
 
 -- sections are no refusal
 sections-apart : (s : TimecodeSections) (e : Refusal) → Sections s ≡ Refused e → ⊥
@@ -54,18 +54,18 @@ sections-apart s e h = let clash : ◌≡◌ {A = ℕ} 0 1 = cc in omega arith
 -- ---- a timecode that is admitted
 module _ (tc : Timecode) (v : Valid tc) where
   -- its label has sections
-  pub sections-there : sectioned tc ≡ Sections (labelSections tc.rate tc.count)
+  pub sections-there : sectioned tc ≡ Sections (label_sections tc.rate tc.count)
   unfolding sectioned
-  sections-there = unless-clear Refused (admits tc) (Sections (labelSections tc.rate tc.count)) (valid-admits tc v)
+  sections-there = unless-clear Refused (admits tc) (Sections (label_sections tc.rate tc.count)) (valid-admits tc v)
 
   -- so they are never refused
   pub sections-never : (e : Refusal) → sectioned tc ≡ Refused e → ⊥
-  sections-never e none = sections-apart (labelSections tc.rate tc.count) e (sym sections-there ∙ none)
+  sections-never e none = sections-apart (label_sections tc.rate tc.count) e (sym sections-there ∙ none)
 
   -- and the columns with them are its text
-  pub columns-are : (s : TimecodeSections) → sectioned tc ≡ Sections s → columnsText (columnsOf tc s) ≡ timecodeText tc
-  unfolding timecodeText labelText
+  pub columns-are : (s : TimecodeSections) → sectioned tc ≡ Sections s → columns_text (columns_of tc s) ≡ timecode_text tc
+  unfolding timecode_text label_text
   columns-are s e =
       let there = sections-there in
-      let same : s ≡ labelSections tc.rate tc.count = cc in
-      rw (same, instantIn-valid tc v) (simp append_assoc)
+      let same : s ≡ label_sections tc.rate tc.count = cc in
+      rw (same, instant_in-valid tc v) (simp append_assoc)

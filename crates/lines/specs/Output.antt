@@ -3,14 +3,14 @@
 use Rattle.std.specs.Prelude.{ℕ, List, [], ◌∷◌, ◌++◌, Bool, false, ℤ, nat_abs}
 use Prim.Native.String.{String}
 use Prim.Native.Char.{code}
-use Rattle.numbers.specs.Sign.{isNeg}
+use Rattle.numbers.specs.Sign.{is_neg}
 use Rattle.timecodes.specs.declared.Timecode.{Timecode}
 use Rattle.timecodes.specs.declared.Answer.{Answer}
 use Rattle.timecodes.specs.declared.Answer.TheVariants.{At, Refused}
-use Rattle.timecodes.specs.Instant.{instant, instantIn}
+use Rattle.timecodes.specs.Instant.{instant, instant_in}
 use Rattle.label_writer.specs.declared.TimecodeSections.{TimecodeSections}
-use Rattle.label_writer.specs.LabelText.{framesMark, sectionsText, labelText}
-use Rattle.written.specs.Parts.{signedText}
+use Rattle.label_writer.specs.LabelText.{frames_mark, sections_text, label_text}
+use Rattle.written.specs.Parts.{signed_text}
 use Rattle.lines.specs.declared.Columns.{Columns}
 use Rattle.lines.specs.Input.{line_of}
 
@@ -20,49 +20,49 @@ bytes_of String.[] = []
 bytes_of (String.◌∷◌ c s) = code c ∷ bytes_of s
 
 -- a whole number unpadded, `-` in front if it is below 0
-abbrev pub integerText : ℤ → List ℕ
-integerText z = signedText (isNeg z) (nat_abs z)
+abbrev pub integer_text : ℤ → List ℕ
+integer_text z = signed_text (is_neg z) (nat_abs z)
 
 -- the count, the label, the ticks; the middle column is the label, for a footage too; every line written ends in a newline
-unfoldable pub timecodeText : Timecode → List ℕ
-timecodeText tc =
-    integerText tc.count
-    ++ (32 ∷ labelText tc.rate tc.count
-    ++ (32 ∷ integerText (instant tc)
+unfoldable pub timecode_text : Timecode → List ℕ
+timecode_text tc =
+    integer_text tc.count
+    ++ (32 ∷ label_text tc.rate tc.count
+    ++ (32 ∷ integer_text (instant tc)
     ++ (10 ∷ [])))
 
 -- `refused` and the number
-unfoldable pub refusedText : (number : ℕ) → List ℕ
-refusedText number = bytes_of "refused " ++ (signedText false number ++ (10 ∷ []))
+unfoldable pub refused_text : (number : ℕ) → List ℕ
+refused_text number = bytes_of "refused " ++ (signed_text false number ++ (10 ∷ []))
 
-abbrev pub heldText : Answer → List ℕ
-heldText (At tc) = timecodeText tc
-heldText (Refused e) = refusedText e.number
+abbrev pub held_text : Answer → List ℕ
+held_text (At tc) = timecode_text tc
+held_text (Refused e) = refused_text e.number
 
 -- a line of output for a line of input
-unfoldable pub answerText : (line : List ℕ) → List ℕ
-answerText line = heldText (line_of line)
+unfoldable pub answer_text : (line : List ℕ) → List ℕ
+answer_text line = held_text (line_of line)
 
 -- ---- the same, column by column, as it is laid down
 -- the columns of a timecode and the sections of its label
-abbrev pub columnsOf : Timecode → TimecodeSections → Columns
-columnsOf tc s =
+abbrev pub columns_of : Timecode → TimecodeSections → Columns
+columns_of tc s =
     record {
-      below = isNeg tc.count;
+      below = is_neg tc.count;
       count = nat_abs tc.count;
       sections = s;
       rate = tc.rate;
-      minus = isNeg (instantIn tc);
-      ticks = nat_abs (instantIn tc);
+      minus = is_neg (instant_in tc);
+      ticks = nat_abs (instant_in tc);
     }
 
 -- a number and the byte behind it
-abbrev pub endedText : (minus : Bool) (m end : ℕ) → List ℕ
-endedText minus m end = signedText minus m ++ (end ∷ [])
+abbrev pub ended_text : (minus : Bool) (m end : ℕ) → List ℕ
+ended_text minus m end = signed_text minus m ++ (end ∷ [])
 
 -- the label and the space behind it
-abbrev pub labelColumn : Columns → List ℕ
-labelColumn c = sectionsText (framesMark c.rate) c.sections ++ (32 ∷ [])
+abbrev pub label_column : Columns → List ℕ
+label_column c = sections_text (frames_mark c.rate) c.sections ++ (32 ∷ [])
 
-abbrev pub columnsText : Columns → List ℕ
-columnsText c = endedText c.below c.count 32 ++ (labelColumn c ++ endedText c.minus c.ticks 10)
+abbrev pub columns_text : Columns → List ℕ
+columns_text c = ended_text c.below c.count 32 ++ (label_column c ++ ended_text c.minus c.ticks 10)

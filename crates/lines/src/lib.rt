@@ -1,12 +1,14 @@
 // The line program's answer to one line of input, laid into the caller's line. A line is refused 1 or as its text is, and the answer says so;
 // refused 8, where the answer has no room.
+#![tactic(auto)]
+
 ghost use Rattle.std.specs.Prelude.{◌≡◌, true, ◌∷◌, [], ◌++◌, ◌≤◌, length};
 ghost use Rattle.lent.specs.Line.{laid};
 ghost use Rattle.timecodes.specs.Admitted.{Valid};
-ghost use Rattle.label_writer.specs.LabelText.{framesMark, sectionsText};
-ghost use Rattle.written.specs.Written.{Text, answerTo, lineTo};
-ghost use Rattle.lines.specs.Input.{is_line, rateIn, lineHolds, line_of};
-ghost use Rattle.lines.specs.Output.{timecodeText, refusedText, answerText, endedText, columnsOf, columnsText};
+ghost use Rattle.label_writer.specs.LabelText.{frames_mark, sections_text};
+ghost use Rattle.written.specs.Written.{Text, answer_to, line_to};
+ghost use Rattle.lines.specs.Input.{is_line, rate_in, line_holds, line_of};
+ghost use Rattle.lines.specs.Output.{timecode_text, refused_text, answer_text, ended_text, columns_of, columns_text};
 
 use label_writer::{Sectioned, TimecodeSections};
 use reading::{Read, Stated};
@@ -27,8 +29,8 @@ struct Columns {
 // The answer to a line of input, laid down from `place` on: its length, and every byte of `out` afterwards.
 // Refuses 8: place plus text length exceeds the length of `out`.
 pub fn answer(input: &[u8], out: &mut [u8], place: usize) -> Written
-    ensures answer { result ≡ answerTo out.old place (Text (answerText input.now)) }
-    ensures line { out.new ≡ lineTo out.old place (Text (answerText input.now)) }
+    ensures answer { result ≡ answer_to out.old place (Text (answer_text input.now)) }
+    ensures line { out.new ≡ line_to out.old place (Text (answer_text input.now)) }
 {
     match read_line(input) {
         Answer::At(tc) => write_timecode(tc, out, place),
@@ -39,7 +41,7 @@ pub fn answer(input: &[u8], out: &mut [u8], place: usize) -> Written
 // What a line of input holds, its newline not counted. Refuses 1: it has over 64 bytes, or does not begin with two digits of rate and a
 // space; else as its text is refused at this rate, no film format stated.
 fn read_line(input: &[u8]) -> Answer
-    ensures answer { result ≡ line_of input.now }
+    ensures { result ≡ line_of input.now }
 {
     if !is_line(input) {
         return Answer::Refused(answers::NO_SHAPE);
@@ -51,7 +53,7 @@ fn read_line(input: &[u8]) -> Answer
 
 // Has the line at most 64 bytes, and does it begin with two digits and a space?
 fn is_line(input: &[u8]) -> bool
-    ensures answer { result ≡ is_line input.now }
+    ensures { result ≡ is_line input.now }
 {
     if input.len() > 64 {
         return false;
@@ -70,8 +72,8 @@ fn is_line(input: &[u8]) -> bool
 
 // The rate of a line. Asks that it is one.
 fn rate_in(input: &[u8]) -> u64
-    requires line { is_line input.now ≡ true }
-    ensures answer { result ≡ rateIn input.now }
+    requires { is_line input.now ≡ true }
+    ensures { result ≡ rate_in input.now }
 {
     let run = digits::run_at(input, 0);
     run.value
@@ -79,7 +81,7 @@ fn rate_in(input: &[u8]) -> u64
 
 // A text's answer as that of its line: a label and a footage hold a timecode alike.
 fn line_holds(read: Read) -> Answer
-    ensures answer { result ≡ lineHolds read }
+    ensures { result ≡ line_holds read }
 {
     match read {
         Read::Label(tc) => Answer::At(tc),
@@ -90,9 +92,9 @@ fn line_holds(read: Read) -> Answer
 
 // Count, label and ticks of a timecode, laid down from `place` on. Asks a timecode that is admitted: its sections are never refused.
 fn write_timecode(tc: Timecode, out: &mut [u8], place: usize) -> Written
-    requires timecode { Valid tc }
-    ensures answer { result ≡ answerTo out.old place (Text (timecodeText tc)) }
-    ensures line { out.new ≡ lineTo out.old place (Text (timecodeText tc)) }
+    requires { Valid tc }
+    ensures answer { result ≡ answer_to out.old place (Text (timecode_text tc)) }
+    ensures line { out.new ≡ line_to out.old place (Text (timecode_text tc)) }
 {
     match label_writer::sections(tc) {
         Sectioned::Sections(s) => write_columns(columns_of(tc, s), out, place),
@@ -102,7 +104,7 @@ fn write_timecode(tc: Timecode, out: &mut [u8], place: usize) -> Written
 
 // The columns of a timecode and the sections of its label.
 fn columns_of(tc: Timecode, s: TimecodeSections) -> Columns
-    ensures answer { result ≡ columnsOf tc s }
+    ensures { result ≡ columns_of tc s }
 {
     let instant = timecodes::instant_of(tc);
     Columns {
@@ -117,8 +119,8 @@ fn columns_of(tc: Timecode, s: TimecodeSections) -> Columns
 
 // The columns laid down from `place` on: their length first, one test of room, then the rest is lent on.
 fn write_columns(c: Columns, out: &mut [u8], place: usize) -> Written
-    ensures answer { result ≡ answerTo out.old place (Text (columnsText c)) }
-    ensures line { out.new ≡ lineTo out.old place (Text (columnsText c)) }
+    ensures answer { result ≡ answer_to out.old place (Text (columns_text c)) }
+    ensures line { out.new ≡ line_to out.old place (Text (columns_text c)) }
 {
     let need = columns_length(c);
     if lent::room(out.len(), place, need) {
@@ -130,7 +132,7 @@ fn write_columns(c: Columns, out: &mut [u8], place: usize) -> Written
 
 // How many bytes the columns have, with the bytes behind them.
 fn columns_length(c: Columns) -> usize
-    ensures answer { result ≡ length (columnsText c) }
+    ensures { result ≡ length (columns_text c) }
 {
     let s = c.sections;
     written::signed_length(c.below, c.count)
@@ -141,8 +143,8 @@ fn columns_length(c: Columns) -> usize
 
 // The columns at the front of a part; every other byte stays. Asks their room.
 fn put_columns(part: &mut [u8], c: Columns)
-    requires room { length (columnsText c) ≤ length part.old }
-    ensures line { part.new ≡ laid part.old (columnsText c) }
+    requires { length (columns_text c) ≤ length part.old }
+    ensures { part.new ≡ laid part.old (columns_text c) }
 {
     let s = c.sections;
     let first = written::signed_length(c.below, c.count) + 1;
@@ -154,8 +156,8 @@ fn put_columns(part: &mut [u8], c: Columns)
 
 // A number and the byte behind it at the front of a part; every other byte stays. Asks their room.
 fn put_ended(part: &mut [u8], minus: bool, m: u64, end: u8)
-    requires room { length (endedText minus m end) ≤ length part.old }
-    ensures line { part.new ≡ laid part.old (endedText minus m end) }
+    requires { length (ended_text minus m end) ≤ length part.old }
+    ensures { part.new ≡ laid part.old (ended_text minus m end) }
 {
     let at = written::signed_length(minus, m);
     written::put_signed(part, minus, m);
@@ -164,8 +166,8 @@ fn put_ended(part: &mut [u8], minus: bool, m: u64, end: u8)
 
 // A label and the space behind it at the front of a part; every other byte stays. Asks their room.
 fn put_label(part: &mut [u8], s: TimecodeSections, rate: u64)
-    requires room { length (sectionsText (framesMark rate) s ++ (32 ∷ [])) ≤ length part.old }
-    ensures line { part.new ≡ laid part.old (sectionsText (framesMark rate) s ++ (32 ∷ [])) }
+    requires { length (sections_text (frames_mark rate) s ++ (32 ∷ [])) ≤ length part.old }
+    ensures { part.new ≡ laid part.old (sections_text (frames_mark rate) s ++ (32 ∷ [])) }
 {
     let at = label_writer::sections_length(s);
     label_writer::put_sections(part, s, rate);
@@ -174,8 +176,8 @@ fn put_label(part: &mut [u8], s: TimecodeSections, rate: u64)
 
 // `refused` and a number, laid down from `place` on.
 fn write_refused(number: u64, out: &mut [u8], place: usize) -> Written
-    ensures answer { result ≡ answerTo out.old place (Text (refusedText number)) }
-    ensures line { out.new ≡ lineTo out.old place (Text (refusedText number)) }
+    ensures answer { result ≡ answer_to out.old place (Text (refused_text number)) }
+    ensures line { out.new ≡ line_to out.old place (Text (refused_text number)) }
 {
     let need = written::signed_length(false, number) + 9;
     if lent::room(out.len(), place, need) {
@@ -187,8 +189,8 @@ fn write_refused(number: u64, out: &mut [u8], place: usize) -> Written
 
 // `refused`, a number and the newline at the front of a part; every other byte stays. Asks their room.
 fn put_refused(part: &mut [u8], number: u64)
-    requires room { length (refusedText number) ≤ length part.old }
-    ensures line { part.new ≡ laid part.old (refusedText number) }
+    requires { length (refused_text number) ≤ length part.old }
+    ensures { part.new ≡ laid part.old (refused_text number) }
 {
     lent::put_text(part, b"refused ");
     put_ended(&mut part[8..], false, number, b'\n');
@@ -196,7 +198,7 @@ fn put_refused(part: &mut [u8], number: u64)
 
 // A refusal's number among all numbers.
 fn wide(number: u8) -> u64
-    ensures answer { result ≡ number }
+    ensures { result ≡ number }
 {
     number as u64
 }

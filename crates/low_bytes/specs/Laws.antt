@@ -5,8 +5,8 @@ use Rattle.std.proofs.Math.Path.{refl, ap}
 use Rattle.std.proofs.Common.{ap₂, ◌∙◌, arith, pow-suc, lt-ltb, le-ltb, ltb-true, ltb-false, get_or-drop}
 use Rattle.std.proofs.Math.Bool.{true, false}
 use Rattle.std.proofs.Math.Nat.{pow-le-pow_right}
-use Rattle.numbers.specs.Sign.{isNeg}
-use Rattle.low_bytes.specs.LowBytes.{Bytes, worth, signed_of, Within, lowBytes, twosOf}
+use Rattle.numbers.specs.Sign.{is_neg}
+use Rattle.low_bytes.specs.LowBytes.{Bytes, worth, signed_of, Within, low_bytes, twos_of}
 
 -- ---- bytes
 
@@ -45,31 +45,31 @@ worth-fits l h k =
     let most : 256 ^ length l ≤ 18446744073709551616 = pow-le-pow_right {n = 256} (omega arith) k in
     omega (arith, worth-below l h)
 
-pub low-length : (w n : ℕ) → length (lowBytes w n) ≡ w
-unfolding lowBytes
+pub low-length : (w n : ℕ) → length (low_bytes w n) ≡ w
+unfolding low_bytes
 low-length zero n = refl
 low-length (suc w) n = ap suc (low-length w (n / 256))
 
-pub low-bytes : (w n : ℕ) → Bytes (lowBytes w n)
-unfolding lowBytes
+pub low-bytes : (w n : ℕ) → Bytes (low_bytes w n)
+unfolding low_bytes
 low-bytes zero n = bytes-nil
-low-bytes (suc w) n = bytes-cons (n % 256) (lowBytes w (n / 256)) (omega arith) (low-bytes w (n / 256))
+low-bytes (suc w) n = bytes-cons (n % 256) (low_bytes w (n / 256)) (omega arith) (low-bytes w (n / 256))
 
-pub worth-low : (w n : ℕ) → n < 256 ^ w → worth (lowBytes w n) ≡ n
-unfolding worth lowBytes
+pub worth-low : (w n : ℕ) → n < 256 ^ w → worth (low_bytes w n) ≡ n
+unfolding worth low_bytes
 worth-low zero n h = omega arith
 worth-low (suc w) n h =
     let later = worth-low w (n / 256) (omega (arith, pow-suc 256 w)) in
     omega arith
 
-pub low-worth : (l : List ℕ) → Bytes l → lowBytes (length l) (worth l) ≡ l
-unfolding worth lowBytes
+pub low-worth : (l : List ℕ) → Bytes l → low_bytes (length l) (worth l) ≡ l
+unfolding worth low_bytes
 low-worth [] h = refl
 low-worth (b ∷ l) h =
     let first : b < 256 = h 0 in
     let low : (b + 256 * worth l) % 256 ≡ b = omega arith in
     let high : (b + 256 * worth l) / 256 ≡ worth l = omega arith in
-    ap₂ ◌∷◌ low (ap (lowBytes (length l)) high ∙ low-worth l (bytes-tail b l h))
+    ap₂ ◌∷◌ low (ap (low_bytes (length l)) high ∙ low-worth l (bytes-tail b l h))
 
 -- ---- signed
 
@@ -81,8 +81,8 @@ pub signed_high : (w n : ℕ) → 256 ^ w ≤ 2 * n → signed_of w n ≡ neg_�
 unfolding signed_of
 signed_high w n h = rw (le-ltb (2 * n) (256 ^ w) h)
 
-pub twos-below : (w : ℕ) (z : ℤ) → Within w z → twosOf w z < 256 ^ w
-unfolding twosOf
+pub twos-below : (w : ℕ) (z : ℤ) → Within w z → twos_of w z < 256 ^ w
+unfolding twos_of
 twos-below w (pos n) h = omega arith
 twos-below w (negsuc n) h = omega arith
 
@@ -91,8 +91,8 @@ neg-one-less : (m : ℕ) → 0 < m → neg_ℤ (pos m) ≡ negsuc (m - 1)
 neg-one-less zero h = absurd (omega arith)
 neg-one-less (suc m) h = ap negsuc (omega arith)
 
-pub signed-twos : (w : ℕ) (z : ℤ) → Within w z → signed_of w (twosOf w z) ≡ z
-unfolding twosOf
+pub signed-twos : (w : ℕ) (z : ℤ) → Within w z → signed_of w (twos_of w z) ≡ z
+unfolding twos_of
 signed-twos w (pos n) h = signed_low w n h
 signed-twos w (negsuc n) h =
     signed_high w (256 ^ w - suc n) (omega arith)
@@ -100,12 +100,12 @@ signed-twos w (negsuc n) h =
     ∙ ap negsuc (omega arith)
 
 module _ (w n : ℕ) (h : n < 256 ^ w) where
-  twos-by : (t : Bool) → ltb (2 * n) (256 ^ w) ≡ t → twosOf w (cond t (pos n) (neg_ℤ (pos (256 ^ w - n)))) ≡ n
-  unfolding twosOf
+  twos-by : (t : Bool) → ltb (2 * n) (256 ^ w) ≡ t → twos_of w (cond t (pos n) (neg_ℤ (pos (256 ^ w - n)))) ≡ n
+  unfolding twos_of
   twos-by true e = refl
-  twos-by false e = ap (twosOf w) (neg-one-less (256 ^ w - n) (omega arith)) ∙ (omega arith)
+  twos-by false e = ap (twos_of w) (neg-one-less (256 ^ w - n) (omega arith)) ∙ (omega arith)
 
-  pub twos-signed : twosOf w (signed_of w n) ≡ n
+  pub twos-signed : twos_of w (signed_of w n) ≡ n
   unfolding signed_of
   twos-signed = twos-by (ltb (2 * n) (256 ^ w)) refl
 
@@ -121,12 +121,12 @@ module _ (w n : ℕ) (h : n < 256 ^ w) where
 
 -- ---- by sign and magnitude, as the code goes
 
-pub twos-pos : (w : ℕ) (z : ℤ) → isNeg z ≡ false → twosOf w z ≡ nat_abs z
-unfolding twosOf
+pub twos-pos : (w : ℕ) (z : ℤ) → is_neg z ≡ false → twos_of w z ≡ nat_abs z
+unfolding twos_of
 twos-pos w (pos n) e = refl
 twos-pos w (negsuc n) e = let z : ◌≡◌ {A = ℕ} 0 1 = cc in absurd (omega arith)
 
-pub twos-neg : (w : ℕ) (z : ℤ) → isNeg z ≡ true → twosOf w z ≡ 256 ^ w - nat_abs z
-unfolding twosOf
+pub twos-neg : (w : ℕ) (z : ℤ) → is_neg z ≡ true → twos_of w z ≡ 256 ^ w - nat_abs z
+unfolding twos_of
 twos-neg w (pos n) e = let z : ◌≡◌ {A = ℕ} 0 1 = cc in absurd (omega arith)
 twos-neg w (negsuc n) e = refl

@@ -35,15 +35,15 @@ Within w (negsuc n) = 2 * suc n ≤ 256 ^ w
 -- ---- a number's bytes, as they are written
 
 -- the w lowest bytes of n
-unfoldable pub lowBytes : (w n : ℕ) → List ℕ
-lowBytes zero n = []
-lowBytes (suc w) n = n % 256 ∷ lowBytes w (n / 256)
+unfoldable pub low_bytes : (w n : ℕ) → List ℕ
+low_bytes zero n = []
+low_bytes (suc w) n = n % 256 ∷ low_bytes w (n / 256)
 
 -- the number of w bytes that stands for a signed one which they hold
-unfoldable pub twosOf : (w : ℕ) → ℤ → ℕ
-twosOf w (pos n) = n
-twosOf w (negsuc n) = 256 ^ w - suc n
+unfoldable pub twos_of : (w : ℕ) → ℤ → ℕ
+twos_of w (pos n) = n
+twos_of w (negsuc n) = 256 ^ w - suc n
 
 -- the w bytes of a signed number
-abbrev pub signedBytes : (w : ℕ) → ℤ → List ℕ
-signedBytes w z = lowBytes w (twosOf w z)
+abbrev pub signed_bytes : (w : ℕ) → ℤ → List ℕ
+signed_bytes w z = low_bytes w (twos_of w z)

@@ -1,19 +1,21 @@
 // Numbers as bytes, low byte first: what bytes are worth, unsigned and signed (two's complement), and a number's bytes. Refuses nothing
 // itself: bytes that are not there count nothing, and what has no room changes nothing.
+#![tactic(auto)]
+
 ghost use Rattle.std.specs.Prelude.{◌≡◌, ◌-◌, min, take, drop};
 ghost use Rattle.lent.specs.Line.{laid};
-ghost use Rattle.low_bytes.specs.LowBytes.{worth, lowBytes, signed_of, twosOf, signedBytes};
+ghost use Rattle.low_bytes.specs.LowBytes.{worth, low_bytes, signed_of, twos_of, signed_bytes};
 
 // The smaller of two numbers.
 fn least(a: usize, b: usize) -> usize
-    ensures answer { result ≡ min a b }
+    ensures { result ≡ min a b }
 {
     if a < b { a } else { b }
 }
 
 // How many of `width` bytes, eight at most, a list of `total` bytes has from a place on.
 fn present(total: usize, at: usize, width: usize) -> usize
-    ensures answer { result ≡ min (min width 8) (total - at) }
+    ensures { result ≡ min (min width 8) (total - at) }
 {
     if total <= at {
         return 0;
@@ -23,7 +25,7 @@ fn present(total: usize, at: usize, width: usize) -> usize
 
 // What the bytes from a place on are worth: `width` of them, eight at most, and those that are not there count nothing.
 pub fn number_at(s: &[u8], at: usize, width: usize) -> u64
-    ensures answer { result ≡ worth (take (min width 8) (drop at s.now)) }
+    ensures { result ≡ worth (take (min width 8) (drop at s.now)) }
 {
     let mut n: u64 = 0;
     let mut k = present(s.len(), at, width);
@@ -37,7 +39,7 @@ pub fn number_at(s: &[u8], at: usize, width: usize) -> u64
 
 // The signed number in the four bytes from a place on; those that are not there count nothing.
 pub fn signed_at(s: &[u8], at: usize) -> i64
-    ensures answer { result ≡ signed_of 4 (worth (take 4 (drop at s.now))) }
+    ensures { result ≡ signed_of 4 (worth (take 4 (drop at s.now))) }
 {
     let n = number_at(s, at, 4);
     if n < 2_147_483_648 {
@@ -48,7 +50,7 @@ pub fn signed_at(s: &[u8], at: usize) -> i64
 
 // The `width` lowest bytes of n at the front of a part; every other byte stays. Where they have no room nothing changes.
 pub fn put_number(part: &mut [u8], width: usize, n: u64)
-    ensures line { part.new ≡ laid part.old (lowBytes width n) }
+    ensures { part.new ≡ laid part.old (low_bytes width n) }
 {
     if part.len() < width {
         return;
@@ -64,7 +66,7 @@ pub fn put_number(part: &mut [u8], width: usize, n: u64)
 
 // The number that stands for a signed one in four bytes, where they hold it.
 fn twos_of(z: i64) -> u64
-    ensures answer { result ≡ twosOf 4 z }
+    ensures { result ≡ twos_of 4 z }
 {
     let m = numbers::magnitude(z);
     if !numbers::below_zero(z) {
@@ -78,7 +80,7 @@ fn twos_of(z: i64) -> u64
 
 // The four bytes of a signed number that they hold at the front of a part; every other byte stays. Where they have no room nothing changes.
 pub fn put_signed(part: &mut [u8], z: i64)
-    ensures line { part.new ≡ laid part.old (signedBytes 4 z) }
+    ensures { part.new ≡ laid part.old (signed_bytes 4 z) }
 {
     put_number(part, 4, twos_of(z));
 }

@@ -4,25 +4,25 @@ use Rattle.std.specs.Prelude.{cond, not, [], ◌∷◌, ℕ, zero, suc, ◌+◌,
 use Rattle.answers.specs.declared.Counted.{Counted}
 use Rattle.answers.specs.declared.Counted.TheVariants.{Count, Refused}
 use Rattle.answers.specs.Order.{Condition, when, unless}
-use Rattle.answers.specs.Refusals.{outOfBounds}
+use Rattle.answers.specs.Refusals.{out_of_bounds}
 
 -- 1800 more after a minute that is a multiple of 10, else 1798 more
-abbrev pub stepAfter : (minute : ℕ) → ℕ
-stepAfter minute = cond (eqb (minute % 10) 0) 1800 1798
+abbrev pub step_after : (minute : ℕ) → ℕ
+step_after minute = cond (eqb (minute % 10) 0) 1800 1798
 
 -- entry 0 is 0; each next is a step more
-unfoldable pub minuteStart : (minute : ℕ) → ℕ
-minuteStart zero = 0
-minuteStart (suc minute) = minuteStart minute + stepAfter minute
+unfoldable pub minute_start : (minute : ℕ) → ℕ
+minute_start zero = 0
+minute_start (suc minute) = minute_start minute + step_after minute
 
 -- 5: a minute outside 0 to 1439
-abbrev pub badMinute : (minute : ℕ) → Condition
-badMinute minute = when outOfBounds (not (leb minute 1439))
+abbrev pub bad_minute : (minute : ℕ) → Condition
+bad_minute minute = when out_of_bounds (not (leb minute 1439))
 
 -- the first frame number of a minute of the table
-unfoldable pub minuteAt : (minute : ℕ) → Counted
-minuteAt minute = unless Refused (badMinute minute ∷ []) (Count (pos (minuteStart minute)))
+unfoldable pub minute_at : (minute : ℕ) → Counted
+minute_at minute = unless Refused (bad_minute minute ∷ []) (Count (pos (minute_start minute)))
 
 -- the frames of a minute's first allowed label: 0 where the minute is a multiple of 10, else 2
-abbrev pub firstFrame : (minute : ℕ) → ℕ
-firstFrame minute = cond (eqb (minute % 10) 0) 0 2
+abbrev pub first_frame : (minute : ℕ) → ℕ
+first_frame minute = cond (eqb (minute % 10) 0) 0 2

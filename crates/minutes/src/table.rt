@@ -1,6 +1,6 @@
 // The minute table, held as constants, and its lookup.
 ghost use Rattle.std.specs.Prelude.{◌≡◌, ◌<◌};
-ghost use Rattle.minutes.specs.Minutes.{minuteStart};
+ghost use Rattle.minutes.specs.Minutes.{minute_start};
 
 // The first frame number of each minute of a 29.97 drop day.
 const MINUTES: [u32; 1440] = [
@@ -143,8 +143,8 @@ const MINUTES: [u32; 1440] = [
 
 // The entry of a minute. Asks a minute of the table.
 pub(crate) fn entry(minute: usize) -> u32
-    requires minute { minute < 1440 }
-    ensures answer { result ≡ minuteStart minute }
+    requires { minute < 1440 }
+    ensures { result ≡ minute_start minute }
 {
     MINUTES[minute]
 }

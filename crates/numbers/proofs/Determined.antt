@@ -2,7 +2,7 @@
 -- Assumes nothing.
 use mathlib.Core.Path.{sym, ap, ap₂, ◌∙◌}
 use Rattle.outcomes.specs.Outcome.{Determined}
-use Rattle.numbers.specs.LowestLaws.{lowestOr-one}
+use Rattle.numbers.specs.LowestLaws.{lowest_or-one}
 use Rattle.numbers.specs.contracts.below_zero as below-zero
 use Rattle.numbers.proofs.below_zero.Reads as below-zero-reads
 use Rattle.numbers.specs.contracts.magnitude as magnitude
@@ -69,4 +69,4 @@ reduced-determined κs a asked x y p q = ap (λ z. (z, x.1)) (p ∙ sym q)
 -- of a fraction over 0 both are 0/1, of any other both are its lowest terms
 pub lowest-determined : Determined lowest.ended lowest-reads.Asked lowest-reads.Learnt
 lowest-determined κs a asked x y p q =
-    let one = lowestOr-one a.0 a.1.0 p q in ap₂ (λ n d. (record { num = n; den = d }, x.1)) one.0 one.1
+    let one = lowest_or-one a.0 a.1.0 p q in ap₂ (λ n d. (record { num = n; den = d }, x.1)) one.0 one.1

@@ -12,7 +12,7 @@ use lib.Signed.{mag, lt_z, quot_z, rem_z, mag_rem}
 use mir.Syntax.{w64}
 use mir.Val.{SFits, to_z, of_z}
 use mir.Facts.{to_z-of_z}
-use Rattle.numbers.specs.Sign.{isNeg}
+use Rattle.numbers.specs.Sign.{is_neg}
 use Rattle.numbers.specs.TruncateLaws.{quot-abs}
 
 -- the machine's reading of z is z
@@ -20,7 +20,7 @@ pub read : (z : ℤ) → SFits w64 z → to_z w64 (of_z w64 z) ≡ z
 read z f = to_z-of_z f
 
 -- the test against 0 is the sign
-pub test-is : (z : ℤ) → lt_z z (pos 0) ≡ isNeg z
+pub test-is : (z : ℤ) → lt_z z (pos 0) ≡ is_neg z
 test-is (pos n) = le-ltb n 0 (omega arith)
 test-is (negsuc n) = refl
 

@@ -18,5 +18,5 @@ down (pos a) n = pos (a / n)
 down (negsuc a) n = negsuc (a / n)
 
 -- a number over a divisor of either sign, rounded down
-abbrev pub floorZ : ℤ → ℤ → ℤ
-floorZ x d = down (over x d) (nat_abs d)
+abbrev pub floor_z : ℤ → ℤ → ℤ
+floor_z x d = down (over x d) (nat_abs d)

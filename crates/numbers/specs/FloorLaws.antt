@@ -4,9 +4,9 @@ use Rattle.std.specs.Prelude.{◌≡◌, refl, true, false, ℕ, zero, suc, ◌+
 use Rattle.std.proofs.Common.{sym, ap, subst, zero-mul, div-add-mod', mod-lt, div-mul-le_self, suc-mul, le-div_iff_mul-le, div-lt_iff_lt-mul, le-mul_of_pos_right, arith}
 use Rattle.std.specs.Bool.{beq}
 use Rattle.std.proofs.Math.Nat.{zero-div, lt-div-mul-add, div-eq_of_lt-le}
-use Rattle.numbers.specs.Sign.{isNeg}
+use Rattle.numbers.specs.Sign.{is_neg}
 use Rattle.numbers.specs.OrderLaws.{le-pos, le-across, le-neg, pos-le, neg-le}
-use Rattle.numbers.specs.Floor.{down, floorZ}
+use Rattle.numbers.specs.Floor.{down, floor_z}
 
 -- n times the number rounded down is not above
 pub down-under : (y : ℤ) (n : ℕ) → 0 < n → (down y n *ℤ pos n) ≤ℤ y
@@ -25,7 +25,7 @@ down-largest (negsuc a) n h (negsuc b) l =
 -- ---- by magnitudes
 
 -- of two numbers of one sign: the magnitudes' quotient
-pub floor-alike : (x d : ℤ) → beq (isNeg x) (isNeg d) ≡ true → pos (nat_abs x / nat_abs d) ≡ floorZ x d
+pub floor-alike : (x d : ℤ) → beq (is_neg x) (is_neg d) ≡ true → pos (nat_abs x / nat_abs d) ≡ floor_z x d
 floor-alike (pos a) (pos b) e = refl
 floor-alike (pos a) (negsuc b) e = absurd (subst T (sym e) tt)
 floor-alike (negsuc a) (pos b) e = absurd (subst T (sym e) tt)
@@ -37,12 +37,12 @@ down-neg a n zero lo hi = absurd (omega (arith, zero-mul n))
 down-neg a n (suc k) lo hi = ap negsuc (sym (div-eq_of_lt-le {k = k} n (omega (arith, suc-mul k n)) (omega (arith, suc-mul k n))))
 
 -- of two numbers of different signs: the magnitudes' quotient, rounded up and negated
-module _ (x d : ℤ) (unlike : beq (isNeg x) (isNeg d) ≡ false) where
-  rounded-up : (k : ℕ) → nat_abs x ≤ k * nat_abs d → k * nat_abs d < nat_abs x + nat_abs d → neg_ℤ (pos k) ≡ floorZ x d
+module _ (x d : ℤ) (unlike : beq (is_neg x) (is_neg d) ≡ false) where
+  rounded-up : (k : ℕ) → nat_abs x ≤ k * nat_abs d → k * nat_abs d < nat_abs x + nat_abs d → neg_ℤ (pos k) ≡ floor_z x d
   rounded-up = by_cases x d unlike
     where
-      by_cases : (x d : ℤ) → beq (isNeg x) (isNeg d) ≡ false
-          → (k : ℕ) → nat_abs x ≤ k * nat_abs d → k * nat_abs d < nat_abs x + nat_abs d → neg_ℤ (pos k) ≡ floorZ x d
+      by_cases : (x d : ℤ) → beq (is_neg x) (is_neg d) ≡ false
+          → (k : ℕ) → nat_abs x ≤ k * nat_abs d → k * nat_abs d < nat_abs x + nat_abs d → neg_ℤ (pos k) ≡ floor_z x d
       by_cases (pos a) (pos b) e k lo hi = absurd (subst T e tt)
       by_cases (pos zero) (negsuc b) e zero lo hi = ap pos (sym (zero-div (suc b)))
       by_cases (pos zero) (negsuc b) e (suc k) lo hi = absurd (omega arith)
@@ -51,13 +51,13 @@ module _ (x d : ℤ) (unlike : beq (isNeg x) (isNeg d) ≡ false) where
       by_cases (negsuc a) (negsuc b) e k lo hi = absurd (subst T e tt)
 
   -- which is the quotient where nothing is left
-  pub floor-whole : 0 < nat_abs d → nat_abs x % nat_abs d ≡ 0 → neg_ℤ (pos (nat_abs x / nat_abs d)) ≡ floorZ x d
+  pub floor-whole : 0 < nat_abs d → nat_abs x % nat_abs d ≡ 0 → neg_ℤ (pos (nat_abs x / nat_abs d)) ≡ floor_z x d
   floor-whole h e =
       let s = div-add-mod' (nat_abs x) (nat_abs d) in
       rounded-up (nat_abs x / nat_abs d) (omega arith) (omega arith)
 
   -- and one more where something is
-  pub floor-part : 0 < nat_abs d → (nat_abs x % nat_abs d ≡ 0 → ⊥) → neg_ℤ (pos (nat_abs x / nat_abs d + 1)) ≡ floorZ x d
+  pub floor-part : 0 < nat_abs d → (nat_abs x % nat_abs d ≡ 0 → ⊥) → neg_ℤ (pos (nat_abs x / nat_abs d + 1)) ≡ floor_z x d
   floor-part h e =
       let s = div-add-mod' (nat_abs x) (nat_abs d) in
       let l = mod-lt (nat_abs x) {m = nat_abs d} h in

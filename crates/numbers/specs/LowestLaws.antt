@@ -98,12 +98,12 @@ module _ {p q n d n' d' : ℕ} (hq : 0 < q) (x : Lowest p q n d) (y : Lowest p q
   num-one = eq_of_mul-eq-mul_right d x.positive n n' (ap (λ (k : ℕ). n * k) den-one ∙ cross hq x y)
 
 -- nor is there another one of a fraction over 0
-pub lowestOr-one : (p q : ℕ) {n d n' d' : ℕ} → LowestOr p q n d → LowestOr p q n' d' → (n ≡ n') × (d ≡ d')
-lowestOr-one p zero x y =
+pub lowest_or-one : (p q : ℕ) {n d n' d' : ℕ} → LowestOr p q n d → LowestOr p q n' d' → (n ≡ n') × (d ≡ d')
+lowest_or-one p zero x y =
     let u = x.1 refl in
     let v = y.1 refl in
     (u.0 ∙ sym v.0, u.1 ∙ sym v.1)
-lowestOr-one p (suc q) x y =
+lowest_or-one p (suc q) x y =
     let h : 0 < suc q = omega arith in
     (num-one h (x.0 h) (y.0 h), den-one h (x.0 h) (y.0 h))
 

@@ -9,10 +9,10 @@ pub record Reduced (x : ℤ) (n r : ℕ) : Type 0 where
   pub whole : (times *ℤ pos n) +ℤ pos r ≡ x
 
 -- of a it is a % n, and of -(a + 1) it is n - 1 - a % n
-abbrev pub leftUp : ℤ → ℕ → ℕ
-leftUp (pos a) n = a % n
-leftUp (negsuc a) n = n - 1 - a % n
+abbrev pub left_up : ℤ → ℕ → ℕ
+left_up (pos a) n = a % n
+left_up (negsuc a) n = n - 1 - a % n
 
 -- the same for every n: 0 where n is 0
-unfoldable pub reducedZ : ℤ → ℕ → ℕ
-reducedZ x n = cond (eqb n 0) 0 (leftUp x n)
+unfoldable pub reduced_z : ℤ → ℕ → ℕ
+reduced_z x n = cond (eqb n 0) 0 (left_up x n)

@@ -3,7 +3,7 @@
 use Rattle.std.specs.Prelude.{◌≡◌, ℕ, suc, ◌*◌, ◌<◌, ℤ, pos, negsuc, neg_ℤ, ◌*ℤ◌}
 use Rattle.std.proofs.Common.{sym, ◌∙◌, ap, mul_assoc}
 use Rattle.numbers.specs.SignLaws.{neg-mul}
-use Rattle.numbers.specs.Nearest.{nearestZ}
+use Rattle.numbers.specs.Nearest.{nearest_z}
 use Rattle.numbers.specs.NearestSignedLaws.{exact}
 
 -- a multiple of a multiple
@@ -13,4 +13,4 @@ mul-twice (negsuc k) a b = neg-mul (pos (suc k * a)) b ∙ ap (λ (n : ℕ). neg
 
 -- what is multiplied is told by the multiple
 pub mul-cancel : (x y : ℤ) (n : ℕ) → 0 < n → x *ℤ pos n ≡ y *ℤ pos n → x ≡ y
-mul-cancel x y n h e = sym (exact x n h) ∙ ap (λ (z : ℤ). nearestZ z n) e ∙ exact y n h
+mul-cancel x y n h e = sym (exact x n h) ∙ ap (λ (z : ℤ). nearest_z z n) e ∙ exact y n h

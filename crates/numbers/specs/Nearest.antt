@@ -2,7 +2,7 @@
 -- Floored: Floor.antt; truncated: Truncate.antt.
 -- Assumes nothing.
 use Rattle.std.specs.Prelude.{◌≡◌, ℕ, ◌+◌, ◌*◌, ◌/◌, ◌≤◌, ℤ, pos, nat_abs, ◌-ℤ◌, ◌*ℤ◌}
-use Rattle.numbers.specs.Sign.{isNeg, signed}
+use Rattle.numbers.specs.Sign.{is_neg, signed}
 
 -- k is the nearest whole number of x/n: no other multiple of n is closer to x, and of two as close it is the one away from zero
 pub record Nearest (x : ℤ) (n : ℕ) (k : ℤ) : Type 0 where
@@ -10,9 +10,9 @@ pub record Nearest (x : ℤ) (n : ℕ) (k : ℤ) : Type 0 where
   pub away : (j : ℤ) → nat_abs (j *ℤ pos n -ℤ x) ≡ nat_abs (k *ℤ pos n -ℤ x) → nat_abs j ≤ nat_abs k
 
 -- the nearest of two magnitudes: half a step up, then cut off
-unfoldable pub nearestN : ℕ → ℕ → ℕ
-nearestN a n = (2 * a + n) / (2 * n)
+unfoldable pub nearest_n : ℕ → ℕ → ℕ
+nearest_n a n = (2 * a + n) / (2 * n)
 
 -- the nearest of a signed number: the magnitude's, with the number's sign
-abbrev pub nearestZ : ℤ → ℕ → ℤ
-nearestZ x n = signed (isNeg x) (nearestN (nat_abs x) n)
+abbrev pub nearest_z : ℤ → ℕ → ℤ
+nearest_z x n = signed (is_neg x) (nearest_n (nat_abs x) n)

@@ -17,18 +17,18 @@ unfolding fitted
 fitted-out size z h = rw (le-ltb size (2 ^ 63) h)
 
 -- x can be divided by d: x is not the least number, d is not 0
-abbrev pub canDivide : (x d : ℤ) → Bool
-canDivide x d = ltb (nat_abs x) (2 ^ 63) && ltb 0 (nat_abs d)
+abbrev pub can_divide : (x d : ℤ) → Bool
+can_divide x d = ltb (nat_abs x) (2 ^ 63) && ltb 0 (nat_abs d)
 
 -- z, where x can be divided by d; else 0
 unfoldable pub divided : (x d z : ℤ) → ℤ
-divided x d z = cond (canDivide x d) z (pos 0)
+divided x d z = cond (can_divide x d) z (pos 0)
 
 pub divided-in : (x d z : ℤ) → nat_abs x < 2 ^ 63 → 0 < nat_abs d → divided x d z ≡ z
 unfolding divided
 divided-in x d z h k = rw (lt-ltb (nat_abs x) (2 ^ 63) h, lt-ltb 0 (nat_abs d) k)
 
-pub divided-out : (x d z : ℤ) → canDivide x d ≡ false → divided x d z ≡ pos 0
+pub divided-out : (x d z : ℤ) → can_divide x d ≡ false → divided x d z ≡ pos 0
 unfolding divided
 divided-out x d z e = rw e
 

@@ -4,8 +4,8 @@ use Rattle.std.specs.Prelude.{◌≡◌, refl, Bool, true, false, ℕ, zero, suc
 use Rattle.std.proofs.Common.{sym, ◌∙◌, ap, ap₂, subst, div-add-mod', mod-lt, div-le_self, arith}
 use Rattle.std.proofs.Math.IntN.{neg_ℤ-neg_ℤ, neg_ℤ-+ℤ, +ℤ_comm, +ℤ-neg_ℤ_cancel}
 use Rattle.std.specs.Int.Signed.{quot_z, rem_z}
-use Rattle.numbers.specs.Sign.{isNeg}
-use Rattle.numbers.specs.SignLaws.{abs_neg, isNeg-neg, neg-mul}
+use Rattle.numbers.specs.Sign.{is_neg}
+use Rattle.numbers.specs.SignLaws.{abs_neg, is_neg-neg, neg-mul}
 use Rattle.numbers.specs.DistanceLaws.{far, far-across, far-neg, far_none, turned, abs-product}
 use Rattle.numbers.specs.ProductLaws.{neg-product, mul-sub}
 use Rattle.numbers.specs.Truncate.{Truncated}
@@ -31,9 +31,9 @@ rem-small (pos a) d h = mod-lt a h
 rem-small (negsuc a) d h = rw (abs_neg (pos (suc a % nat_abs d))) (mod-lt (suc a) h)
 
 -- a remainder that is not 0 has the dividend's sign
-pub rem-side : (x d : ℤ) → 0 < nat_abs (rem_z x d) → isNeg (rem_z x d) ≡ isNeg x
+pub rem-side : (x d : ℤ) → 0 < nat_abs (rem_z x d) → is_neg (rem_z x d) ≡ is_neg x
 rem-side (pos a) d h = refl
-rem-side (negsuc a) d h = isNeg-neg (suc a % nat_abs d) (rw (abs_neg (pos (suc a % nat_abs d))) at h)
+rem-side (negsuc a) d h = is_neg-neg (suc a % nat_abs d) (rw (abs_neg (pos (suc a % nat_abs d))) at h)
 
 -- the quotient is no larger than the number
 pub quot-abs : (x d : ℤ) → nat_abs (quot_z x d) ≤ nat_abs x
@@ -47,7 +47,7 @@ false-true : false ≡ true → ⊥
 false-true e = subst T (sym e) tt
 
 one_side : (r s : ℤ) (t : Bool) (b : ℕ)
-    → (0 < nat_abs r → isNeg r ≡ t) → (0 < nat_abs s → isNeg s ≡ t) → nat_abs r < b → nat_abs s < b → nat_abs (r -ℤ s) < b
+    → (0 < nat_abs r → is_neg r ≡ t) → (0 < nat_abs s → is_neg s ≡ t) → nat_abs r < b → nat_abs s < b → nat_abs (r -ℤ s) < b
 one_side (pos u) (pos v) t b p q h k = rw (far u v) (omega arith)
 one_side (pos zero) (negsuc v) t b p q h k = omega arith
 one_side (pos (suc u)) (negsuc v) t b p q h k = absurd (false-true (p (omega arith) ∙ sym (q (omega arith))))
@@ -78,7 +78,7 @@ module _ {x d q r q' r' : ℤ} (t : Truncated x d q r) (t' : Truncated x d q' r'
   quot-one =
       far_none q q'
       (none (nat_abs (q -ℤ q')) (nat_abs d)
-      (rw (sym (abs-product (q -ℤ q') d), apart) (one_side r' r (isNeg x) (nat_abs d) t'.side t.side t'.small t.small)))
+      (rw (sym (abs-product (q -ℤ q') d), apart) (one_side r' r (is_neg x) (nat_abs d) t'.side t.side t'.small t.small)))
 
   pub rem-one : r ≡ r'
   rem-one =

@@ -2,17 +2,17 @@
 ghost use Rattle.std.specs.Prelude.{◌≡◌, ◌+◌, ◌*◌, ◌^◌, ◌<◌, nat_abs, ◌+ℤ◌, ◌-ℤ◌, ◌*ℤ◌};
 ghost use Rattle.std.specs.Int.Signed.{quot_z, rem_z};
 ghost use Rattle.numbers.specs.Sign.{signed};
-ghost use Rattle.numbers.specs.Nearest.{nearestN};
-ghost use Rattle.numbers.specs.Floor.{floorZ};
-ghost use Rattle.numbers.specs.Modulo.{reducedZ};
+ghost use Rattle.numbers.specs.Nearest.{nearest_n};
+ghost use Rattle.numbers.specs.Floor.{floor_z};
+ghost use Rattle.numbers.specs.Modulo.{reduced_z};
 ghost use Rattle.numbers.specs.Lowest.{Gcd, Lowest};
 
 use crate::Ratio;
 
 // The number with this sign and magnitude.
 pub(crate) fn with_sign(minus: bool, m: u64) -> i64
-    requires fits { m < 2 ^ 63 }
-    ensures answer { result ≡ signed minus m }
+    requires { m < 2 ^ 63 }
+    ensures { result ≡ signed minus m }
 {
     let p = m as i64;
     if minus { 0 - p } else { p }
@@ -20,32 +20,32 @@ pub(crate) fn with_sign(minus: bool, m: u64) -> i64
 
 // The sum.
 pub(crate) fn sum(x: i64, y: i64) -> i64
-    requires fits { nat_abs x + nat_abs y < 2 ^ 63 }
-    ensures answer { result ≡ x +ℤ y }
+    requires { nat_abs x + nat_abs y < 2 ^ 63 }
+    ensures { result ≡ x +ℤ y }
 {
     x + y
 }
 
 // The difference.
 pub(crate) fn difference(x: i64, y: i64) -> i64
-    requires fits { nat_abs x + nat_abs y < 2 ^ 63 }
-    ensures answer { result ≡ x -ℤ y }
+    requires { nat_abs x + nat_abs y < 2 ^ 63 }
+    ensures { result ≡ x -ℤ y }
 {
     x - y
 }
 
 // The product.
 pub(crate) fn product(x: i64, y: i64) -> i64
-    requires fits { nat_abs x * nat_abs y < 2 ^ 63 }
-    ensures answer { result ≡ x *ℤ y }
+    requires { nat_abs x * nat_abs y < 2 ^ 63 }
+    ensures { result ≡ x *ℤ y }
 {
     x * y
 }
 
 // The nearest whole number of a/n, halves up; nothing is doubled, so any a is taken.
 pub(crate) fn nearest(a: u64, n: u64) -> u64
-    requires nonzero { 0 < n }
-    ensures answer { result ≡ nearestN a n }
+    requires { 0 < n }
+    ensures { result ≡ nearest_n a n }
 {
     let q = a / n;
     let r = a % n;
@@ -54,24 +54,24 @@ pub(crate) fn nearest(a: u64, n: u64) -> u64
 
 // x over d, cut off toward zero.
 pub(crate) fn quotient(x: i64, d: i64) -> i64
-    requires divides { (nat_abs x < 2 ^ 63) × (0 < nat_abs d) }
-    ensures answer { result ≡ quot_z x d }
+    requires { (nat_abs x < 2 ^ 63) × (0 < nat_abs d) }
+    ensures { result ≡ quot_z x d }
 {
     x / d
 }
 
 // What the truncated quotient leaves, with the dividend's sign.
 pub(crate) fn remainder(x: i64, d: i64) -> i64
-    requires divides { (nat_abs x < 2 ^ 63) × (0 < nat_abs d) }
-    ensures answer { result ≡ rem_z x d }
+    requires { (nat_abs x < 2 ^ 63) × (0 < nat_abs d) }
+    ensures { result ≡ rem_z x d }
 {
     x % d
 }
 
 // x over d, rounded down.
 pub(crate) fn floor(x: i64, d: i64) -> i64
-    requires divides { (nat_abs x < 2 ^ 63) × (0 < nat_abs d) }
-    ensures answer { result ≡ floorZ x d }
+    requires { (nat_abs x < 2 ^ 63) × (0 < nat_abs d) }
+    ensures { result ≡ floor_z x d }
 {
     let m = crate::magnitude(x);
     let n = crate::magnitude(d);
@@ -88,8 +88,8 @@ pub(crate) fn floor(x: i64, d: i64) -> i64
 
 // The number with this sign and magnitude, reduced by whole n's: below zero it is n less what is left.
 pub(crate) fn reduced(minus: bool, m: u64, n: u64) -> u64
-    requires nonzero { 0 < n }
-    ensures answer { result ≡ reducedZ (signed minus m) n }
+    requires { 0 < n }
+    ensures { result ≡ reduced_z (signed minus m) n }
 {
     let r = m % n;
     if r == 0 {
@@ -100,7 +100,7 @@ pub(crate) fn reduced(minus: bool, m: u64, n: u64) -> u64
 
 // The greatest common divisor, by Euclid's loop.
 fn gcd(a: u64, b: u64) -> u64
-    ensures answer { Gcd a b result }
+    ensures { Gcd a b result }
 {
     let mut x = a;
     let mut y = b;
@@ -114,8 +114,8 @@ fn gcd(a: u64, b: u64) -> u64
 
 // p/q in lowest terms.
 pub(crate) fn lowest(p: u64, q: u64) -> Ratio
-    requires nonzero { 0 < q }
-    ensures answer { Lowest p q result.num result.den }
+    requires { 0 < q }
+    ensures { Lowest p q result.num result.den }
 {
     let g = gcd(p, q);
     Ratio {

@@ -6,7 +6,7 @@ pub(crate) const LIMIT: u64 = 9_223_372_036_854_775_808;
 
 // Whether the sum of two magnitudes fits.
 pub(crate) fn sum(a: u64, b: u64) -> bool
-    ensures answer { result ≡ ltb (a + b) (2 ^ 63) }
+    ensures { result ≡ ltb (a + b) (2 ^ 63) }
 {
     if a >= LIMIT {
         return false;
@@ -16,7 +16,7 @@ pub(crate) fn sum(a: u64, b: u64) -> bool
 
 // Whether the product of two magnitudes fits.
 pub(crate) fn product(a: u64, b: u64) -> bool
-    ensures answer { result ≡ ltb (a * b) (2 ^ 63) }
+    ensures { result ≡ ltb (a * b) (2 ^ 63) }
 {
     if a == 0 {
         return true;
@@ -26,7 +26,7 @@ pub(crate) fn product(a: u64, b: u64) -> bool
 
 // Whether a number of the first magnitude can be divided by one of the second: it is not the least, the divisor is not 0.
 pub(crate) fn division(a: u64, b: u64) -> bool
-    ensures answer { result ≡ ltb a (2 ^ 63) && ltb 0 b }
+    ensures { result ≡ ltb a (2 ^ 63) && ltb 0 b }
 {
     if a >= LIMIT {
         return false;

@@ -1,11 +1,13 @@
 // Signed numbers by sign and magnitude, exact sums and products, nearest, truncated and floored division, what is left by whole steps, and lowest terms.
 // Each function answers for every argument: 0 where the magnitudes do not fit, or the divisor is 0.
+#![tactic(auto)]
+
 ghost use Rattle.std.specs.Prelude.{◌≡◌, ◌+◌, ◌*◌, nat_abs, ◌+ℤ◌, ◌-ℤ◌, ◌*ℤ◌};
 ghost use Rattle.std.specs.Int.Signed.{quot_z, rem_z};
-ghost use Rattle.numbers.specs.Sign.{isNeg, signed, upFrom};
-ghost use Rattle.numbers.specs.Nearest.{nearestN};
-ghost use Rattle.numbers.specs.Floor.{floorZ};
-ghost use Rattle.numbers.specs.Modulo.{reducedZ};
+ghost use Rattle.numbers.specs.Sign.{is_neg, signed, up_from};
+ghost use Rattle.numbers.specs.Nearest.{nearest_n};
+ghost use Rattle.numbers.specs.Floor.{floor_z};
+ghost use Rattle.numbers.specs.Modulo.{reduced_z};
 ghost use Rattle.numbers.specs.Total.{fitted, divided, LowestOr};
 
 mod exact;
@@ -13,14 +15,14 @@ mod fits;
 
 // Whether x is below zero.
 pub fn below_zero(x: i64) -> bool
-    ensures answer { result ≡ isNeg x }
+    ensures { result ≡ is_neg x }
 {
     x < 0
 }
 
 // The magnitude of any i64, the least one too.
 pub fn magnitude(x: i64) -> u64
-    ensures answer { result ≡ nat_abs x }
+    ensures { result ≡ nat_abs x }
 {
     if x < 0 {
         let up = x + 1;
@@ -33,7 +35,7 @@ pub fn magnitude(x: i64) -> u64
 
 // A number where only those from 0 on have a meaning: a negative one becomes a number that no bound allows.
 pub fn up_from(x: i64) -> u64
-    ensures answer { result ≡ upFrom x }
+    ensures { result ≡ up_from x }
 {
     if below_zero(x) {
         return u64::MAX;
@@ -43,7 +45,7 @@ pub fn up_from(x: i64) -> u64
 
 // The number with this sign and magnitude; 0 where the magnitude is 2 ^ 63 or more.
 pub fn with_sign(minus: bool, m: u64) -> i64
-    ensures answer { result ≡ fitted m (signed minus m) }
+    ensures { result ≡ fitted m (signed minus m) }
 {
     if m >= fits::LIMIT {
         return 0;
@@ -53,7 +55,7 @@ pub fn with_sign(minus: bool, m: u64) -> i64
 
 // The sum; 0 where the magnitudes' sum is 2 ^ 63 or more.
 pub fn sum(x: i64, y: i64) -> i64
-    ensures answer { result ≡ fitted (nat_abs x + nat_abs y) (x +ℤ y) }
+    ensures { result ≡ fitted (nat_abs x + nat_abs y) (x +ℤ y) }
 {
     if fits::sum(magnitude(x), magnitude(y)) {
         return exact::sum(x, y);
@@ -63,7 +65,7 @@ pub fn sum(x: i64, y: i64) -> i64
 
 // The difference; 0 where the magnitudes' sum is 2 ^ 63 or more.
 pub fn difference(x: i64, y: i64) -> i64
-    ensures answer { result ≡ fitted (nat_abs x + nat_abs y) (x -ℤ y) }
+    ensures { result ≡ fitted (nat_abs x + nat_abs y) (x -ℤ y) }
 {
     if fits::sum(magnitude(x), magnitude(y)) {
         return exact::difference(x, y);
@@ -73,7 +75,7 @@ pub fn difference(x: i64, y: i64) -> i64
 
 // The product; 0 where the magnitudes' product is 2 ^ 63 or more.
 pub fn product(x: i64, y: i64) -> i64
-    ensures answer { result ≡ fitted (nat_abs x * nat_abs y) (x *ℤ y) }
+    ensures { result ≡ fitted (nat_abs x * nat_abs y) (x *ℤ y) }
 {
     if fits::product(magnitude(x), magnitude(y)) {
         return exact::product(x, y);
@@ -83,7 +85,7 @@ pub fn product(x: i64, y: i64) -> i64
 
 // The nearest whole number of a/n, halves up; 0 where n is 0.
 pub fn nearest(a: u64, n: u64) -> u64
-    ensures answer { result ≡ nearestN a n }
+    ensures { result ≡ nearest_n a n }
 {
     if n == 0 {
         return 0;
@@ -93,7 +95,7 @@ pub fn nearest(a: u64, n: u64) -> u64
 
 // x over d, cut off toward zero; 0 where x is the least i64 or d is 0.
 pub fn quotient(x: i64, d: i64) -> i64
-    ensures answer { result ≡ divided x d (quot_z x d) }
+    ensures { result ≡ divided x d (quot_z x d) }
 {
     if fits::division(magnitude(x), magnitude(d)) {
         return exact::quotient(x, d);
@@ -103,7 +105,7 @@ pub fn quotient(x: i64, d: i64) -> i64
 
 // What the truncated quotient leaves, with the dividend's sign; 0 where `quotient` gives 0 without dividing.
 pub fn remainder(x: i64, d: i64) -> i64
-    ensures answer { result ≡ divided x d (rem_z x d) }
+    ensures { result ≡ divided x d (rem_z x d) }
 {
     if fits::division(magnitude(x), magnitude(d)) {
         return exact::remainder(x, d);
@@ -113,7 +115,7 @@ pub fn remainder(x: i64, d: i64) -> i64
 
 // x over d, rounded down; 0 where `quotient` gives 0 without dividing.
 pub fn floor(x: i64, d: i64) -> i64
-    ensures answer { result ≡ divided x d (floorZ x d) }
+    ensures { result ≡ divided x d (floor_z x d) }
 {
     if fits::division(magnitude(x), magnitude(d)) {
         return exact::floor(x, d);
@@ -123,7 +125,7 @@ pub fn floor(x: i64, d: i64) -> i64
 
 // x reduced by whole n's, so that it lies from 0 up to n, which is not included; 0 where n is 0.
 pub fn reduced(x: i64, n: u64) -> u64
-    ensures answer { result ≡ reducedZ x n }
+    ensures { result ≡ reduced_z x n }
 {
     if n == 0 {
         return 0;
@@ -140,7 +142,7 @@ pub struct Ratio {
 
 // p/q in lowest terms; 0/1 where q is 0.
 pub fn lowest(p: u64, q: u64) -> Ratio
-    ensures answer { LowestOr p q result.num result.den }
+    ensures { LowestOr p q result.num result.den }
 {
     if q == 0 {
         return Ratio { num: 0, den: 1 };

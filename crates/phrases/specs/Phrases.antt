@@ -27,5 +27,5 @@ phrases =
     ∷ []
 
 -- the phrase of a number; a number that no refusal has has none
-unfoldable pub phraseOf : (number : ℕ) → List ℕ
-phraseOf number = get_or phrases number []
+unfoldable pub phrase_of : (number : ℕ) → List ℕ
+phrase_of number = get_or phrases number []

@@ -1,16 +1,18 @@
 // The phrase of a refusal, in words that can be read out: one fixed text for each number, 0 being nothing refused. Refuses 8, where it
 // has no room.
+#![tactic(auto)]
+
 ghost use Rattle.std.specs.Prelude.{◌≡◌, ◌<◌, ◌≤◌};
-ghost use Rattle.written.specs.Written.{Text, answerTo, lineTo};
-ghost use Rattle.phrases.specs.Phrases.{phraseOf};
+ghost use Rattle.written.specs.Written.{Text, answer_to, line_to};
+ghost use Rattle.phrases.specs.Phrases.{phrase_of};
 
 use written::Written;
 
 // Of texts, 0 to 3.
 fn of_a_text(number: u8, line: &mut [u8], place: usize) -> Written
-    requires number { (0 ≤ number) × (number ≤ 3) }
-    ensures answer { result ≡ answerTo line.old place (Text (phraseOf number)) }
-    ensures line { line.new ≡ lineTo line.old place (Text (phraseOf number)) }
+    requires { (0 ≤ number) × (number ≤ 3) }
+    ensures answer { result ≡ answer_to line.old place (Text (phrase_of number)) }
+    ensures line { line.new ≡ line_to line.old place (Text (phrase_of number)) }
 {
     match number {
         0 => written::write_text(b"accepted", line, place),
@@ -22,9 +24,9 @@ fn of_a_text(number: u8, line: &mut [u8], place: usize) -> Written
 
 // Of texts and numbers, 4 to 7.
 fn of_a_number(number: u8, line: &mut [u8], place: usize) -> Written
-    requires number { (4 ≤ number) × (number ≤ 7) }
-    ensures answer { result ≡ answerTo line.old place (Text (phraseOf number)) }
-    ensures line { line.new ≡ lineTo line.old place (Text (phraseOf number)) }
+    requires { (4 ≤ number) × (number ≤ 7) }
+    ensures answer { result ≡ answer_to line.old place (Text (phrase_of number)) }
+    ensures line { line.new ≡ line_to line.old place (Text (phrase_of number)) }
 {
     match number {
         4 => written::write_text(
@@ -40,9 +42,9 @@ fn of_a_number(number: u8, line: &mut [u8], place: usize) -> Written
 
 // Of lines and shot lists, 8 to 11.
 fn of_a_list(number: u8, line: &mut [u8], place: usize) -> Written
-    requires number { (8 ≤ number) × (number ≤ 11) }
-    ensures answer { result ≡ answerTo line.old place (Text (phraseOf number)) }
-    ensures line { line.new ≡ lineTo line.old place (Text (phraseOf number)) }
+    requires { (8 ≤ number) × (number ≤ 11) }
+    ensures answer { result ≡ answer_to line.old place (Text (phrase_of number)) }
+    ensures line { line.new ≡ line_to line.old place (Text (phrase_of number)) }
 {
     match number {
         8 => written::write_text(b"no room for what is to be written", line, place),
@@ -54,9 +56,9 @@ fn of_a_list(number: u8, line: &mut [u8], place: usize) -> Written
 
 // Of shots, film and positions, 12 to 15.
 fn of_a_kind(number: u8, line: &mut [u8], place: usize) -> Written
-    requires number { (12 ≤ number) × (number ≤ 15) }
-    ensures answer { result ≡ answerTo line.old place (Text (phraseOf number)) }
-    ensures line { line.new ≡ lineTo line.old place (Text (phraseOf number)) }
+    requires { (12 ≤ number) × (number ≤ 15) }
+    ensures answer { result ≡ answer_to line.old place (Text (phrase_of number)) }
+    ensures line { line.new ≡ line_to line.old place (Text (phrase_of number)) }
 {
     match number {
         12 => written::write_text(b"a shot ends before it begins", line, place),
@@ -68,9 +70,9 @@ fn of_a_kind(number: u8, line: &mut [u8], place: usize) -> Written
 
 // Of directories and queries, 16 and 17.
 fn of_a_query(number: u8, line: &mut [u8], place: usize) -> Written
-    requires number { (16 ≤ number) × (number ≤ 17) }
-    ensures answer { result ≡ answerTo line.old place (Text (phraseOf number)) }
-    ensures line { line.new ≡ lineTo line.old place (Text (phraseOf number)) }
+    requires { (16 ≤ number) × (number ≤ 17) }
+    ensures answer { result ≡ answer_to line.old place (Text (phrase_of number)) }
+    ensures line { line.new ≡ line_to line.old place (Text (phrase_of number)) }
 {
     match number {
         16 => written::write_text(b"a directory that breaks its rules", line, place),
@@ -80,8 +82,8 @@ fn of_a_query(number: u8, line: &mut [u8], place: usize) -> Written
 
 // The phrase of a number, laid down from `place` on; that of a number that no refusal has is empty. Refuses 8: no room.
 pub fn write_phrase(number: u8, line: &mut [u8], place: usize) -> Written
-    ensures answer { result ≡ answerTo line.old place (Text (phraseOf number)) }
-    ensures line { line.new ≡ lineTo line.old place (Text (phraseOf number)) }
+    ensures answer { result ≡ answer_to line.old place (Text (phrase_of number)) }
+    ensures line { line.new ≡ line_to line.old place (Text (phrase_of number)) }
 {
     if number <= 3 {
         return of_a_text(number, line, place);

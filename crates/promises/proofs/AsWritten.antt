@@ -6,27 +6,27 @@ use mathlib.Core.Logic.{◌⊎◌, inl, inr, ⊎_elim}
 use mathlib.Core.List.{List}
 use mathlib.Core.Bool.{Bool, true}
 use lib.IntN.{ℤ, pos, nat_abs}
-use Rattle.numbers.specs.Sign.{isNeg, signed}
-use Rattle.numbers.specs.SignLaws.{abs-signed, signed_back, isNeg-signed, signed-none}
+use Rattle.numbers.specs.Sign.{is_neg, signed}
+use Rattle.numbers.specs.SignLaws.{abs-signed, signed_back, is_neg-signed, signed-none}
 use Rattle.digits.specs.Digits.{value_of}
 use Rattle.digits.proofs.Leading.{leading_zeros, leading-decimal}
-use Rattle.answers.specs.Refusals.{isCount}
+use Rattle.answers.specs.Refusals.{is_count}
 use Rattle.film.specs.declared.FilmFormat.{FilmFormat}
 use Rattle.film.specs.declared.Footage.{Footage}
-use Rattle.film.specs.Film.{allowsPerfField}
-use Rattle.film.specs.Footage.{footageCount, footageOf}
+use Rattle.film.specs.Film.{allows_perf_field}
+use Rattle.film.specs.Footage.{footage_count, footage_of}
 use Rattle.film.specs.FootageLaws.{perf-modulo}
-use Rattle.film.proofs.Statements.{footage-back, footage-forth}
-use Rattle.footage_scan.specs.Shape.{FootageParts, hasPerf}
-use Rattle.footage_scan.proofs.Statements.{one-footage-shape, footage-fields}
-use Rattle.footage_writer.specs.FootageText.{footageText}
+use Rattle.film.proofs.Statements.{footage_back, footage_forth}
+use Rattle.footage_scan.specs.Shape.{FootageParts, has_perf}
+use Rattle.footage_scan.proofs.Statements.{one_footage_shape, footage-fields}
+use Rattle.footage_writer.specs.FootageText.{footage_text}
 use Rattle.reading.specs.declared.Stated.{Stated}
-use Rattle.reading.specs.Shaped.{formatFor}
-use Rattle.reading.specs.Reading.{takesPerf}
+use Rattle.reading.specs.Shaped.{format_for}
+use Rattle.reading.specs.Reading.{takes_perf}
 use Rattle.reading.specs.Statements.{FootageCount}
-use Rattle.reading.proofs.Statements.{footage-counted}
+use Rattle.reading.proofs.Statements.{footage_counted}
 use Rattle.promises.specs.AsWritten.{ButForZeros, Alike, AsWritten, ReadAsWritten}
-use Rattle.promises.proofs.WrittenFootage.{markerDigits, marker-digits, marker-some, marker-taken, written, parts_of, written-shape, written-text}
+use Rattle.promises.proofs.WrittenFootage.{marker_digits, marker-digits, marker-some, marker-taken, written, parts_of, written-shape, written-text}
 
 module _ (l : List ℕ) (stated : Stated) (format : FilmFormat) (count : ℤ) where
   -- ---- as written, then read
@@ -38,7 +38,7 @@ module _ (l : List ℕ) (stated : Stated) (format : FilmFormat) (count : ℤ) wh
     like : Alike count q (parts_of format count)
     like =
         subst (Alike count q)
-        (one-footage-shape (footageText format count) y.written (parts_of format count) y.shape (written-shape format count))
+        (one_footage_shape (footage_text format count) y.written (parts_of format count) y.shape (written-shape format count))
         y.alike
 
     feet-is : value_of q.feet ≡ (written format count).feet
@@ -47,15 +47,15 @@ module _ (l : List ℕ) (stated : Stated) (format : FilmFormat) (count : ℤ) wh
     frames-is : value_of q.frames ≡ (written format count).frames
     frames-is = (leading-decimal q.frames 2 (written format count).frames (footage-fields l q y.text.shape).1.digits).1 like.frames
 
-    takes : takesPerf format (hasPerf q.perf) ≡ true
-    takes = marker-taken (allowsPerfField format) (written format count).perf (hasPerf q.perf) (λ h. (like.marker h).0)
+    takes : takes_perf format (has_perf q.perf) ≡ true
+    takes = marker-taken (allows_perf_field format) (written format count).perf (has_perf q.perf) (λ h. (like.marker h).0)
 
-    marker-is : hasPerf q.perf ≡ true → value_of q.perf ≡ value_of q.feet % 3
+    marker-is : has_perf q.perf ≡ true → value_of q.perf ≡ value_of q.feet % 3
     marker-is h =
         let perf = (written format count).perf in
-        let has = allowsPerfField format in
-        let some = marker-some has perf (ap (takesPerf format) (sym h) ∙ takes) in
-        (leading_zeros q.perf (markerDigits has perf) y.text.shape.shape.digits (marker-digits has perf)).1 (like.marker h).1
+        let has = allows_perf_field format in
+        let some = marker-some has perf (ap (takes_perf format) (sym h) ∙ takes) in
+        (leading_zeros q.perf (marker_digits has perf) y.text.shape.shape.digits (marker-digits has perf)).1 (like.marker h).1
         ∙ some.1
         ∙ perf-modulo format (nat_abs count)
         ∙ ap (λ (f : ℕ). f % 3) (sym feet-is)
@@ -73,8 +73,8 @@ module _ (l : List ℕ) (stated : Stated) (format : FilmFormat) (count : ℤ) wh
           parts = q;
           text = y.text;
           in-format = record { chosen = y.chosen; takes = takes };
-          on = record { occurs = record { count = nat_abs count; feet-of = sym feet-is; frames-of = sym frames-is }; modulo = marker-is };
-          count = ap (signed q.minus) (ap₂ (footageCount format) feet-is frames-is ∙ footage-back format (nat_abs count)) ∙ signed_is;
+          on = record { occurs = record { count = nat_abs count; feet_of = sym feet-is; frames_of = sym frames-is }; modulo = marker-is };
+          count = ap (signed q.minus) (ap₂ (footage_count format) feet-is frames-is ∙ footage_back format (nat_abs count)) ∙ signed_is;
         }
 
   -- ---- read, then as written
@@ -83,13 +83,13 @@ module _ (l : List ℕ) (stated : Stated) (format : FilmFormat) (count : ℤ) wh
     p = x.parts
 
     abbrev total : ℕ
-    total = footageCount format (value_of p.feet) (value_of p.frames)
+    total = footage_count format (value_of p.feet) (value_of p.frames)
 
     -- feet and frames of the count are those of the text, and the marker is feet modulo 3
     same : written format count ≡ record { feet = value_of p.feet; frames = value_of p.frames; perf = value_of p.feet % 3 }
     same =
         let is : total ≡ nat_abs count = sym (abs-signed p.minus total) ∙ ap nat_abs x.count in
-        ap (footageOf format) (sym is) ∙ footage-forth format (value_of p.feet) (value_of p.frames) x.on.occurs
+        ap (footage_of format) (sym is) ∙ footage_forth format (value_of p.feet) (value_of p.frames) x.on.occurs
 
     feet-same : value_of p.feet ≡ (written format count).feet
     feet-same = sym (ap (λ (f : Footage). f.feet) same)
@@ -97,19 +97,19 @@ module _ (l : List ℕ) (stated : Stated) (format : FilmFormat) (count : ℤ) wh
     frames-same : value_of p.frames ≡ (written format count).frames
     frames-same = sym (ap (λ (f : Footage). f.frames) same)
 
-    marker-alike : hasPerf p.perf ≡ true
-        → (hasPerf (parts_of format count).perf ≡ true) × ButForZeros p.perf (parts_of format count).perf
+    marker-alike : has_perf p.perf ≡ true
+        → (has_perf (parts_of format count).perf ≡ true) × ButForZeros p.perf (parts_of format count).perf
     marker-alike h =
         let perf = (written format count).perf in
-        let has = allowsPerfField format in
-        let some = marker-some has perf (ap (takesPerf format) (sym h) ∙ x.in-format.takes) in (
+        let has = allows_perf_field format in
+        let some = marker-some has perf (ap (takes_perf format) (sym h) ∙ x.in-format.takes) in (
           some.0,
-          (leading_zeros p.perf (markerDigits has perf) x.text.shape.shape.digits (marker-digits has perf)).0
+          (leading_zeros p.perf (marker_digits has perf) x.text.shape.shape.digits (marker-digits has perf)).0
               (x.on.modulo h ∙ sym (ap (λ (f : Footage). f.perf) same) ∙ sym some.1),
         )
 
-    sign-alike : (p.minus ≡ isNeg count) ⊎ (count ≡ pos 0)
-    sign-alike = ⊎_elim (λ e. inl (e ∙ ap isNeg x.count)) (λ z. inr (sym x.count ∙ z)) (isNeg-signed p.minus total)
+    sign-alike : (p.minus ≡ is_neg count) ⊎ (count ≡ pos 0)
+    sign-alike = ⊎_elim (λ e. inl (e ∙ ap is_neg x.count)) (λ z. inr (sym x.count ∙ z)) (is_neg-signed p.minus total)
 
     as_written : AsWritten l stated format count
     as_written =
@@ -128,15 +128,15 @@ module _ (l : List ℕ) (stated : Stated) (format : FilmFormat) (count : ℤ) wh
           };
         }
 
-pub read-as-written : ReadAsWritten
-read-as-written l stated rate format count a = (
-  λ e. let x = (footage-counted l stated rate format count a).0 e in (as_written l stated format count x.0, x.1),
-  λ y. (footage-counted l stated rate format count a).1 (footage-count l stated format count y.0, y.1),
+pub read_as_written : ReadAsWritten
+read_as_written l stated rate format count a = (
+  λ e. let x = (footage_counted l stated rate format count a).0 e in (as_written l stated format count x.0, x.1),
+  λ y. (footage_counted l stated rate format count a).1 (footage-count l stated format count y.0, y.1),
 )
 
 -- what is written is so itself
-pub itself : (stated : Stated) (format : FilmFormat) (count : ℤ) → isCount count ≡ true
-    → formatFor stated (hasPerf (parts_of format count).perf) ≡ format → AsWritten (footageText format count) stated format count
+pub itself : (stated : Stated) (format : FilmFormat) (count : ℤ) → is_count count ≡ true
+    → format_for stated (has_perf (parts_of format count).perf) ≡ format → AsWritten (footage_text format count) stated format count
 itself stated format count c chosen =
     record {
       parts = parts_of format count;

@@ -31,33 +31,33 @@ use Rattle.timecodes.specs.Timecode.{timecode}
 use Rattle.timecodes.specs.Timecode as answered
 use Rattle.written.specs.declared.Written.{Written}
 use Rattle.written.specs.declared.Written.TheVariants.{Length, Refused}
-use Rattle.written.specs.Written.{Draft, Text, answerTo, lineTo, number_of, length_of}
-use Rattle.phrases.specs.Phrases.{phraseOf}
-use Rattle.written.proofs.Statements.{refused-keeps}
+use Rattle.written.specs.Written.{Draft, Text, answer_to, line_to, number_of, length_of}
+use Rattle.phrases.specs.Phrases.{phrase_of}
+use Rattle.written.proofs.Statements.{refused_keeps}
 use Rattle.label_writer.specs.declared.Sectioned.{Sectioned}
 use Rattle.label_writer.specs.declared.Sectioned.TheVariants as sectioned
 use Rattle.label_writer.specs.Sections as fields
-use Rattle.label_writer.specs.LabelText.{labelDraft}
-use Rattle.footage_writer.specs.FootageText.{footageDraft}
-use Rattle.runtime_writer.specs.RuntimeText.{runtimeDraft}
-use Rattle.shot_writer.specs.ListText.{listDraft}
-use Rattle.promises.specs.Demand1.{noSections, RefusedZero, KeepsLine, RefusedKeepsLine}
+use Rattle.label_writer.specs.LabelText.{label_draft}
+use Rattle.footage_writer.specs.FootageText.{footage_draft}
+use Rattle.runtime_writer.specs.RuntimeText.{runtime_draft}
+use Rattle.shot_writer.specs.ListText.{list_draft}
+use Rattle.promises.specs.Demand1.{no_sections, RefusedZero, KeepsLine, RefusedKeepsLine}
 
 -- ---- numbers
 count-zero : (a : Counted) → 0 < count.number_of a → count.count_of a ≡ pos 0
 count-zero (counted.Count z) h = absurd (omega arith)
 count-zero (counted.Refused e) h = refl
 
-text-zero : (a : Read) → 0 < text.number_of a → (text.timecodeOf a ≡ timecode (pos 0) 0) × (text.format_of a ≡ 0)
+text-zero : (a : Read) → 0 < text.number_of a → (text.timecode_of a ≡ timecode (pos 0) 0) × (text.format_of a ≡ 0)
 text-zero (read.Label z) h = absurd (omega arith)
 text-zero (read.Footage z format) h = absurd (omega arith)
 text-zero (read.Refused e) h = (refl, refl)
 
-ticks-zero : (a : Ticked) → 0 < ticks.number_of a → ticks.ticksIn a ≡ pos 0
+ticks-zero : (a : Ticked) → 0 < ticks.number_of a → ticks.ticks_in a ≡ pos 0
 ticks-zero (ticked.Ticks t) h = absurd (omega arith)
 ticks-zero (ticked.Refused e) h = refl
 
-seconds-zero : (a : Timed) → 0 < seconds.number_of a → (seconds.numeratorOf a ≡ pos 0) × (seconds.denominatorOf a ≡ 1)
+seconds-zero : (a : Timed) → 0 < seconds.number_of a → (seconds.numerator_of a ≡ pos 0) × (seconds.denominator_of a ≡ 1)
 seconds-zero (timed.Seconds p q) h = absurd (omega arith)
 seconds-zero (timed.Refused e) h = (refl, refl)
 
@@ -65,11 +65,11 @@ order-zero : (a : Compared) → 0 < order.number_of a → order.order_in a ≡ p
 order-zero (compared.Order o) h = absurd (omega arith)
 order-zero (compared.Refused e) h = refl
 
-answer-zero : (a : Answer) → 0 < answered.number_of a → answered.timecodeOf a ≡ timecode (pos 0) 0
+answer-zero : (a : Answer) → 0 < answered.number_of a → answered.timecode_of a ≡ timecode (pos 0) 0
 answer-zero (answer-is.At tc) h = absurd (omega arith)
 answer-zero (answer-is.Refused e) h = refl
 
-sections-zero : (a : Sectioned) → 0 < fields.number_of a → fields.sectionsIn a ≡ noSections
+sections-zero : (a : Sectioned) → 0 < fields.number_of a → fields.sections_in a ≡ no_sections
 sections-zero (sectioned.Sections x) h = absurd (omega arith)
 sections-zero (sectioned.Refused e) h = refl
 
@@ -81,8 +81,8 @@ format-zero : (a : Filmed) → 0 < film.number_of a → film.format_of a ≡ 0
 format-zero (filmed.Format f) h = absurd (omega arith)
 format-zero (filmed.Refused e) h = refl
 
-pub refused-zero : RefusedZero
-refused-zero = record {
+pub refused_zero : RefusedZero
+refused_zero = record {
   count = count-zero;
   text = text-zero;
   ticks = ticks-zero;
@@ -96,17 +96,17 @@ refused-zero = record {
 
 -- ---- lines
 keeps_line : (draft : Draft) → KeepsLine draft
-keeps_line draft line place h = by (answerTo line place draft) refl h
+keeps_line draft line place h = by (answer_to line place draft) refl h
   where
-    by : (a : Written) → answerTo line place draft ≡ a → 0 < number_of a → (length_of a ≡ 0) × (lineTo line place draft ≡ line)
+    by : (a : Written) → answer_to line place draft ≡ a → 0 < number_of a → (length_of a ≡ 0) × (line_to line place draft ≡ line)
     by (Length n) e h = absurd (omega arith)
-    by (Refused r) e h = (refl, refused-keeps line place draft r e)
+    by (Refused r) e h = (refl, refused_keeps line place draft r e)
 
-pub refused-keeps-line : RefusedKeepsLine
-refused-keeps-line = record {
-  label = λ tc. keeps_line (labelDraft tc);
-  footage = λ tc format. keeps_line (footageDraft tc format);
-  runtime = λ tc precision. keeps_line (runtimeDraft tc precision);
-  list = λ given. keeps_line (listDraft given);
-  phrase = λ number. keeps_line (Text (phraseOf number));
+pub refused_keeps_line : RefusedKeepsLine
+refused_keeps_line = record {
+  label = λ tc. keeps_line (label_draft tc);
+  footage = λ tc format. keeps_line (footage_draft tc format);
+  runtime = λ tc precision. keeps_line (runtime_draft tc precision);
+  list = λ given. keeps_line (list_draft given);
+  phrase = λ number. keeps_line (Text (phrase_of number));
 }

@@ -3,15 +3,15 @@
 use mathlib.Core.Path.{◌≡◌, refl}
 use Rattle.router.specs.declared.Routed.{Routed}
 use Rattle.router.specs.declared.Routed.TheVariants.{Shards, Refused}
-use Rattle.router.specs.Route.{routeOf}
+use Rattle.router.specs.Route.{route_of}
 use Rattle.exports.specs.declared.route.TzqShards.{TzqShards}
-use Rattle.exports.specs.HandedRoute.{handedRouted}
+use Rattle.exports.specs.HandedRoute.{handed_routed}
 use Rattle.promises.specs.RouteC.{ShardsAre, RouteForC}
 
-shards-are : (t : TzqShards) (r : Routed) → t ≡ handedRouted r → ShardsAre t r
-unfolding handedRouted
-shards-are t (Shards first after) e = rw e (record { refused-is = refl; place_is = refl; first-is = refl; after_is = refl })
-shards-are t (Refused f) e = rw e (record { refused-is = refl; place_is = refl; first-is = refl; after_is = refl })
+shards-are : (t : TzqShards) (r : Routed) → t ≡ handed_routed r → ShardsAre t r
+unfolding handed_routed
+shards-are t (Shards first after) e = rw e (record { refused_is = refl; place_is = refl; first-is = refl; after_is = refl })
+shards-are t (Refused f) e = rw e (record { refused_is = refl; place_is = refl; first-is = refl; after_is = refl })
 
-pub route-for-c : RouteForC
-route-for-c κs a x p = shards-are x.0 (routeOf a.0 a.1.0.now a.1.1.0.now a.1.1.1.0 a.1.1.1.1.0.now) p
+pub route_for_c : RouteForC
+route_for_c κs a x p = shards-are x.0 (route_of a.0 a.1.0.now a.1.1.0.now a.1.1.1.0 a.1.1.1.1.0.now) p

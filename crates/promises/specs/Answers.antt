@@ -8,4 +8,4 @@ use Rattle.outcomes.specs.Outcome.{Times, Asks, Tells, Determined}
 -- (That the function ends with such an outcome is its own theorem.)
 pub record Answers (T : Ended) (asks : Asks T) (tells : Tells T) : Type 0 where
   pub asks_nothing : (κs : Times T) (a : Args T.signature κs) → asks κs a
-  pub one-outcome : Determined T asks tells
+  pub one_outcome : Determined T asks tells

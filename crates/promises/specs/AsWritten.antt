@@ -2,15 +2,15 @@
 -- Assumes nothing.
 use Rattle.std.specs.Prelude.{ℕ, ◌≡◌, ◌↔◌, ◌⊎◌, List, true, ℤ, pos}
 use Rattle.digits.specs.Digits.{significant}
-use Rattle.answers.specs.Refusals.{isCount}
+use Rattle.answers.specs.Refusals.{is_count}
 use Rattle.timecodes.specs.Timecode.{timecode}
 use Rattle.film.specs.declared.FilmFormat.{FilmFormat}
-use Rattle.footage_scan.specs.Shape.{FootageParts, FootageShape, hasPerf}
-use Rattle.footage_writer.specs.FootageText.{footageText}
+use Rattle.footage_scan.specs.Shape.{FootageParts, FootageShape, has_perf}
+use Rattle.footage_writer.specs.FootageText.{footage_text}
 use Rattle.reading.specs.declared.Stated.{Stated}
 use Rattle.reading.specs.declared.Read.TheVariants.{Footage}
-use Rattle.reading.specs.Shaped.{formatFor}
-use Rattle.reading.specs.Reading.{readText}
+use Rattle.reading.specs.Shaped.{format_for}
+use Rattle.reading.specs.Reading.{read_text}
 use Rattle.reading.specs.Statements.{RateAndFormat, FootageText}
 
 -- two fields are the same but for leading zeros
@@ -21,7 +21,7 @@ ButForZeros d e = significant d ≡ significant e
 pub record Alike (count : ℤ) (p q : FootageParts) : Type 0 where
   pub feet : ButForZeros p.feet q.feet
   pub frames : ButForZeros p.frames q.frames
-  pub marker : hasPerf p.perf ≡ true → (hasPerf q.perf ≡ true) × ButForZeros p.perf q.perf
+  pub marker : has_perf p.perf ≡ true → (has_perf q.perf ≡ true) × ButForZeros p.perf q.perf
   pub sign : (p.minus ≡ q.minus) ⊎ (count ≡ pos 0)
 
 -- a text, no field of over 9 digits, is so what the writer gives for a count in this film format: the stated one, or that which its marker
@@ -29,13 +29,13 @@ pub record Alike (count : ℤ) (p q : FootageParts) : Type 0 where
 pub record AsWritten (l : List ℕ) (stated : Stated) (format : FilmFormat) (count : ℤ) : Type 0 where
   pub parts : FootageParts
   pub text : FootageText l parts
-  pub chosen : formatFor stated (hasPerf parts.perf) ≡ format
+  pub chosen : format_for stated (has_perf parts.perf) ≡ format
   pub written : FootageParts
-  pub shape : FootageShape (footageText format count) written
+  pub shape : FootageShape (footage_text format count) written
   pub alike : Alike count parts written
 
 -- a text is read as a footage exactly when it is so what the writer gives for its count
 abbrev pub ReadAsWritten : Type 0
 ReadAsWritten =
     (l : List ℕ) (stated : Stated) (rate : ℕ) (format : FilmFormat) (count : ℤ) → RateAndFormat stated rate
-    → (readText l stated rate ≡ Footage (timecode count rate) format) ↔ (AsWritten l stated format count × (isCount count ≡ true))
+    → (read_text l stated rate ≡ Footage (timecode count rate) format) ↔ (AsWritten l stated format count × (is_count count ≡ true))

@@ -3,13 +3,13 @@
 use Rattle.promises.specs.Answers.{Answers}
 use Rattle.reading.specs.contracts.read_text as read-text
 use Rattle.reading.proofs.read_text.Reads as read-text-reads
-use Rattle.reading.specs.contracts.read_label_only as read-label-only
+use Rattle.reading.specs.contracts.read_label_only as read_label_only
 use Rattle.reading.proofs.read_label_only.Reads as read-label-only-reads
-use Rattle.reading.specs.contracts.number as reading-number
+use Rattle.reading.specs.contracts.number as reading_number
 use Rattle.reading.proofs.number.Reads as reading-number-reads
 use Rattle.reasons.specs.contracts.why as why
 use Rattle.reasons.proofs.why.Reads as why-reads
-use Rattle.phrases.specs.contracts.write_phrase as write-phrase
+use Rattle.phrases.specs.contracts.write_phrase as write_phrase
 use Rattle.phrases.proofs.write_phrase.Reads as write-phrase-reads
 use Rattle.runtime_reading.specs.contracts.read_runtime as read-runtime
 use Rattle.runtime_reading.proofs.read_runtime.Reads as read-runtime-reads
@@ -17,23 +17,23 @@ use Rattle.label_writer.specs.contracts.sections as sections
 use Rattle.label_writer.proofs.sections.Reads as sections-reads
 use Rattle.label_writer.specs.contracts.sections_length as sections-length
 use Rattle.label_writer.proofs.sections_length.Reads as sections-length-reads
-use Rattle.label_writer.specs.contracts.put_sections as put-sections
+use Rattle.label_writer.specs.contracts.put_sections as put_sections
 use Rattle.label_writer.proofs.put_sections.Reads as put-sections-reads
-use Rattle.label_writer.specs.contracts.write_label as write-label
+use Rattle.label_writer.specs.contracts.write_label as write_label
 use Rattle.label_writer.proofs.write_label.Reads as write-label-reads
-use Rattle.footage_writer.specs.contracts.write_footage as write-footage
+use Rattle.footage_writer.specs.contracts.write_footage as write_footage
 use Rattle.footage_writer.proofs.write_footage.Reads as write-footage-reads
-use Rattle.runtime_writer.specs.contracts.write_runtime as write-runtime
+use Rattle.runtime_writer.specs.contracts.write_runtime as write_runtime
 use Rattle.runtime_writer.proofs.write_runtime.Reads as write-runtime-reads
 use Rattle.time.specs.contracts.is_fraction as is-fraction
 use Rattle.time.proofs.is_fraction.Reads as is-fraction-reads
-use Rattle.time.specs.contracts.with_frames as with-frames
+use Rattle.time.specs.contracts.with_frames as with_frames
 use Rattle.time.proofs.with_frames.Reads as with-frames-reads
-use Rattle.time.specs.contracts.with_premiere_ticks as with-premiere-ticks
+use Rattle.time.specs.contracts.with_premiere_ticks as with_premiere_ticks
 use Rattle.time.proofs.with_premiere_ticks.Reads as with-premiere-ticks-reads
-use Rattle.time.specs.contracts.with_seconds as with-seconds
+use Rattle.time.specs.contracts.with_seconds as with_seconds
 use Rattle.time.proofs.with_seconds.Reads as with-seconds-reads
-use Rattle.time.specs.contracts.premiere_ticks as premiere-ticks
+use Rattle.time.specs.contracts.premiere_ticks as premiere_ticks
 use Rattle.time.proofs.premiere_ticks.Reads as premiere-ticks-reads
 use Rattle.time.specs.contracts.seconds as seconds
 use Rattle.time.proofs.seconds.Reads as seconds-reads
@@ -61,17 +61,17 @@ use Rattle.arithmetic.specs.contracts.rebase as rebase
 use Rattle.arithmetic.proofs.rebase.Reads as rebase-reads
 use Rattle.chains.specs.contracts.convert as convert
 use Rattle.chains.proofs.convert.Reads as convert-reads
-use Rattle.shot_lists.specs.contracts.record_at as record-at
+use Rattle.shot_lists.specs.contracts.record_at as record_at
 use Rattle.shot_lists.proofs.record_at.Reads as record-at-reads
-use Rattle.shot_lists.specs.contracts.check_list as check-list
+use Rattle.shot_lists.specs.contracts.check_list as check_list
 use Rattle.shot_lists.proofs.check_list.Reads as check-list-reads
-use Rattle.shot_lists.specs.contracts.given_at as given-at
+use Rattle.shot_lists.specs.contracts.given_at as given_at
 use Rattle.shot_lists.proofs.given_at.Reads as given-at-reads
-use Rattle.shot_writer.specs.contracts.write_list as write-list
+use Rattle.shot_writer.specs.contracts.write_list as write_list
 use Rattle.shot_writer.proofs.write_list.Reads as write-list-reads
-use Rattle.router.specs.contracts.check_directory as check-directory
+use Rattle.router.specs.contracts.check_directory as check_directory
 use Rattle.router.proofs.check_directory.Reads as check-directory-reads
-use Rattle.router.specs.contracts.query_range as query-range
+use Rattle.router.specs.contracts.query_range as query_range
 use Rattle.router.proofs.query_range.Reads as query-range-reads
 use Rattle.router.specs.contracts.route as route
 use Rattle.router.proofs.route.Reads as route-reads
@@ -79,21 +79,21 @@ use Rattle.router.specs.contracts.tested as tested
 use Rattle.router.proofs.tested.Reads as tested_reads
 use Rattle.router.specs.contracts.verdict as verdict
 use Rattle.router.proofs.verdict.Reads as verdict-reads
-use Rattle.router.specs.contracts.route_tested as route-tested
+use Rattle.router.specs.contracts.route_tested as route_tested
 use Rattle.router.proofs.route_tested.Reads as route-tested-reads
 use Rattle.answers.specs.contracts.number as answers_number
 use Rattle.answers.proofs.number.Reads as answers-number-reads
-use Rattle.answers.specs.contracts.count as answers-count
+use Rattle.answers.specs.contracts.count as answers_count
 use Rattle.answers.proofs.count.Reads as answers-count-reads
-use Rattle.timecodes.specs.contracts.number as timecodes-number
+use Rattle.timecodes.specs.contracts.number as timecodes_number
 use Rattle.timecodes.proofs.number.Reads as timecodes-number-reads
-use Rattle.timecodes.specs.contracts.timecode_of as timecodes-timecode-of
+use Rattle.timecodes.specs.contracts.timecode_of as timecodes_timecode_of
 use Rattle.timecodes.proofs.timecode_of.Reads as timecodes-timecode-of-reads
-use Rattle.written.specs.contracts.number as written-number
+use Rattle.written.specs.contracts.number as written_number
 use Rattle.written.proofs.number.Reads as written-number-reads
-use Rattle.written.specs.contracts.length as written-length
+use Rattle.written.specs.contracts.length as written_length
 use Rattle.written.proofs.length.Reads as written-length-reads
-use Rattle.rates.specs.contracts.framerate_at as framerate-at
+use Rattle.rates.specs.contracts.framerate_at as framerate_at
 use Rattle.rates.proofs.framerate_at.Reads as framerate-at-reads
 use Rattle.film.specs.contracts.format_at as format-at
 use Rattle.film.proofs.format_at.Reads as format-at-reads
@@ -104,23 +104,23 @@ use Rattle.minutes.proofs.minute_start.Reads as minute-start-reads
 pub record OneAnswer : Type 0 where
   -- reading
   pub read-text : Answers read-text.ended read-text-reads.Asked read-text-reads.Learnt
-  pub read-label-only : Answers read-label-only.ended read-label-only-reads.Asked read-label-only-reads.Learnt
+  pub read_label_only : Answers read_label_only.ended read-label-only-reads.Asked read-label-only-reads.Learnt
   pub read-runtime : Answers read-runtime.ended read-runtime-reads.Asked read-runtime-reads.Learnt
   pub why : Answers why.ended why-reads.Asked why-reads.Learnt
   -- writing
-  pub write-phrase : Answers write-phrase.ended write-phrase-reads.Asked write-phrase-reads.Learnt
+  pub write_phrase : Answers write_phrase.ended write-phrase-reads.Asked write-phrase-reads.Learnt
   pub sections : Answers sections.ended sections-reads.Asked sections-reads.Learnt
   pub sections-length : Answers sections-length.ended sections-length-reads.Asked sections-length-reads.Learnt
-  pub put-sections : Answers put-sections.ended put-sections-reads.Asked put-sections-reads.Learnt
-  pub write-label : Answers write-label.ended write-label-reads.Asked write-label-reads.Learnt
-  pub write-footage : Answers write-footage.ended write-footage-reads.Asked write-footage-reads.Learnt
-  pub write-runtime : Answers write-runtime.ended write-runtime-reads.Asked write-runtime-reads.Learnt
+  pub put_sections : Answers put_sections.ended put-sections-reads.Asked put-sections-reads.Learnt
+  pub write_label : Answers write_label.ended write-label-reads.Asked write-label-reads.Learnt
+  pub write_footage : Answers write_footage.ended write-footage-reads.Asked write-footage-reads.Learnt
+  pub write_runtime : Answers write_runtime.ended write-runtime-reads.Asked write-runtime-reads.Learnt
   -- time
   pub is-fraction : Answers is-fraction.ended is-fraction-reads.Asked is-fraction-reads.Learnt
-  pub with-frames : Answers with-frames.ended with-frames-reads.Asked with-frames-reads.Learnt
-  pub with-premiere-ticks : Answers with-premiere-ticks.ended with-premiere-ticks-reads.Asked with-premiere-ticks-reads.Learnt
-  pub with-seconds : Answers with-seconds.ended with-seconds-reads.Asked with-seconds-reads.Learnt
-  pub premiere-ticks : Answers premiere-ticks.ended premiere-ticks-reads.Asked premiere-ticks-reads.Learnt
+  pub with_frames : Answers with_frames.ended with-frames-reads.Asked with-frames-reads.Learnt
+  pub with_premiere_ticks : Answers with_premiere_ticks.ended with-premiere-ticks-reads.Asked with-premiere-ticks-reads.Learnt
+  pub with_seconds : Answers with_seconds.ended with-seconds-reads.Asked with-seconds-reads.Learnt
+  pub premiere_ticks : Answers premiere_ticks.ended premiere-ticks-reads.Asked premiere-ticks-reads.Learnt
   pub seconds : Answers seconds.ended seconds-reads.Asked seconds-reads.Learnt
   -- arithmetic
   pub add : Answers add.ended add_reads.Asked add_reads.Learnt
@@ -137,26 +137,26 @@ pub record OneAnswer : Type 0 where
   -- chains
   pub convert : Answers convert.ended convert-reads.Asked convert-reads.Learnt
   -- shot lists
-  pub record-at : Answers record-at.ended record-at-reads.Asked record-at-reads.Learnt
-  pub check-list : Answers check-list.ended check-list-reads.Asked check-list-reads.Learnt
-  pub given-at : Answers given-at.ended given-at-reads.Asked given-at-reads.Learnt
-  pub write-list : Answers write-list.ended write-list-reads.Asked write-list-reads.Learnt
+  pub record_at : Answers record_at.ended record-at-reads.Asked record-at-reads.Learnt
+  pub check_list : Answers check_list.ended check-list-reads.Asked check-list-reads.Learnt
+  pub given_at : Answers given_at.ended given-at-reads.Asked given-at-reads.Learnt
+  pub write_list : Answers write_list.ended write-list-reads.Asked write-list-reads.Learnt
   -- the router
-  pub check-directory : Answers check-directory.ended check-directory-reads.Asked check-directory-reads.Learnt
-  pub query-range : Answers query-range.ended query-range-reads.Asked query-range-reads.Learnt
+  pub check_directory : Answers check_directory.ended check-directory-reads.Asked check-directory-reads.Learnt
+  pub query_range : Answers query_range.ended query-range-reads.Asked query-range-reads.Learnt
   pub route : Answers route.ended route-reads.Asked route-reads.Learnt
   pub tested : Answers tested.ended tested_reads.Asked tested_reads.Learnt
   pub verdict : Answers verdict.ended verdict-reads.Asked verdict-reads.Learnt
-  pub route-tested : Answers route-tested.ended route-tested-reads.Asked route-tested-reads.Learnt
+  pub route_tested : Answers route_tested.ended route-tested-reads.Asked route-tested-reads.Learnt
   -- what an answer holds
   pub answers_number : Answers answers_number.ended answers-number-reads.Asked answers-number-reads.Learnt
-  pub answers-count : Answers answers-count.ended answers-count-reads.Asked answers-count-reads.Learnt
-  pub reading-number : Answers reading-number.ended reading-number-reads.Asked reading-number-reads.Learnt
-  pub timecodes-number : Answers timecodes-number.ended timecodes-number-reads.Asked timecodes-number-reads.Learnt
-  pub timecodes-timecode-of : Answers timecodes-timecode-of.ended timecodes-timecode-of-reads.Asked timecodes-timecode-of-reads.Learnt
-  pub written-number : Answers written-number.ended written-number-reads.Asked written-number-reads.Learnt
-  pub written-length : Answers written-length.ended written-length-reads.Asked written-length-reads.Learnt
+  pub answers_count : Answers answers_count.ended answers-count-reads.Asked answers-count-reads.Learnt
+  pub reading_number : Answers reading_number.ended reading-number-reads.Asked reading-number-reads.Learnt
+  pub timecodes_number : Answers timecodes_number.ended timecodes-number-reads.Asked timecodes-number-reads.Learnt
+  pub timecodes_timecode_of : Answers timecodes_timecode_of.ended timecodes-timecode-of-reads.Asked timecodes-timecode-of-reads.Learnt
+  pub written_number : Answers written_number.ended written-number-reads.Asked written-number-reads.Learnt
+  pub written_length : Answers written_length.ended written-length-reads.Asked written-length-reads.Learnt
   -- the tables
-  pub framerate-at : Answers framerate-at.ended framerate-at-reads.Asked framerate-at-reads.Learnt
+  pub framerate_at : Answers framerate_at.ended framerate-at-reads.Asked framerate-at-reads.Learnt
   pub format-at : Answers format-at.ended format-at-reads.Asked format-at-reads.Learnt
   pub minute-start : Answers minute-start.ended minute-start-reads.Asked minute-start-reads.Learnt

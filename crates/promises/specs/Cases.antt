@@ -2,26 +2,26 @@
 -- Assumes nothing.
 use Rattle.std.specs.Prelude.{ℕ, ◌≡◌, true, List, [], ◌∷◌, ℤ, pos, negsuc}
 use Prim.Native.String.{String}
-use Rattle.answers.specs.Refusals.{refusal, atPlace}
-use Rattle.rates.specs.Rates.{isRate}
+use Rattle.answers.specs.Refusals.{refusal, at_place}
+use Rattle.rates.specs.Rates.{is_rate}
 use Rattle.film.specs.declared.FilmFormat.{FilmFormat}
 use Rattle.film.specs.declared.FilmFormat.TheVariants.{FF35mm3perf, FF35mm2perf, FF16mm}
-use Rattle.film.specs.Film.{formatNumber}
+use Rattle.film.specs.Film.{format_number}
 use Rattle.reading.specs.declared.Stated.{Stated}
 use Rattle.reading.specs.declared.Stated.TheVariants.{Nothing, Format}
 use Rattle.reading.specs.declared.Read.TheVariants.{Label, Footage, Refused}
 use Rattle.reading.specs.Answer.{number_of}
-use Rattle.reading.specs.Reading.{readText}
-use Rattle.label_writer.specs.LabelText.{labelText}
-use Rattle.footage_writer.specs.FootageText.{footageText}
+use Rattle.reading.specs.Reading.{read_text}
+use Rattle.label_writer.specs.LabelText.{label_text}
+use Rattle.footage_writer.specs.FootageText.{footage_text}
 use Rattle.shot_lists.specs.declared.records.Record.{Record}
 use Rattle.shot_lists.specs.declared.records.Record.TheVariants.{Rate, Shot, Reel}
-use Rattle.shot_lists.specs.Entries.{onDisk, inNumbers}
+use Rattle.shot_lists.specs.Entries.{on_disk, in_numbers}
 use Rattle.shot_lists.specs.Reading.{AllOf, FaultOf, read_of}
-use Rattle.shot_writer.specs.ListText.{listBytes}
+use Rattle.shot_writer.specs.ListText.{list_bytes}
 use Rattle.arithmetic.specs.Truncating.{div_of}
-use Rattle.arithmetic.specs.Flooring.{divqOf}
-use Rattle.arithmetic.specs.Sum.{addOf}
+use Rattle.arithmetic.specs.Flooring.{divq_of}
+use Rattle.arithmetic.specs.Sum.{add_of}
 use Rattle.timecodes.specs.declared.Answer.TheVariants.{At}
 use Rattle.timecodes.specs.Timecode.{timecode}
 use Rattle.chains.specs.Chain.{convert_of}
@@ -34,8 +34,8 @@ pub data Case : Type 0 where
   stops : (stated : Stated) (rate : ℕ) (text : String) (number place : ℕ) → Case  -- 4-perf stated, rate 2: `1+2.` gives 1 at 4
   takes : (stated : Stated) (text : String) (count : ℤ) (format : FilmFormat) → Case  -- 3-perf stated: `1+00` is 21
   lists : (bytes : List ℕ) (records : List Record) → Case  -- 1 5 3 7 0 0 0 is rate 5, reel 7
-  handsOver : (numbers : List ℤ) (records : List Record) → Case  -- 1 5 3 7 hands rate 5, reel 7 over
-  listRefused : (bytes : List ℕ) (number : ℕ) → Case  -- 1 5 4 gives 9
+  hands_over : (numbers : List ℤ) (records : List Record) → Case  -- 1 5 3 7 hands rate 5, reel 7 over
+  list_refused : (bytes : List ℕ) (number : ℕ) → Case  -- 1 5 4 gives 9
   footage : (format : FilmFormat) (count : ℤ) (text : String) → Case  -- 3-perf: 21 is `1+00.1`
   divided : (count n answer : ℤ) → Case  -- -1 divided by integer 2 is 0
   divided_by : (count p : ℤ) (q : ℕ) (answer : ℤ) → Case  -- -1 divided by 2/1 is -1
@@ -44,19 +44,19 @@ pub data Case : Type 0 where
 
 -- a count is a text where it is written so, and the text is read as the count; what names no rate holds at every rate
 abbrev pub Holds : Case → Type 0
-Holds (label rate count text) = (labelText rate count ≡ bytes_of text) × (readText (bytes_of text) Nothing rate ≡ Label (timecode count rate))
-Holds (gives rate text number) = number_of (readText (bytes_of text) Nothing rate) ≡ number
-Holds (stops stated rate text number place) = readText (bytes_of text) stated rate ≡ Refused (atPlace (refusal number) place)
+Holds (label rate count text) = (label_text rate count ≡ bytes_of text) × (read_text (bytes_of text) Nothing rate ≡ Label (timecode count rate))
+Holds (gives rate text number) = number_of (read_text (bytes_of text) Nothing rate) ≡ number
+Holds (stops stated rate text number place) = read_text (bytes_of text) stated rate ≡ Refused (at_place (refusal number) place)
 Holds (footage format count text) =
-    (footageText format count ≡ bytes_of text)
-    × ((rate : ℕ) → isRate rate ≡ true → readText (bytes_of text) (Format (formatNumber format)) rate ≡ Footage (timecode count rate) format)
-Holds (takes stated text count format) = (rate : ℕ) → isRate rate ≡ true → readText (bytes_of text) stated rate ≡ Footage (timecode count rate) format
-Holds (lists bytes rs) = (read_of onDisk bytes ≡ AllOf rs) × (listBytes rs ≡ bytes)
-Holds (handsOver numbers rs) = read_of inNumbers numbers ≡ AllOf rs
-Holds (listRefused bytes number) = read_of onDisk bytes ≡ FaultOf (refusal number)
-Holds (divided count n answer) = (rate : ℕ) → isRate rate ≡ true → div_of (timecode count rate) n ≡ At (timecode answer rate)
-Holds (divided_by count p q answer) = (rate : ℕ) → isRate rate ≡ true → divqOf (timecode count rate) p q ≡ At (timecode answer rate)
-Holds (plus count rate other otherRate answer) = addOf (timecode count rate) (timecode other otherRate) ≡ At (timecode answer rate)
+    (footage_text format count ≡ bytes_of text)
+    × ((rate : ℕ) → is_rate rate ≡ true → read_text (bytes_of text) (Format (format_number format)) rate ≡ Footage (timecode count rate) format)
+Holds (takes stated text count format) = (rate : ℕ) → is_rate rate ≡ true → read_text (bytes_of text) stated rate ≡ Footage (timecode count rate) format
+Holds (lists bytes rs) = (read_of on_disk bytes ≡ AllOf rs) × (list_bytes rs ≡ bytes)
+Holds (hands_over numbers rs) = read_of in_numbers numbers ≡ AllOf rs
+Holds (list_refused bytes number) = read_of on_disk bytes ≡ FaultOf (refusal number)
+Holds (divided count n answer) = (rate : ℕ) → is_rate rate ≡ true → div_of (timecode count rate) n ≡ At (timecode answer rate)
+Holds (divided_by count p q answer) = (rate : ℕ) → is_rate rate ≡ true → divq_of (timecode count rate) p q ≡ At (timecode answer rate)
+Holds (plus count rate other otherRate answer) = add_of (timecode count rate) (timecode other otherRate) ≡ At (timecode answer rate)
 Holds (through count rate list answer last) = convert_of (timecode count rate) list ≡ At (timecode answer last)
 
 abbrev pub All : List Case → Type 0
@@ -98,15 +98,15 @@ cases =
     ∷ stops (Format 3) 2 "1+00.1" 4 0
     ∷ stops (Format 4) 2 "1+00.1" 4 0
     ∷ lists (1 ∷ 5 ∷ 2 ∷ 246 ∷ 255 ∷ 255 ∷ 255 ∷ 100 ∷ 0 ∷ 0 ∷ 0 ∷ 3 ∷ 7 ∷ 0 ∷ 0 ∷ 0 ∷ []) (Rate 5 ∷ Shot (negsuc 9) (pos 100) ∷ Reel 7 ∷ [])
-    ∷ handsOver (pos 1 ∷ pos 5 ∷ pos 2 ∷ negsuc 9 ∷ pos 100 ∷ pos 3 ∷ pos 7 ∷ []) (Rate 5 ∷ Shot (negsuc 9) (pos 100) ∷ Reel 7 ∷ [])
+    ∷ hands_over (pos 1 ∷ pos 5 ∷ pos 2 ∷ negsuc 9 ∷ pos 100 ∷ pos 3 ∷ pos 7 ∷ []) (Rate 5 ∷ Shot (negsuc 9) (pos 100) ∷ Reel 7 ∷ [])
     ∷ lists [] []
     ∷ lists (1 ∷ 12 ∷ 2 ∷ 5 ∷ 0 ∷ 0 ∷ 0 ∷ 5 ∷ 0 ∷ 0 ∷ 0 ∷ []) (Rate 12 ∷ Shot (pos 5) (pos 5) ∷ [])
-    ∷ listRefused (1 ∷ 5 ∷ 4 ∷ []) 9
-    ∷ listRefused (1 ∷ 5 ∷ 2 ∷ 0 ∷ 0 ∷ 0 ∷ 0 ∷ 0 ∷ 0 ∷ 0 ∷ []) 10
-    ∷ listRefused (1 ∷ 13 ∷ 4 ∷ []) 6
-    ∷ listRefused (2 ∷ 1 ∷ 132 ∷ 215 ∷ 23 ∷ 0 ∷ 0 ∷ 0 ∷ 0 ∷ []) 5
-    ∷ listRefused (3 ∷ 7 ∷ 0 ∷ 0 ∷ 0 ∷ 2 ∷ 1 ∷ 0 ∷ 0 ∷ 0 ∷ 0 ∷ 0 ∷ 0 ∷ 0 ∷ []) 11
-    ∷ listRefused (1 ∷ 5 ∷ 3 ∷ 7 ∷ 0 ∷ 0 ∷ 0 ∷ 2 ∷ 1 ∷ 0 ∷ 0 ∷ 0 ∷ 0 ∷ 0 ∷ 0 ∷ 0 ∷ []) 12
+    ∷ list_refused (1 ∷ 5 ∷ 4 ∷ []) 9
+    ∷ list_refused (1 ∷ 5 ∷ 2 ∷ 0 ∷ 0 ∷ 0 ∷ 0 ∷ 0 ∷ 0 ∷ 0 ∷ []) 10
+    ∷ list_refused (1 ∷ 13 ∷ 4 ∷ []) 6
+    ∷ list_refused (2 ∷ 1 ∷ 132 ∷ 215 ∷ 23 ∷ 0 ∷ 0 ∷ 0 ∷ 0 ∷ []) 5
+    ∷ list_refused (3 ∷ 7 ∷ 0 ∷ 0 ∷ 0 ∷ 2 ∷ 1 ∷ 0 ∷ 0 ∷ 0 ∷ 0 ∷ 0 ∷ 0 ∷ 0 ∷ []) 11
+    ∷ list_refused (1 ∷ 5 ∷ 3 ∷ 7 ∷ 0 ∷ 0 ∷ 0 ∷ 2 ∷ 1 ∷ 0 ∷ 0 ∷ 0 ∷ 0 ∷ 0 ∷ 0 ∷ 0 ∷ []) 12
     ∷ []
 
 -- each row holds

@@ -26,50 +26,50 @@ use Rattle.written.specs.declared.Written.{Written}
 use Rattle.written.specs.declared.Written.TheVariants as written
 
 -- no refusal: number 0 and place 0
-abbrev pub noRefusal : Refusal
-noRefusal = refusal 0
+abbrev pub no_refusal : Refusal
+no_refusal = refusal 0
 
 -- the refusal in an answer, of each kind
-abbrev pub inCount : Counted → Refusal
-inCount (counted.Count z) = noRefusal
-inCount (counted.Refused e) = e
+abbrev pub in_count : Counted → Refusal
+in_count (counted.Count z) = no_refusal
+in_count (counted.Refused e) = e
 
-abbrev pub inAnswer : Answer → Refusal
-inAnswer (answered.At tc) = noRefusal
-inAnswer (answered.Refused e) = e
+abbrev pub in_answer : Answer → Refusal
+in_answer (answered.At tc) = no_refusal
+in_answer (answered.Refused e) = e
 
-abbrev pub inTicks : Ticked → Refusal
-inTicks (ticked.Ticks t) = noRefusal
-inTicks (ticked.Refused e) = e
+abbrev pub in_ticks : Ticked → Refusal
+in_ticks (ticked.Ticks t) = no_refusal
+in_ticks (ticked.Refused e) = e
 
-abbrev pub inSeconds : Timed → Refusal
-inSeconds (timed.Seconds p q) = noRefusal
-inSeconds (timed.Refused e) = e
+abbrev pub in_seconds : Timed → Refusal
+in_seconds (timed.Seconds p q) = no_refusal
+in_seconds (timed.Refused e) = e
 
-abbrev pub inOrder : Compared → Refusal
-inOrder (compared.Order o) = noRefusal
-inOrder (compared.Refused e) = e
+abbrev pub in_order : Compared → Refusal
+in_order (compared.Order o) = no_refusal
+in_order (compared.Refused e) = e
 
-abbrev pub inWritten : Written → Refusal
-inWritten (written.Length n) = noRefusal
-inWritten (written.Refused e) = e
+abbrev pub in_written : Written → Refusal
+in_written (written.Length n) = no_refusal
+in_written (written.Refused e) = e
 
-abbrev pub inSections : Sectioned → Refusal
-inSections (sectioned.Sections x) = noRefusal
-inSections (sectioned.Refused e) = e
+abbrev pub in_sections : Sectioned → Refusal
+in_sections (sectioned.Sections x) = no_refusal
+in_sections (sectioned.Refused e) = e
 
 abbrev pub in_row : Rated → Refusal
-in_row (rated.Row r) = noRefusal
+in_row (rated.Row r) = no_refusal
 in_row (rated.Refused e) = e
 
-abbrev pub inFormat : Filmed → Refusal
-inFormat (filmed.Format f) = noRefusal
-inFormat (filmed.Refused e) = e
+abbrev pub in_format : Filmed → Refusal
+in_format (filmed.Format f) = no_refusal
+in_format (filmed.Refused e) = e
 
-abbrev pub inEntry : Entry → Refusal
-inEntry (entered.Taken r held size) = noRefusal
-inEntry (entered.Refused e) = e
-inEntry entered.End = noRefusal
+abbrev pub in_entry : Entry → Refusal
+in_entry (entered.Taken r held size) = no_refusal
+in_entry (entered.Refused e) = e
+in_entry entered.End = no_refusal
 
 -- what is given behind conditions that speak of no text: the number of the first that holds, 0 where none does, and place 0
 pub record Given (conditions : List Condition) (e : Refusal) : Type 0 where

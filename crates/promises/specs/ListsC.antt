@@ -6,14 +6,14 @@ use Rattle.shot_lists.specs.declared.records.Record.{Record}
 use Rattle.shot_lists.specs.declared.records.Record.TheVariants.{Rate, Shot, Reel}
 use Rattle.shot_lists.specs.declared.records.Entry.{Entry}
 use Rattle.shot_lists.specs.declared.records.Entry.TheVariants as entered
-use Rattle.shot_lists.specs.Grammar.{kindByte}
-use Rattle.shot_lists.specs.Entries.{onDisk, entry_of}
+use Rattle.shot_lists.specs.Grammar.{kind_byte}
+use Rattle.shot_lists.specs.Entries.{on_disk, entry_of}
 use Rattle.shot_lists.specs.Reading.{Reading, AllOf, FaultOf, read_of}
 use Rattle.exports.specs.declared.lists.TzqRecord.{TzqRecord}
 use Rattle.exports.specs.declared.lists.TzqChecked.{TzqChecked}
-use Rattle.exports.specs.contracts.lists.tzq_record_at as tzq-record-at
+use Rattle.exports.specs.contracts.lists.tzq_record_at as tzq_record_at
 use Rattle.exports.proofs.lists.tzq_record_at.Reads as tzq-record-at-reads
-use Rattle.exports.specs.contracts.lists.tzq_check_list as tzq-check-list
+use Rattle.exports.specs.contracts.lists.tzq_check_list as tzq_check_list
 use Rattle.exports.proofs.lists.tzq_check_list.Reads as tzq-check-list-reads
 
 -- no number that only one kind of record has
@@ -40,7 +40,7 @@ pub record Without (t : TzqRecord) (refused : ℕ) : Type 0 where
 -- a record: not refused, its kind as on disk, its own numbers, the rate held behind it, and how many bytes it has
 pub record With (t : TzqRecord) (r : Record) (held size : ℕ) : Type 0 where
   pub number : t.refused ≡ 0
-  pub kind : t.kind ≡ kindByte r
+  pub kind : t.kind ≡ kind_byte r
   pub own : OwnIn t r
   pub behind : t.held ≡ held
   pub bytes : t.size ≡ size
@@ -58,5 +58,5 @@ CheckedWhole t (FaultOf e) = (t.refused ≡ e.number) × (t.records ≡ 0)
 
 -- so it is of whatever the contracts of the two functions for C allow
 pub record ListsForC : Type 0 where
-  pub record-at : Gives tzq-record-at.ended tzq-record-at-reads.Learnt (λ κs a x. EntryWhole x.0 (entry_of onDisk a.1.1.0 (drop a.1.0 a.0.now)))
-  pub check-list : Gives tzq-check-list.ended tzq-check-list-reads.Learnt (λ κs a x. CheckedWhole x.0 (read_of onDisk a.0.now))
+  pub record_at : Gives tzq_record_at.ended tzq-record-at-reads.Learnt (λ κs a x. EntryWhole x.0 (entry_of on_disk a.1.1.0 (drop a.1.0 a.0.now)))
+  pub check_list : Gives tzq_check_list.ended tzq-check-list-reads.Learnt (λ κs a x. CheckedWhole x.0 (read_of on_disk a.0.now))

@@ -12,14 +12,14 @@ use Rattle.film.specs.declared.FilmFormat.{FilmFormat}
 use Rattle.film.specs.declared.FilmFormat.TheVariants.{FF35mm4perf}
 use Rattle.reading.specs.declared.Stated.TheVariants.{Nothing}
 use Rattle.reading.specs.declared.Read.TheVariants as read
-use Rattle.reading.specs.For.{readFor}
-use Rattle.label_writer.specs.LabelText.{labelText}
-use Rattle.time.specs.Frames.{framesAt, ticksAt, secondsAt}
-use Rattle.arithmetic.specs.Sum.{addOf, subOf}
-use Rattle.arithmetic.specs.Count.{neg_of, rebaseOf}
+use Rattle.reading.specs.For.{read_for}
+use Rattle.label_writer.specs.LabelText.{label_text}
+use Rattle.time.specs.Frames.{frames_at, ticks_at, seconds_at}
+use Rattle.arithmetic.specs.Sum.{add_of, sub_of}
+use Rattle.arithmetic.specs.Count.{neg_of, rebase_of}
 use Rattle.arithmetic.specs.declared.Compared.{Compared}
 use Rattle.arithmetic.specs.declared.Compared.TheVariants as compared
-use Rattle.arithmetic.specs.Compare.{compareOf}
+use Rattle.arithmetic.specs.Compare.{compare_of}
 use Rattle.chains.specs.Chain.{convert_of}
 use Rattle.lines.specs.Output.{bytes_of}
 
@@ -34,9 +34,9 @@ pub data Case : Type 0 where
 -- a position is a text where it is written so, and the text is read as it
 abbrev pub Holds : Case → Type 0
 Holds (label rate count text) =
-    (labelText rate count ≡ bytes_of text) × (readFor Position (bytes_of text) Nothing rate ≡ read.Label (position count rate))
-Holds (gives rate text number) = readFor Position (bytes_of text) Nothing rate ≡ read.Refused (refusal number)
-Holds (takes rate text count format) = readFor Position (bytes_of text) Nothing rate ≡ read.Footage (position count rate) format
+    (label_text rate count ≡ bytes_of text) × (read_for Position (bytes_of text) Nothing rate ≡ read.Label (position count rate))
+Holds (gives rate text number) = read_for Position (bytes_of text) Nothing rate ≡ read.Refused (refusal number)
+Holds (takes rate text count format) = read_for Position (bytes_of text) Nothing rate ≡ read.Footage (position count rate) format
 Holds (comes asked answer) = asked ≡ answer
 Holds (orders asked answer) = asked ≡ answer
 
@@ -45,8 +45,8 @@ All [] = Unit {0}
 All (c ∷ cs) = Holds c × All cs
 
 -- labels: the day's ends, each strict limit, the sign, 14 before 3; a footage gets none
-abbrev pub readCases : List Case
-readCases =
+abbrev pub read_cases : List Case
+read_cases =
     label 5 (pos 0) "00:00:00;00"
     ∷ label 5 (pos 2589407) "23:59:59;29"
     ∷ label 11 (pos 5178815) "23:59:59;59"
@@ -65,40 +65,40 @@ readCases =
     ∷ []
 
 -- made: reduced by whole days, negative ones too, behind the bound and behind rounding; a day has the dropped labels left out
-abbrev pub madeCases : List Case
-madeCases =
-    comes (settled Position (framesAt (negsuc 0) 5)) (At (position (pos 2589407) 5))
-    ∷ comes (settled Position (framesAt (pos 2589408) 5)) (At (position (pos 0) 5))
-    ∷ comes (settled Position (framesAt (pos 2589408) 4)) (At (position (pos 2589408) 4))
-    ∷ comes (settled Position (framesAt (pos 400000000) 5)) (At (position (pos 1231168) 5))
-    ∷ comes (settled Position (framesAt (negsuc 399999999) 5)) (At (position (pos 1358240) 5))
-    ∷ comes (settled Position (framesAt (pos 400000001) 5)) (Refused (refusal 5))
-    ∷ comes (settled Position (ticksAt (negsuc 4237833599) 5)) (At (position (pos 2589407) 5))
-    ∷ comes (settled Position (secondsAt (pos 86400) 1 3)) (At (position (pos 0) 3))
+abbrev pub made_cases : List Case
+made_cases =
+    comes (settled Position (frames_at (negsuc 0) 5)) (At (position (pos 2589407) 5))
+    ∷ comes (settled Position (frames_at (pos 2589408) 5)) (At (position (pos 0) 5))
+    ∷ comes (settled Position (frames_at (pos 2589408) 4)) (At (position (pos 2589408) 4))
+    ∷ comes (settled Position (frames_at (pos 400000000) 5)) (At (position (pos 1231168) 5))
+    ∷ comes (settled Position (frames_at (negsuc 399999999) 5)) (At (position (pos 1358240) 5))
+    ∷ comes (settled Position (frames_at (pos 400000001) 5)) (Refused (refusal 5))
+    ∷ comes (settled Position (ticks_at (negsuc 4237833599) 5)) (At (position (pos 2589407) 5))
+    ∷ comes (settled Position (seconds_at (pos 86400) 1 3)) (At (position (pos 0) 3))
     ∷ []
 
 -- added, taken and compared: what may be mixed, the order 6, 15, 5, and the bound before the day
-abbrev pub mixedCases : List Case
-mixedCases =
-    comes (addOf (position (pos 10) 5) (timecode (pos 3) 5)) (At (position (pos 13) 5))
-    ∷ comes (addOf (timecode (pos 3) 5) (position (pos 10) 5)) (At (position (pos 13) 5))
-    ∷ comes (subOf (position (pos 0) 2) (timecode (pos 1) 8)) (At (position (pos 2073599) 2))
-    ∷ comes (subOf (position (pos 0) 5) (position (pos 2589407) 5)) (At (timecode (negsuc 2589406) 5))
-    ∷ comes (addOf (position (pos 2589407) 5) (timecode (pos 400000000) 5)) (Refused (refusal 5))
-    ∷ comes (addOf (position (pos 0) 5) (position (pos 0) 5)) (Refused (refusal 15))
-    ∷ comes (subOf (timecode (pos 0) 5) (position (pos 0) 5)) (Refused (refusal 15))
-    ∷ comes (addOf (position (pos 0) 13) (position (pos 9999999) 5)) (Refused (refusal 6))
-    ∷ comes (addOf (position (pos 0) 5) (position (pos 9999999) 5)) (Refused (refusal 15))
-    ∷ comes (addOf (position (pos 2589408) 5) (timecode (pos 0) 5)) (Refused (refusal 5))
-    ∷ comes (addOf (timecode (pos 0) 5) (position (pos 2589408) 5)) (Refused (refusal 5))
+abbrev pub mixed_cases : List Case
+mixed_cases =
+    comes (add_of (position (pos 10) 5) (timecode (pos 3) 5)) (At (position (pos 13) 5))
+    ∷ comes (add_of (timecode (pos 3) 5) (position (pos 10) 5)) (At (position (pos 13) 5))
+    ∷ comes (sub_of (position (pos 0) 2) (timecode (pos 1) 8)) (At (position (pos 2073599) 2))
+    ∷ comes (sub_of (position (pos 0) 5) (position (pos 2589407) 5)) (At (timecode (negsuc 2589406) 5))
+    ∷ comes (add_of (position (pos 2589407) 5) (timecode (pos 400000000) 5)) (Refused (refusal 5))
+    ∷ comes (add_of (position (pos 0) 5) (position (pos 0) 5)) (Refused (refusal 15))
+    ∷ comes (sub_of (timecode (pos 0) 5) (position (pos 0) 5)) (Refused (refusal 15))
+    ∷ comes (add_of (position (pos 0) 13) (position (pos 9999999) 5)) (Refused (refusal 6))
+    ∷ comes (add_of (position (pos 0) 5) (position (pos 9999999) 5)) (Refused (refusal 15))
+    ∷ comes (add_of (position (pos 2589408) 5) (timecode (pos 0) 5)) (Refused (refusal 5))
+    ∷ comes (add_of (timecode (pos 0) 5) (position (pos 2589408) 5)) (Refused (refusal 5))
     ∷ comes (neg_of (position (pos 0) 13)) (Refused (refusal 6))
     ∷ comes (neg_of (position (pos 9999999) 5)) (Refused (refusal 15))
-    ∷ comes (rebaseOf (position (pos 0) 5) 13) (Refused (refusal 6))
+    ∷ comes (rebase_of (position (pos 0) 5) 13) (Refused (refusal 6))
     ∷ comes (convert_of (position (pos 10) 5) []) (Refused (refusal 15))
-    ∷ orders (compareOf (position (pos 1) 2) (position (pos 1) 8)) (compared.Order (pos 1))
-    ∷ orders (compareOf (position (pos 0) 5) (timecode (pos 0) 5)) (compared.Refused (refusal 15))
+    ∷ orders (compare_of (position (pos 1) 2) (position (pos 1) 8)) (compared.Order (pos 1))
+    ∷ orders (compare_of (position (pos 0) 5) (timecode (pos 0) 5)) (compared.Refused (refusal 15))
     ∷ []
 
 -- each row holds
 abbrev pub PositionCases : Type 0
-PositionCases = All readCases × All madeCases × All mixedCases
+PositionCases = All read_cases × All made_cases × All mixed_cases

@@ -4,14 +4,14 @@ use Rattle.std.specs.Prelude.{ℕ, ◌≡◌}
 use Rattle.outcomes.specs.Outcome.{Gives}
 use Rattle.router.specs.declared.Routed.{Routed}
 use Rattle.router.specs.declared.Routed.TheVariants.{Shards, Refused}
-use Rattle.router.specs.Route.{routeOf}
+use Rattle.router.specs.Route.{route_of}
 use Rattle.exports.specs.declared.route.TzqShards.{TzqShards}
-use Rattle.exports.specs.contracts.route.tzq_route as tzq-route
+use Rattle.exports.specs.contracts.route.tzq_route as tzq_route
 use Rattle.exports.proofs.route.tzq_route.Reads as tzq-route-reads
 
 -- these four numbers
 pub record Numbers (t : TzqShards) (refused place first after : ℕ) : Type 0 where
-  pub refused-is : t.refused ≡ refused
+  pub refused_is : t.refused ≡ refused
   pub place_is : t.place ≡ place
   pub first-is : t.first ≡ first
   pub after_is : t.after ≡ after
@@ -24,5 +24,5 @@ ShardsAre t (Refused e) = Numbers t e.number e.place 0 0
 -- so it is of whatever the contract of `tzq_route` allows
 abbrev pub RouteForC : Type 0
 RouteForC =
-    Gives tzq-route.ended tzq-route-reads.Learnt (λ κs a x.
-    ShardsAre x.0 (routeOf a.0 a.1.0.now a.1.1.0.now a.1.1.1.0 a.1.1.1.1.0.now))
+    Gives tzq_route.ended tzq-route-reads.Learnt (λ κs a x.
+    ShardsAre x.0 (route_of a.0 a.1.0.now a.1.1.0.now a.1.1.1.0 a.1.1.1.1.0.now))

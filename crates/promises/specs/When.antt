@@ -2,86 +2,86 @@
 -- Assumes nothing.
 use Rattle.std.specs.Prelude.{ℕ, List, [], ◌∷◌, ◌++◌, true, false, ℤ}
 use Rattle.answers.specs.declared.Refusal.{Refusal}
-use Rattle.answers.specs.Refusals.{badCount}
-use Rattle.rates.specs.Rates.{badRate, rateAt}
+use Rattle.answers.specs.Refusals.{bad_count}
+use Rattle.rates.specs.Rates.{bad_rate, rate_at}
 use Rattle.timecodes.specs.declared.Timecode.{Timecode}
 use Rattle.timecodes.specs.declared.kinds.Kind.{Kind}
 use Rattle.timecodes.specs.declared.kinds.Joining.TheVariants.{Sum, Difference, Comparison}
 use Rattle.timecodes.specs.Timecode.{timecode}
 use Rattle.timecodes.specs.Made.{settled}
-use Rattle.timecodes.specs.Admitted.{admits, admitsLength, admitsBoth}
-use Rattle.film.specs.Film.{badFormat, format_in, formatAt}
-use Rattle.minutes.specs.Minutes.{badMinute, minuteAt}
-use Rattle.time.specs.Bounds.{badSeconds, badFactor}
-use Rattle.time.specs.Frames.{framesAt, ticksFrame, ticksAt, secondsFrame, secondsAt}
-use Rattle.time.specs.Ticks.{ticksOf}
+use Rattle.timecodes.specs.Admitted.{admits, admits_length, admits_both}
+use Rattle.film.specs.Film.{bad_format, format_in, format_at}
+use Rattle.minutes.specs.Minutes.{bad_minute, minute_at}
+use Rattle.time.specs.Bounds.{bad_seconds, bad_factor}
+use Rattle.time.specs.Frames.{frames_at, ticks_frame, ticks_at, seconds_frame, seconds_at}
+use Rattle.time.specs.Ticks.{ticks_of}
 use Rattle.time.specs.declared.Timed.{Timed}
 use Rattle.time.specs.Seconds.{SecondsOf}
-use Rattle.arithmetic.specs.Sum.{joinedFrame, addOf, subOf}
-use Rattle.arithmetic.specs.Product.{productOf, mulOf}
-use Rattle.arithmetic.specs.Divisor.{badDivisor}
-use Rattle.arithmetic.specs.Truncating.{div_of, remOf}
-use Rattle.arithmetic.specs.Flooring.{flooredOf, divqOf}
-use Rattle.arithmetic.specs.Remainder.{left_of, remqOf}
-use Rattle.arithmetic.specs.Compare.{compareOf}
-use Rattle.arithmetic.specs.Count.{neg_of, absOf, rebaseOf}
-use Rattle.chains.specs.Chain.{badRates, badSteps, convert_of}
-use Rattle.shot_lists.specs.Entries.{onDisk, inNumbers, against, entry_of}
-use Rattle.written.specs.Written.{Draft, writtenWhen, answerTo}
+use Rattle.arithmetic.specs.Sum.{joined_frame, add_of, sub_of}
+use Rattle.arithmetic.specs.Product.{product_of, mul_of}
+use Rattle.arithmetic.specs.Divisor.{bad_divisor}
+use Rattle.arithmetic.specs.Truncating.{div_of, rem_of}
+use Rattle.arithmetic.specs.Flooring.{floored_of, divq_of}
+use Rattle.arithmetic.specs.Remainder.{left_of, remq_of}
+use Rattle.arithmetic.specs.Compare.{compare_of}
+use Rattle.arithmetic.specs.Count.{neg_of, abs_of, rebase_of}
+use Rattle.chains.specs.Chain.{bad_rates, bad_steps, convert_of}
+use Rattle.shot_lists.specs.Entries.{on_disk, in_numbers, against, entry_of}
+use Rattle.written.specs.Written.{Draft, written_when, answer_to}
 use Rattle.label_writer.specs.Sections.{sectioned}
-use Rattle.label_writer.specs.LabelText.{labelText, labelDraft}
-use Rattle.footage_writer.specs.FootageText.{footageText, footageDraft}
-use Rattle.runtime_writer.specs.RuntimeText.{runtimeText, badPrecision, runtimeDraft}
-use Rattle.promises.specs.Given.{inCount, inAnswer, inTicks, inSeconds, inOrder, inWritten, inSections, in_row, inFormat, inEntry, Given}
+use Rattle.label_writer.specs.LabelText.{label_text, label_draft}
+use Rattle.footage_writer.specs.FootageText.{footage_text, footage_draft}
+use Rattle.runtime_writer.specs.RuntimeText.{runtime_text, bad_precision, runtime_draft}
+use Rattle.promises.specs.Given.{in_count, in_answer, in_ticks, in_seconds, in_order, in_written, in_sections, in_row, in_format, in_entry, Given}
 
 -- the refusal that a writer gives
-abbrev pub givenBy : Draft → (line : List ℕ) (place : ℕ) → Refusal
-givenBy draft line place = inWritten (answerTo line place draft)
+abbrev pub given_by : Draft → (line : List ℕ) (place : ℕ) → Refusal
+given_by draft line place = in_written (answer_to line place draft)
 
 -- the number that each function gives, for all inputs, is that of the first condition in its order that holds, and its place is 0 (those of
 -- the two text readers, whose conditions are shapes, stand in the specs/Statements.antt of `reading` and `runtime_reading`)
 pub record RefusedWhen : Type 0 where
   -- writing
-  pub write-label :
+  pub write_label :
       (tc : Timecode) (line : List ℕ) (place : ℕ)
-      → Given (writtenWhen (admits tc) line place (labelText tc.rate tc.count)) (givenBy (labelDraft tc) line place)
-  pub write-footage :
+      → Given (written_when (admits tc) line place (label_text tc.rate tc.count)) (given_by (label_draft tc) line place)
+  pub write_footage :
       (tc : Timecode) (format : ℕ) (line : List ℕ) (place : ℕ)
-      → Given (writtenWhen (badFormat format ∷ admits tc) line place (footageText (format_in format) tc.count)) (givenBy (footageDraft tc format) line place)
-  pub write-runtime :
+      → Given (written_when (bad_format format ∷ admits tc) line place (footage_text (format_in format) tc.count)) (given_by (footage_draft tc format) line place)
+  pub write_runtime :
       (tc : Timecode) (precision : ℕ) (line : List ℕ) (place : ℕ)
-      → Given (writtenWhen (admits tc ++ (badPrecision precision ∷ [])) line place (runtimeText tc.rate precision tc.count))
-      (givenBy (runtimeDraft tc precision) line place)
-  pub sections : (tc : Timecode) → Given (admits tc) (inSections (sectioned tc))
+      → Given (written_when (admits tc ++ (bad_precision precision ∷ [])) line place (runtime_text tc.rate precision tc.count))
+      (given_by (runtime_draft tc precision) line place)
+  pub sections : (tc : Timecode) → Given (admits tc) (in_sections (sectioned tc))
   -- time
-  pub with-frames : (kind : Kind) (count : ℤ) (rate : ℕ) → Given (admits (timecode count rate)) (inAnswer (settled kind (framesAt count rate)))
-  pub with-premiere-ticks : (kind : Kind) (t : ℤ) (rate : ℕ)
-      → Given (badRate rate ∷ badCount (ticksFrame t rate) ∷ []) (inAnswer (settled kind (ticksAt t rate)))
-  pub with-seconds : (kind : Kind) (p : ℤ) (q rate : ℕ)
-      → Given (badRate rate ∷ badSeconds p q ∷ badCount (secondsFrame p q rate) ∷ []) (inAnswer (settled kind (secondsAt p q rate)))
-  pub premiere-ticks : (tc : Timecode) → Given (admits tc) (inTicks (ticksOf tc))
-  pub seconds : (tc : Timecode) (answer : Timed) → SecondsOf tc answer → Given (admits tc) (inSeconds answer)
+  pub with_frames : (kind : Kind) (count : ℤ) (rate : ℕ) → Given (admits (timecode count rate)) (in_answer (settled kind (frames_at count rate)))
+  pub with_premiere_ticks : (kind : Kind) (t : ℤ) (rate : ℕ)
+      → Given (bad_rate rate ∷ bad_count (ticks_frame t rate) ∷ []) (in_answer (settled kind (ticks_at t rate)))
+  pub with_seconds : (kind : Kind) (p : ℤ) (q rate : ℕ)
+      → Given (bad_rate rate ∷ bad_seconds p q ∷ bad_count (seconds_frame p q rate) ∷ []) (in_answer (settled kind (seconds_at p q rate)))
+  pub premiere_ticks : (tc : Timecode) → Given (admits tc) (in_ticks (ticks_of tc))
+  pub seconds : (tc : Timecode) (answer : Timed) → SecondsOf tc answer → Given (admits tc) (in_seconds answer)
   -- arithmetic
-  pub add : (a b : Timecode) → Given (admitsBoth Sum a b ++ (badCount (joinedFrame false a b) ∷ [])) (inAnswer (addOf a b))
-  pub sub : (a b : Timecode) → Given (admitsBoth Difference a b ++ (badCount (joinedFrame true a b) ∷ [])) (inAnswer (subOf a b))
-  pub cmp : (a b : Timecode) → Given (admitsBoth Comparison a b) (inOrder (compareOf a b))
+  pub add : (a b : Timecode) → Given (admits_both Sum a b ++ (bad_count (joined_frame false a b) ∷ [])) (in_answer (add_of a b))
+  pub sub : (a b : Timecode) → Given (admits_both Difference a b ++ (bad_count (joined_frame true a b) ∷ [])) (in_answer (sub_of a b))
+  pub cmp : (a b : Timecode) → Given (admits_both Comparison a b) (in_order (compare_of a b))
   pub mul : (tc : Timecode) (p : ℤ) (q : ℕ)
-      → Given (admitsLength tc ++ (badFactor p q ∷ badCount (productOf tc.count p q) ∷ [])) (inAnswer (mulOf tc p q))
-  pub div : (tc : Timecode) (n : ℤ) → Given (admitsLength tc ++ (badDivisor n ∷ [])) (inAnswer (div_of tc n))
-  pub rem : (tc : Timecode) (n : ℤ) → Given (admitsLength tc ++ (badDivisor n ∷ [])) (inAnswer (remOf tc n))
+      → Given (admits_length tc ++ (bad_factor p q ∷ bad_count (product_of tc.count p q) ∷ [])) (in_answer (mul_of tc p q))
+  pub div : (tc : Timecode) (n : ℤ) → Given (admits_length tc ++ (bad_divisor n ∷ [])) (in_answer (div_of tc n))
+  pub rem : (tc : Timecode) (n : ℤ) → Given (admits_length tc ++ (bad_divisor n ∷ [])) (in_answer (rem_of tc n))
   pub divq : (tc : Timecode) (p : ℤ) (q : ℕ)
-      → Given (admitsLength tc ++ (badFactor p q ∷ badDivisor p ∷ badCount (flooredOf tc.count p q) ∷ [])) (inAnswer (divqOf tc p q))
+      → Given (admits_length tc ++ (bad_factor p q ∷ bad_divisor p ∷ bad_count (floored_of tc.count p q) ∷ [])) (in_answer (divq_of tc p q))
   pub remq : (tc : Timecode) (p : ℤ) (q : ℕ)
-      → Given (admitsLength tc ++ (badFactor p q ∷ badDivisor p ∷ badCount (left_of tc.count p q) ∷ [])) (inAnswer (remqOf tc p q))
-  pub neg : (tc : Timecode) → Given (admitsLength tc) (inAnswer (neg_of tc))
-  pub abs : (tc : Timecode) → Given (admitsLength tc) (inAnswer (absOf tc))
-  pub rebase : (tc : Timecode) (rate : ℕ) → Given (badRate rate ∷ admitsLength tc) (inAnswer (rebaseOf tc rate))
+      → Given (admits_length tc ++ (bad_factor p q ∷ bad_divisor p ∷ bad_count (left_of tc.count p q) ∷ [])) (in_answer (remq_of tc p q))
+  pub neg : (tc : Timecode) → Given (admits_length tc) (in_answer (neg_of tc))
+  pub abs : (tc : Timecode) → Given (admits_length tc) (in_answer (abs_of tc))
+  pub rebase : (tc : Timecode) (rate : ℕ) → Given (bad_rate rate ∷ admits_length tc) (in_answer (rebase_of tc rate))
   -- chains
-  pub convert : (tc : Timecode) (list : List ℕ) → Given (badRates list ∷ admitsLength tc ++ (badSteps tc list ∷ [])) (inAnswer (convert_of tc list))
+  pub convert : (tc : Timecode) (list : List ℕ) → Given (bad_rates list ∷ admits_length tc ++ (bad_steps tc list ∷ [])) (in_answer (convert_of tc list))
   -- shot lists: a record on disk, and one that is handed over (of a whole list: specs/Statements.antt of `shot_lists` and `shot_writer`)
-  pub record-at : (held b : ℕ) (l : List ℕ) → Given (against onDisk held b l) (inEntry (entry_of onDisk held (b ∷ l)))
-  pub given-at : (held : ℕ) (z : ℤ) (l : List ℤ) → Given (against inNumbers held z l) (inEntry (entry_of inNumbers held (z ∷ l)))
+  pub record_at : (held b : ℕ) (l : List ℕ) → Given (against on_disk held b l) (in_entry (entry_of on_disk held (b ∷ l)))
+  pub given_at : (held : ℕ) (z : ℤ) (l : List ℤ) → Given (against in_numbers held z l) (in_entry (entry_of in_numbers held (z ∷ l)))
   -- the tables
-  pub framerate-at : (rate : ℕ) → Given (badRate rate ∷ []) (in_row (rateAt rate))
-  pub format-at : (format : ℕ) → Given (badFormat format ∷ []) (inFormat (formatAt format))
-  pub minute-start : (minute : ℕ) → Given (badMinute minute ∷ []) (inCount (minuteAt minute))
+  pub framerate_at : (rate : ℕ) → Given (bad_rate rate ∷ []) (in_row (rate_at rate))
+  pub format-at : (format : ℕ) → Given (bad_format format ∷ []) (in_format (format_at format))
+  pub minute-start : (minute : ℕ) → Given (bad_minute minute ∷ []) (in_count (minute_at minute))

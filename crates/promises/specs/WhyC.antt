@@ -5,21 +5,21 @@ use Rattle.outcomes.specs.Outcome.{Gives}
 use Rattle.answers.specs.declared.Refusal.{Refusal}
 use Rattle.faults.specs.declared.Field.TheVariants.{Count, Sign, Hours, Minutes, Seconds, Frames, Marker}
 use Rattle.faults.specs.declared.Fault.{Fault}
-use Rattle.faults.specs.Faults.{limitOf, value_of}
+use Rattle.faults.specs.Faults.{limit_of, value_of}
 use Rattle.timecodes.specs.declared.kinds.Kind.TheVariants.{Position}
-use Rattle.timecodes.specs.Kinds.{kindFrom}
+use Rattle.timecodes.specs.Kinds.{kind_from}
 use Rattle.label_writer.specs.declared.TimecodeSections.{TimecodeSections}
 use Rattle.reading.specs.declared.Stated.TheVariants as stated
-use Rattle.reading.specs.Answer.{number_of, place_of, timecodeOf, format_of}
+use Rattle.reading.specs.Answer.{number_of, place_of, timecode_of, format_of}
 use Rattle.reasons.specs.declared.Fact.{Fact}
 use Rattle.reasons.specs.declared.Fact.TheVariants.{Nothing, Limit, First}
 use Rattle.reasons.specs.declared.Reason.{Reason}
 use Rattle.reasons.specs.declared.Reasoned.{Reasoned}
 use Rattle.reasons.specs.declared.Reasoned.TheVariants.{Told, Refused}
-use Rattle.reasons.specs.Why.{whyOf}
+use Rattle.reasons.specs.Why.{why_of}
 use Rattle.exports.specs.declared.why.TzqReason.{TzqReason}
-use Rattle.exports.specs.HandedWhy.{statedFrom, fieldNumber}
-use Rattle.exports.specs.contracts.why.tzq_why as tzq-why
+use Rattle.exports.specs.HandedWhy.{stated_from, field_number}
+use Rattle.exports.specs.contracts.why.tzq_why as tzq_why
 use Rattle.exports.proofs.why.tzq_why.Reads as tzq-why-reads
 
 -- ---- the fact
@@ -39,8 +39,8 @@ pub record NoLabel (t : TzqReason) : Type 0 where
 
 -- the field's number, and its limit and its value with their sign, where they fit 64 bits
 pub record LimitIs (t : TzqReason) (f : Fault) : Type 0 where
-  pub field : t.field ≡ fieldNumber f.field
-  pub limit : f.limit < 2 ^ 63 → t.limit ≡ limitOf f
+  pub field : t.field ≡ field_number f.field
+  pub limit : f.limit < 2 ^ 63 → t.limit ≡ limit_of f
   pub value : f.value < 2 ^ 63 → t.value ≡ value_of f
 
 -- the label, field by field
@@ -62,9 +62,9 @@ pub record ToldIs (t : TzqReason) (r : Reason) : Type 0 where
   pub refused : t.refused ≡ 0
   pub number : t.number ≡ number_of r.read
   pub place : t.place ≡ place_of r.read
-  pub count : t.count ≡ (timecodeOf r.read).count
+  pub count : t.count ≡ (timecode_of r.read).count
   pub format : t.format ≡ format_of r.read
-  pub position : (t.position ≡ true) ↔ ((timecodeOf r.read).kind ≡ Position)
+  pub position : (t.position ≡ true) ↔ ((timecode_of r.read).kind ≡ Position)
   pub fact : FactIs t r.fact
   pub length : t.length ≡ r.length
 
@@ -86,10 +86,10 @@ ReasonIs t (Refused e) = NotTold t e
 
 -- so it is of whatever the contract of `tzq_why` allows; a format counts only where it is stated; and the fields are numbered 1 to 7
 pub record WhyForC : Type 0 where
-  pub why : Gives tzq-why.ended tzq-why-reads.Learnt (λ κs a x.
+  pub why : Gives tzq_why.ended tzq-why-reads.Learnt (λ κs a x.
       ReasonIs x.0
-      (whyOf (kindFrom a.1.1.1.1.0) a.0.now (statedFrom a.1.0 a.1.1.0) a.1.1.1.0 a.1.1.1.1.1.0.now a.1.1.1.1.1.1.0))
-  pub stated : (format : ℕ) → (statedFrom true format ≡ stated.Format format) × (statedFrom false format ≡ stated.Nothing)
+      (why_of (kind_from a.1.1.1.1.0) a.0.now (stated_from a.1.0 a.1.1.0) a.1.1.1.0 a.1.1.1.1.1.0.now a.1.1.1.1.1.1.0))
+  pub stated : (format : ℕ) → (stated_from true format ≡ stated.Format format) × (stated_from false format ≡ stated.Nothing)
   pub fields :
-      (fieldNumber Count ≡ 1) × (fieldNumber Sign ≡ 2) × (fieldNumber Hours ≡ 3) × (fieldNumber Minutes ≡ 4) × (fieldNumber Seconds ≡ 5)
-      × (fieldNumber Frames ≡ 6) × (fieldNumber Marker ≡ 7)
+      (field_number Count ≡ 1) × (field_number Sign ≡ 2) × (field_number Hours ≡ 3) × (field_number Minutes ≡ 4) × (field_number Seconds ≡ 5)
+      × (field_number Frames ≡ 6) × (field_number Marker ≡ 7)

@@ -10,11 +10,11 @@ use Rattle.label_writer.specs.declared.TimecodeSections.{TimecodeSections}
 use Rattle.reading.specs.declared.Stated.{Stated}
 use Rattle.reading.specs.declared.Stated.TheVariants.{Nothing, Format}
 use Rattle.reading.specs.Answer.{number_of, place_of}
-use Rattle.reading.specs.For.{readFor}
+use Rattle.reading.specs.For.{read_for}
 use Rattle.reasons.specs.declared.Fact.{Fact}
 use Rattle.reasons.specs.declared.Fact.TheVariants.{Limit, First}
 use Rattle.reasons.specs.declared.Fact.TheVariants as fact
-use Rattle.reasons.specs.Why.{fact_of, phraseFor}
+use Rattle.reasons.specs.Why.{fact_of, phrase_for}
 use Rattle.lines.specs.Output.{bytes_of}
 
 -- a row: how a text is read, and the number, place, phrase and fact that it then gets
@@ -24,9 +24,9 @@ pub data Case : Type 0 where
 abbrev pub Holds : Case → Type 0
 Holds (row kind stated rate text number place phrase f) =
     let l = bytes_of text in
-    (number_of (readFor kind l stated rate) ≡ number)
-    × (place_of (readFor kind l stated rate) ≡ place)
-    × (phraseFor kind l stated rate ≡ bytes_of phrase)
+    (number_of (read_for kind l stated rate) ≡ number)
+    × (place_of (read_for kind l stated rate) ≡ place)
+    × (phrase_for kind l stated rate ≡ bytes_of phrase)
     × (fact_of kind l stated rate ≡ f)
 
 abbrev pub All : List Case → Type 0
@@ -38,8 +38,8 @@ abbrev sections : (negative : Bool) (hours minutes frames : ℕ) → TimecodeSec
 sections negative hours minutes frames = record { negative = negative; hours = hours; minutes = minutes; seconds = 0; frames = frames }
 
 -- a label: accepted, no shape, too long, no such rate, dropped (minutes past 59 carried, the sign kept, four dropped at rate 11), out of bounds
-abbrev pub labelCases : List Case
-labelCases =
+abbrev pub label_cases : List Case
+label_cases =
     row Length Nothing 5 "00:01:00;02" 0 0 "accepted" fact.Nothing
     ∷ row Length Nothing 5 "00:01:00;0x" 1 10 "not in a form that can be read" fact.Nothing
     ∷ row Length Nothing 5 "" 1 0 "not in a form that can be read" fact.Nothing
@@ -54,8 +54,8 @@ labelCases =
     ∷ []
 
 -- a footage: a perf field that the format has not, a frames number past its foot before a marker of another, the count before any reduction
-abbrev pub footageCases : List Case
-footageCases =
+abbrev pub footage_cases : List Case
+footage_cases =
     row Length (Format 1) 5 "1+00.1" 4 0 "a perf field, which this film format does not have" fact.Nothing
     ∷ row Length (Format 5) 5 "1+00" 6 0 "no such rate or film format" fact.Nothing
     ∷ row Length (Format 4) 5 "1:00" 1 1 "not in a form that can be read" fact.Nothing
@@ -72,8 +72,8 @@ footageCases =
     ∷ []
 
 -- the label of a position: the leftmost field, a sign before all
-abbrev pub positionCases : List Case
-positionCases =
+abbrev pub position_cases : List Case
+position_cases =
     row Position Nothing 5 "-24:60:60;30" 14 0 "not a time of day" (Limit (fault Sign false 0 0))
     ∷ row Position Nothing 5 "24:60:60;30" 14 0 "not a time of day" (Limit (fault Hours false 23 24))
     ∷ row Position Nothing 5 "23:60:60;30" 14 0 "not a time of day" (Limit (fault Minutes false 59 60))
@@ -86,4 +86,4 @@ positionCases =
 
 -- each row holds
 abbrev pub WhyCases : Type 0
-WhyCases = All labelCases × All footageCases × All positionCases
+WhyCases = All label_cases × All footage_cases × All position_cases

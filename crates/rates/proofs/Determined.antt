@@ -6,7 +6,7 @@ use Rattle.rates.specs.contracts.is_rate as is-rate
 use Rattle.rates.proofs.is_rate.Reads as is-rate-reads
 use Rattle.rates.specs.contracts.row as row
 use Rattle.rates.proofs.row.Reads as row_reads
-use Rattle.rates.specs.contracts.framerate_at as framerate-at
+use Rattle.rates.specs.contracts.framerate_at as framerate_at
 use Rattle.rates.proofs.framerate_at.Reads as framerate-at-reads
 use Rattle.rates.specs.contracts.drop_frames_per_minute as drop-frames-per-minute
 use Rattle.rates.proofs.drop_frames_per_minute.Reads as drop-frames-per-minute-reads
@@ -21,7 +21,7 @@ is-rate-determined κs a asked x y p q = ap (λ z. (z, x.1)) (p ∙ sym q)
 pub row-determined : Determined row.ended row_reads.Asked row_reads.Learnt
 row-determined κs a asked x y p q = ap (λ z. (z, x.1)) (p ∙ sym q)
 
-pub framerate-at-determined : Determined framerate-at.ended framerate-at-reads.Asked framerate-at-reads.Learnt
+pub framerate-at-determined : Determined framerate_at.ended framerate-at-reads.Asked framerate-at-reads.Learnt
 framerate-at-determined κs a asked x y p q = ap (λ z. (z, x.1)) (p ∙ sym q)
 
 pub drop-frames-per-minute-determined : Determined drop-frames-per-minute.ended drop-frames-per-minute-reads.Asked drop-frames-per-minute-reads.Learnt

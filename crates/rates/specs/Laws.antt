@@ -3,23 +3,23 @@
 use Rattle.std.specs.Prelude.{ℕ, zero, suc, ◌-◌, ◌≤◌, ◌<◌, ◌≡◌, refl, Bool, true, false, not, cond, ◌||◌, ◌&&◌, T, eqb, ltb, leb, get_or}
 use Rattle.std.proofs.Common.{arith, ap, subst, leb-false}
 use Rattle.std.proofs.Math.ListN.{get_or-eq_default}
-use Rattle.answers.specs.Refusals.{noSuch}
+use Rattle.answers.specs.Refusals.{no_such}
 use Rattle.rates.specs.declared.Framerate.{Framerate}
 use Rattle.rates.specs.declared.Rated.TheVariants.{Row, Refused}
-use Rattle.rates.specs.Rates.{rates, isRate, no_row, rateRow, frameTicks, rateAt, dropFrames, isDrop}
+use Rattle.rates.specs.Rates.{rates, is_rate, no_row, rate_row, frame_ticks, rate_at, drop_frames, is_drop}
 use Rattle.rates.specs.Rule.{sound, in_table, rows-twelve}
 
 -- ---- the row of a number
 
 -- a rate's row is its entry of the table, counted from 1
-pub row_in : (n : ℕ) → isRate n ≡ true → rateRow n ≡ get_or rates (n - 1) no_row
-unfolding rateRow
+pub row_in : (n : ℕ) → is_rate n ≡ true → rate_row n ≡ get_or rates (n - 1) no_row
+unfolding rate_row
 row_in zero h = absurd (omega (arith, (in_table zero h).0))
 row_in (suc m) h = ap (λ (k : ℕ). get_or rates k no_row) (omega arith)
 
 -- any other number's is zeros
-pub row_out : (n : ℕ) → isRate n ≡ false → rateRow n ≡ no_row
-unfolding rateRow isRate
+pub row_out : (n : ℕ) → is_rate n ≡ false → rate_row n ≡ no_row
+unfolding rate_row is_rate
 row_out zero h = refl
 row_out (suc m) h = by (leb 1 (suc m)) (leb (suc m) 12) refl refl h
   where
@@ -30,19 +30,19 @@ row_out (suc m) h = by (leb 1 (suc m)) (leb (suc m) 12) refl refl h
 
 -- ---- the answer for a number that is a rate, and for one that is none
 
-pub rateAt-in : (n : ℕ) → isRate n ≡ true → rateAt n ≡ Row (rateRow n)
-unfolding rateAt
-rateAt-in n h = ap (λ (t : Bool). cond (not t) (Refused noSuch) (Row (rateRow n))) h
+pub rate_at-in : (n : ℕ) → is_rate n ≡ true → rate_at n ≡ Row (rate_row n)
+unfolding rate_at
+rate_at-in n h = ap (λ (t : Bool). cond (not t) (Refused no_such) (Row (rate_row n))) h
 
-pub rateAt-out : (n : ℕ) → isRate n ≡ false → rateAt n ≡ Refused noSuch
-unfolding rateAt
-rateAt-out n h = ap (λ (t : Bool). cond (not t) (Refused noSuch) (Row (rateRow n))) h
+pub rate_at-out : (n : ℕ) → is_rate n ≡ false → rate_at n ≡ Refused no_such
+unfolding rate_at
+rate_at-out n h = ap (λ (t : Bool). cond (not t) (Refused no_such) (Row (rate_row n))) h
 
 -- ---- the labels that a minute drops
 
 -- D is at most 4, at any number
-pub drop_le : (n : ℕ) → dropFrames n ≤ 4
-unfolding dropFrames
+pub drop_le : (n : ℕ) → drop_frames n ≤ 4
+unfolding drop_frames
 drop_le n = go (eqb n 5) (eqb n 11)
   where
     go : (s t : Bool) → cond s 2 (cond t 4 0) ≤ 4
@@ -51,12 +51,12 @@ drop_le n = go (eqb n 5) (eqb n 11)
     go false false = omega arith
 
 -- and below the timebase, at any rate
-pub drop-small : (n : ℕ) → isRate n ≡ true → dropFrames n < (rateRow n).timebase
+pub drop-small : (n : ℕ) → is_rate n ≡ true → drop_frames n < (rate_row n).timebase
 drop-small n h = let s = sound n h in omega (arith, drop_le n)
 
 -- the drop rates are those at which D is above 0
-pub drop-above : (n : ℕ) → isDrop n ≡ ltb 0 (dropFrames n)
-unfolding isDrop dropFrames
+pub drop-above : (n : ℕ) → is_drop n ≡ ltb 0 (drop_frames n)
+unfolding is_drop drop_frames
 drop-above n = go (eqb n 5) (eqb n 11)
   where
     go : (s t : Bool) → (s || t) ≡ ltb 0 (cond s 2 (cond t 4 0))
@@ -65,9 +65,9 @@ drop-above n = go (eqb n 5) (eqb n 11)
     go false false = refl
 
 -- no frame lasts longer than that of 23.98, at any number
-pub frameTicks-le : (n : ℕ) → frameTicks n ≤ 10594584000
-frameTicks-le n = go (isRate n) refl
+pub frame_ticks-le : (n : ℕ) → frame_ticks n ≤ 10594584000
+frame_ticks-le n = go (is_rate n) refl
   where
-    go : (t : Bool) → isRate n ≡ t → frameTicks n ≤ 10594584000
-    go true e = (sound n e).ticks-most
+    go : (t : Bool) → is_rate n ≡ t → frame_ticks n ≤ 10594584000
+    go true e = (sound n e).ticks_most
     go false e = omega (arith, ap (λ (r : Framerate). r.ticks) (row_out n e))

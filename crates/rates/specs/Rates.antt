@@ -2,7 +2,7 @@
 -- Assumes nothing.
 use Rattle.std.specs.Prelude.{ℕ, Bool, cond, not, ◌&&◌, ◌||◌, List, [], ◌∷◌, leb, eqb, get_or}
 use Rattle.answers.specs.Order.{Condition, when, unless}
-use Rattle.answers.specs.Refusals.{noSuch}
+use Rattle.answers.specs.Refusals.{no_such}
 use Rattle.rates.specs.declared.Framerate.{Framerate}
 use Rattle.rates.specs.declared.Rated.{Rated}
 use Rattle.rates.specs.declared.Rated.TheVariants.{Row, Refused}
@@ -29,39 +29,39 @@ rates =
     ∷ []
 
 -- a rate is a number from 1 to 12
-unfoldable pub isRate : ℕ → Bool
-isRate n = leb 1 n && leb n 12
+unfoldable pub is_rate : ℕ → Bool
+is_rate n = leb 1 n && leb n 12
 
 -- zeros: the row of a number that is no rate
 abbrev pub no_row : Framerate
 no_row = framerate 0 0 0 0
 
 -- the row of a rate number
-unfoldable pub rateRow : ℕ → Framerate
-rateRow n = get_or (no_row ∷ rates) n no_row
+unfoldable pub rate_row : ℕ → Framerate
+rate_row n = get_or (no_row ∷ rates) n no_row
 
 -- the ticks of a frame at a rate: the last column
-abbrev pub frameTicks : (rate : ℕ) → ℕ
-frameTicks rate = (rateRow rate).ticks
+abbrev pub frame_ticks : (rate : ℕ) → ℕ
+frame_ticks rate = (rate_row rate).ticks
 
 -- a second has 254016000000 ticks
-abbrev pub secondTicks : ℕ
-secondTicks = 254016000000
+abbrev pub second_ticks : ℕ
+second_ticks = 254016000000
 
 -- 6: no such rate (1 to 12)
-abbrev pub badRate : (rate : ℕ) → Condition
-badRate rate = when noSuch (not (isRate rate))
+abbrev pub bad_rate : (rate : ℕ) → Condition
+bad_rate rate = when no_such (not (is_rate rate))
 
-unfoldable pub rateAt : ℕ → Rated
-rateAt n = unless Refused (badRate n ∷ []) (Row (rateRow n))
+unfoldable pub rate_at : ℕ → Rated
+rate_at n = unless Refused (bad_rate n ∷ []) (Row (rate_row n))
 
 -- D is 2 at rate 5, 4 at rate 11, else 0
-unfoldable pub dropFrames : ℕ → ℕ
-dropFrames n = cond (eqb n 5) 2 (cond (eqb n 11) 4 0)
+unfoldable pub drop_frames : ℕ → ℕ
+drop_frames n = cond (eqb n 5) 2 (cond (eqb n 11) 4 0)
 
 -- the drop rates are 5 and 11
-unfoldable pub isDrop : ℕ → Bool
-isDrop n = eqb n 5 || eqb n 11
+unfoldable pub is_drop : ℕ → Bool
+is_drop n = eqb n 5 || eqb n 11
 
 -- the number of an answer (0: not refused), and its row (a refusal's numbers are 0)
 abbrev pub number_of : Rated → ℕ

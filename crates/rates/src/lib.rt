@@ -1,7 +1,9 @@
 // The twelve rates by number: one constant table. A number that is no rate is refused 6.
+#![tactic(auto)]
+
 ghost use Rattle.std.specs.Prelude.{◌≡◌, true};
-ghost use Rattle.rates.specs.Rates.{isRate, rateRow, rateAt, dropFrames, isDrop};
-ghost use Rattle.rates.specs.Day.{dayFrames};
+ghost use Rattle.rates.specs.Rates.{is_rate, rate_row, rate_at, drop_frames, is_drop};
+ghost use Rattle.rates.specs.Day.{day_frames};
 
 use answers::Refusal;
 
@@ -102,7 +104,7 @@ const RATES: [Framerate; 12] = [
 
 // Whether there is a rate of this number: 1 to 12.
 pub fn is_rate(no: u64) -> bool
-    ensures answer { result ≡ isRate no }
+    ensures { result ≡ is_rate no }
 {
     if no < 1 {
         return false;
@@ -115,7 +117,7 @@ pub fn is_rate(no: u64) -> bool
 
 // The row of a rate; of a number that is no rate, zeros.
 pub fn row(no: u64) -> Framerate
-    ensures answer { result ≡ rateRow no }
+    ensures { result ≡ rate_row no }
 {
     if is_rate(no) {
         return entry(no);
@@ -130,15 +132,15 @@ pub fn row(no: u64) -> Framerate
 
 // The entry of a rate. Asks that the number is one.
 fn entry(no: u64) -> Framerate
-    requires rate { isRate no ≡ true }
-    ensures answer { result ≡ rateRow no }
+    requires { is_rate no ≡ true }
+    ensures { result ≡ rate_row no }
 {
     RATES[(no - 1) as usize]
 }
 
 // The row of a rate. Refuses 6: no such rate.
 pub fn framerate_at(no: u64) -> Rated
-    ensures answer { result ≡ rateAt no }
+    ensures { result ≡ rate_at no }
 {
     if is_rate(no) {
         Rated::Row(row(no))
@@ -149,7 +151,7 @@ pub fn framerate_at(no: u64) -> Rated
 
 // How many labels a minute drops, but each tenth: 2 at rate 5, 4 at rate 11, else 0 (vtc's word).
 pub fn drop_frames_per_minute(no: u64) -> u64
-    ensures answer { result ≡ dropFrames no }
+    ensures { result ≡ drop_frames no }
 {
     if no == 5 {
         return 2;
@@ -162,7 +164,7 @@ pub fn drop_frames_per_minute(no: u64) -> u64
 
 // The frames of a rate's day: 24 hours of the timebase, less the dropped labels; of a number that is no rate, 0.
 pub fn day(no: u64) -> u64
-    ensures answer { result ≡ dayFrames no }
+    ensures { result ≡ day_frames no }
 {
     if is_rate(no) {
         return day_of(no);
@@ -172,15 +174,15 @@ pub fn day(no: u64) -> u64
 
 // The frames of a day of 1,440 minutes, of which 1,296 drop labels. Asks a rate.
 fn day_of(no: u64) -> u64
-    requires rate { isRate no ≡ true }
-    ensures answer { result ≡ dayFrames no }
+    requires { is_rate no ≡ true }
+    ensures { result ≡ day_frames no }
 {
     86_400 * row(no).timebase - 1_296 * drop_frames_per_minute(no)
 }
 
 // Whether the rate drops labels: rates 5 and 11.
 pub fn is_drop(no: u64) -> bool
-    ensures answer { result ≡ isDrop no }
+    ensures { result ≡ is_drop no }
 {
     if no == 5 {
         return true;

@@ -10,7 +10,7 @@ use Rattle.reading.specs.contracts.taking.take_text as take-text
 use Rattle.reading.proofs.taking.take_text.Reads as take-text-reads
 use Rattle.reading.specs.contracts.taking.take_label as take-label
 use Rattle.reading.proofs.taking.take_label.Reads as take-label-reads
-use Rattle.reading.specs.contracts.read_label_only as read-label-only
+use Rattle.reading.specs.contracts.read_label_only as read_label_only
 use Rattle.reading.proofs.read_label_only.Reads as read-label-only-reads
 use Rattle.reading.specs.contracts.read_taken as read_taken
 use Rattle.reading.proofs.read_taken.Reads as read-taken-reads
@@ -28,7 +28,7 @@ take-text-determined κs a asked x y p q = ap (λ z. (z, x.1)) (p ∙ sym q)
 pub take-label-determined : Determined take-label.ended take-label-reads.Asked take-label-reads.Learnt
 take-label-determined κs a asked x y p q = ap (λ z. (z, x.1)) (p ∙ sym q)
 
-pub read-label-only-determined : Determined read-label-only.ended read-label-only-reads.Asked read-label-only-reads.Learnt
+pub read-label-only-determined : Determined read_label_only.ended read-label-only-reads.Asked read-label-only-reads.Learnt
 read-label-only-determined κs a asked x y p q = ap (λ z. (z, x.1)) (p ∙ sym q)
 
 pub read-taken-determined : Determined read_taken.ended read-taken-reads.Asked read-taken-reads.Learnt

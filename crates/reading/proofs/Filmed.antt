@@ -7,15 +7,15 @@ use mathlib.Core.Bool.{Bool, true, false}
 use Rattle.answers.specs.declared.Refusal.{Refusal}
 use Rattle.film.specs.declared.FilmFormat.{FilmFormat}
 use Rattle.film.specs.declared.Filmed.TheVariants.{Format, Refused}
-use Rattle.film.specs.Film.{isFormat, formatAt}
-use Rattle.film.specs.FormatLaws.{formatAt-out, formatAt-refused}
+use Rattle.film.specs.Film.{is_format, format_at}
+use Rattle.film.specs.FormatLaws.{format_at-out, format_at-refused}
 
-pub format-number : (n : ℕ) (format : FilmFormat) → formatAt n ≡ Format format → isFormat n ≡ true
-format-number n format e = go (isFormat n) refl
+pub format-number : (n : ℕ) (format : FilmFormat) → format_at n ≡ Format format → is_format n ≡ true
+format-number n format e = go (is_format n) refl
   where
-    go : (t : Bool) → isFormat n ≡ t → isFormat n ≡ true
+    go : (t : Bool) → is_format n ≡ t → is_format n ≡ true
     go true p = p
-    go false p = let k = formatAt-out n p in let z : ◌≡◌ {A = ℕ} 0 1 = cc in absurd (omega arith)
+    go false p = let k = format_at-out n p in let z : ◌≡◌ {A = ℕ} 0 1 = cc in absurd (omega arith)
 
-pub no_number : (n : ℕ) (e : Refusal) → formatAt n ≡ Refused e → isFormat n ≡ false
-no_number n e p = (formatAt-refused n e p).0
+pub no_number : (n : ℕ) (e : Refusal) → format_at n ≡ Refused e → is_format n ≡ false
+no_number n e p = (format_at-refused n e p).0

@@ -6,82 +6,82 @@ use mathlib.Core.List.{List}
 use mathlib.Core.Bool.{Bool, true, false}
 use lib.IntN.{ℤ}
 use Rattle.digits.specs.Digits.{value_of}
-use Rattle.answers.specs.Refusals.{atPlace, no_shape, tooLong, droppedLabel, noPerfField, notOnFilm, held}
+use Rattle.answers.specs.Refusals.{at_place, no_shape, too_long, dropped_label, no_perf_field, not_on_film, held}
 use Rattle.film.specs.declared.FilmFormat.{FilmFormat}
 use Rattle.film.specs.Statements.{OffFilm}
-use Rattle.film.proofs.Statements.{on-film-exactly, off-film-exactly}
-use Rattle.footage_scan.specs.Shape.{FootageParts, hasPerf}
+use Rattle.film.proofs.Statements.{on_film_exactly, off_film_exactly}
+use Rattle.footage_scan.specs.Shape.{FootageParts, has_perf}
 use Rattle.reading.specs.declared.Stated.{Stated}
 use Rattle.reading.specs.declared.Stated.TheVariants.{Nothing}
 use Rattle.reading.specs.declared.Read.TheVariants.{Refused}
-use Rattle.reading.specs.Answer.{asLabel, asFootage}
-use Rattle.reading.specs.Shaped.{formatFor, Shaped, shape_of}
-use Rattle.reading.specs.Reading.{labelRead, takesPerf, footageRead, readShaped, readText}
+use Rattle.reading.specs.Answer.{as_label, as_footage}
+use Rattle.reading.specs.Shaped.{format_for, Shaped, shape_of}
+use Rattle.reading.specs.Reading.{label_read, takes_perf, footage_read, read_shaped, read_text}
 use Rattle.reading.specs.ReadingLaws.{label-dropped, label_kept, footage-marked, footage-off, footage-on, read-shaped}
 use Rattle.reading.specs.Statements.{RateAndFormat, HasShape, FootageText, PerfRefused, InFormat, FilmRefused, LabelText, DroppedText, LabelCount, FootageCount}
 use Rattle.reading.proofs.Shapes.{shape-label, shape-footage, shape-long, long-place}
 use Rattle.reading.proofs.FourKinds.{shape-none}
 
 module _ (l : List ℕ) (stated : Stated) (rate : ℕ) (a : RateAndFormat stated rate) where
-  by_shape : (x : Shaped) → shape_of stated l ≡ x → readText l stated rate ≡ readShaped rate stated x
-  by_shape x e = read-shaped l stated rate a.rated a.filmed ∙ ap (readShaped rate stated) e
+  by_shape : (x : Shaped) → shape_of stated l ≡ x → read_text l stated rate ≡ read_shaped rate stated x
+  by_shape x e = read-shaped l stated rate a.rated a.filmed ∙ ap (read_shaped rate stated) e
 
-  pub gives_none : ((t : Bool) → ¬ HasShape stated l t) → (place : ℕ) × (readText l stated rate ≡ Refused (atPlace no_shape place))
+  pub gives_none : ((t : Bool) → ¬ HasShape stated l t) → (place : ℕ) × (read_text l stated rate ≡ Refused (at_place no_shape place))
   gives_none h = let s = shape-none stated l h in (s.0, by_shape _ s.1)
 
-  pub gives-long : HasShape stated l true → (place : ℕ) × (readText l stated rate ≡ Refused (atPlace tooLong place))
+  pub gives-long : HasShape stated l true → (place : ℕ) × (read_text l stated rate ≡ Refused (at_place too_long place))
   gives-long h = let s = long-place stated l h in (s.0, by_shape _ (shape-long stated l s.0 s.1))
 
   -- ---- a label
-  pub gives-label : stated ≡ Nothing → (m : Bool) (fields : List ℕ) → LabelText l m fields → readText l stated rate ≡ labelRead rate m fields
+  pub gives-label : stated ≡ Nothing → (m : Bool) (fields : List ℕ) → LabelText l m fields → read_text l stated rate ≡ label_read rate m fields
   gives-label u m fields t = by_shape _ (ap (λ (s : Stated). shape_of s l) u ∙ shape-label l m fields t)
 
-  pub gives-dropped : stated ≡ Nothing → DroppedText l rate → readText l stated rate ≡ Refused droppedLabel
+  pub gives-dropped : stated ≡ Nothing → DroppedText l rate → read_text l stated rate ≡ Refused dropped_label
   gives-dropped u d = gives-label u d.minus d.fields d.text ∙ label-dropped rate d.minus d.fields d.dropped
 
-  pub gives-label-count : (z : ℤ) → LabelCount l stated rate z → readText l stated rate ≡ asLabel rate (held z)
+  pub gives-label-count : (z : ℤ) → LabelCount l stated rate z → read_text l stated rate ≡ as_label rate (held z)
   gives-label-count z x =
       gives-label x.unstated x.minus x.fields x.text
       ∙ label_kept rate x.minus x.fields x.kept
-      ∙ ap (λ (y : ℤ). asLabel rate (held y)) x.count
+      ∙ ap (λ (y : ℤ). as_label rate (held y)) x.count
 
   -- ---- a footage
   module _ (p : FootageParts) (t : FootageText l p) where
     abbrev perf : Bool
-    perf = hasPerf p.perf
+    perf = has_perf p.perf
 
-    gives-footage : (format : FilmFormat) → formatFor stated perf ≡ format
-        → readText l stated rate ≡ footageRead rate format p.minus (value_of p.feet) (value_of p.frames) perf (value_of p.perf)
+    gives-footage : (format : FilmFormat) → format_for stated perf ≡ format
+        → read_text l stated rate ≡ footage_read rate format p.minus (value_of p.feet) (value_of p.frames) perf (value_of p.perf)
     gives-footage format chosen =
         by_shape _ (shape-footage stated l p t)
-        ∙ ap (λ (f : FilmFormat). footageRead rate f p.minus (value_of p.feet) (value_of p.frames) perf (value_of p.perf)) chosen
+        ∙ ap (λ (f : FilmFormat). footage_read rate f p.minus (value_of p.feet) (value_of p.frames) perf (value_of p.perf)) chosen
 
     -- a perf field that the format has not
-    gives-marked : takesPerf (formatFor stated perf) perf ≡ false → readText l stated rate ≡ Refused noPerfField
+    gives-marked : takes_perf (format_for stated perf) perf ≡ false → read_text l stated rate ≡ Refused no_perf_field
     gives-marked e =
-        gives-footage (formatFor stated perf) refl
-        ∙ footage-marked rate (formatFor stated perf) p.minus (value_of p.feet) (value_of p.frames) perf (value_of p.perf) e
+        gives-footage (format_for stated perf) refl
+        ∙ footage-marked rate (format_for stated perf) p.minus (value_of p.feet) (value_of p.frames) perf (value_of p.perf) e
 
     -- one that cannot be on the film
     gives-off : (format : FilmFormat) → InFormat stated p format
-        → OffFilm format (value_of p.feet) (value_of p.frames) perf (value_of p.perf) → readText l stated rate ≡ Refused notOnFilm
+        → OffFilm format (value_of p.feet) (value_of p.frames) perf (value_of p.perf) → read_text l stated rate ≡ Refused not_on_film
     gives-off format i off =
         gives-footage format i.chosen
         ∙ footage-off rate format p.minus (value_of p.feet) (value_of p.frames) perf (value_of p.perf) i.takes
-        ((off-film-exactly format (value_of p.feet) (value_of p.frames) perf (value_of p.perf)).1 off)
+        ((off_film_exactly format (value_of p.feet) (value_of p.frames) perf (value_of p.perf)).1 off)
 
-  pub gives-no-perf : PerfRefused l stated → readText l stated rate ≡ Refused noPerfField
+  pub gives-no-perf : PerfRefused l stated → read_text l stated rate ≡ Refused no_perf_field
   gives-no-perf x =
-      gives-marked x.parts x.text (ap (λ (b : Bool). takesPerf (formatFor stated b) b) x.present ∙ x.none)
+      gives-marked x.parts x.text (ap (λ (b : Bool). takes_perf (format_for stated b) b) x.present ∙ x.none)
 
-  pub gives-not-on-film : FilmRefused l stated → readText l stated rate ≡ Refused notOnFilm
+  pub gives-not-on-film : FilmRefused l stated → read_text l stated rate ≡ Refused not_on_film
   gives-not-on-film x = gives-off x.parts x.text x.format x.in-format x.off
 
-  pub gives-footage-count : (format : FilmFormat) (z : ℤ) → FootageCount l stated format z → readText l stated rate ≡ asFootage rate format (held z)
+  pub gives-footage-count : (format : FilmFormat) (z : ℤ) → FootageCount l stated format z → read_text l stated rate ≡ as_footage rate format (held z)
   gives-footage-count format z x =
       let p = x.parts in
-      let perf = hasPerf p.perf in
+      let perf = has_perf p.perf in
       gives-footage p x.text format x.in-format.chosen
       ∙ footage-on rate format p.minus (value_of p.feet) (value_of p.frames) perf (value_of p.perf) x.in-format.takes
-      ((on-film-exactly format (value_of p.feet) (value_of p.frames) perf (value_of p.perf)).1 x.on)
-      ∙ ap (λ (y : ℤ). asFootage rate format (held y)) x.count
+      ((on_film_exactly format (value_of p.feet) (value_of p.frames) perf (value_of p.perf)).1 x.on)
+      ∙ ap (λ (y : ℤ). as_footage rate format (held y)) x.count

@@ -10,32 +10,32 @@ use lib.Dec.{eqb}
 use lib.IntN.{ℤ}
 use Rattle.beginnings.specs.Beginning.{LongestBeginning}
 use Rattle.digits.specs.Digits.{value_of}
-use Rattle.answers.specs.Refusals.{isCount, held}
+use Rattle.answers.specs.Refusals.{is_count, held}
 use Rattle.answers.specs.Laws.{held_in, held_out}
-use Rattle.rates.specs.Rates.{isRate, dropFrames}
+use Rattle.rates.specs.Rates.{is_rate, drop_frames}
 use Rattle.timecodes.specs.Timecode.{timecode}
 use Rattle.film.specs.declared.FilmFormat.{FilmFormat}
-use Rattle.film.specs.Film.{allowsPerfField}
-use Rattle.film.specs.OnFilm.{onFilm}
-use Rattle.film.proofs.Statements.{on-film-exactly, off-film-exactly}
-use Rattle.labels.specs.Label.{droppedIn}
-use Rattle.labels.specs.AtRate.{labelFrames}
-use Rattle.footage_scan.specs.Shape.{FootageParts, hasPerf}
+use Rattle.film.specs.Film.{allows_perf_field}
+use Rattle.film.specs.OnFilm.{on_film}
+use Rattle.film.proofs.Statements.{on_film_exactly, off_film_exactly}
+use Rattle.labels.specs.Label.{dropped_in}
+use Rattle.labels.specs.AtRate.{label_frames}
+use Rattle.footage_scan.specs.Shape.{FootageParts, has_perf}
 use Rattle.reading.specs.declared.Stated.{Stated}
 use Rattle.reading.specs.declared.Stated.TheVariants.{Nothing}
 use Rattle.reading.specs.declared.Read.{Read}
 use Rattle.reading.specs.declared.Read.TheVariants.{Label, Footage, Refused}
-use Rattle.reading.specs.Answer.{number_of, place_of, asLabel, asFootage}
-use Rattle.reading.specs.Shaped.{isStated, formatFor, Shaped, shape_of}
-use Rattle.reading.specs.Reading.{labelRead, takesPerf, footageFrames, footageRead, readShaped, readText}
-use Rattle.reading.specs.ReadingLaws.{label-dropped, label_kept, footage-marked, footage-off, footage-on, no-rate, no-format, read-shaped}
+use Rattle.reading.specs.Answer.{number_of, place_of, as_label, as_footage}
+use Rattle.reading.specs.Shaped.{is_stated, format_for, Shaped, shape_of}
+use Rattle.reading.specs.Reading.{label_read, takes_perf, footage_frames, footage_read, read_shaped, read_text}
+use Rattle.reading.specs.ReadingLaws.{label-dropped, label_kept, footage-marked, footage-off, footage-on, no_rate, no-format, read-shaped}
 use Rattle.reading.specs.Statements.{HasShape, AllowedShape, LongShape, FootageText, PerfRefused, FilmRefused, LabelText, DroppedText, LabelCount, FootageCount, CountOut}
 use Rattle.reading.proofs.FourKinds.{Kind, none, long, labelled, filmed, kind}
 
 module _ (l : List ℕ) (stated : Stated) (rate : ℕ) where
   -- what a number behind 5 tells: 6 or 13, and no other is given
   abbrev pub Behind : (six thirteen : Bool) (place : ℕ) → Type 0
-  Behind true thirteen place = ((isRate rate ≡ false) ⊎ (isStated stated ≡ false)) × (place ≡ 0)
+  Behind true thirteen place = ((is_rate rate ≡ false) ⊎ (is_stated stated ≡ false)) × (place ≡ 0)
   Behind false true place = FilmRefused l stated × (place ≡ 0)
   Behind false false place = ⊥
 
@@ -50,54 +50,54 @@ module _ (l : List ℕ) (stated : Stated) (rate : ℕ) where
   Cause (suc (suc (suc (suc (suc (suc past)))))) place = Behind (eqb past 0) (eqb past 7) place
 
   abbrev pub Told : Read → Type 0
-  Told (Label tc) = (tc ≡ timecode tc.count rate) × (LabelCount l stated rate tc.count × (isCount tc.count ≡ true))
-  Told (Footage tc format) = (tc ≡ timecode tc.count rate) × (FootageCount l stated format tc.count × (isCount tc.count ≡ true))
+  Told (Label tc) = (tc ≡ timecode tc.count rate) × (LabelCount l stated rate tc.count × (is_count tc.count ≡ true))
+  Told (Footage tc format) = (tc ≡ timecode tc.count rate) × (FootageCount l stated format tc.count × (is_count tc.count ≡ true))
   Told (Refused e) = Cause e.number e.place
 
   -- ---- a label
-  label-by-count : (z : ℤ) → LabelCount l stated rate z → (t : Bool) → isCount z ≡ t → Told (asLabel rate (held z))
-  label-by-count z x true e = subst (λ a. Told (asLabel rate a)) (sym (held_in z e)) (refl, (x, e))
-  label-by-count z x false e = subst (λ a. Told (asLabel rate a)) (sym (held_out z e)) (record { z = z; count = inl x; out = e }, refl)
+  label-by-count : (z : ℤ) → LabelCount l stated rate z → (t : Bool) → is_count z ≡ t → Told (as_label rate (held z))
+  label-by-count z x true e = subst (λ a. Told (as_label rate a)) (sym (held_in z e)) (refl, (x, e))
+  label-by-count z x false e = subst (λ a. Told (as_label rate a)) (sym (held_out z e)) (record { z = z; count = inl x; out = e }, refl)
 
-  label-told : stated ≡ Nothing → (m : Bool) (fields : List ℕ) → LabelText l m fields
-      → (t : Bool) → droppedIn (dropFrames rate) fields ≡ t → Told (labelRead rate m fields)
-  label-told u m fields x true e =
+  label_told : stated ≡ Nothing → (m : Bool) (fields : List ℕ) → LabelText l m fields
+      → (t : Bool) → dropped_in (drop_frames rate) fields ≡ t → Told (label_read rate m fields)
+  label_told u m fields x true e =
       subst Told (sym (label-dropped rate m fields e)) ((u, record { minus = m; fields = fields; text = x; dropped = e }), refl)
-  label-told u m fields x false e =
-      let z = labelFrames rate m fields in
+  label_told u m fields x false e =
+      let z = label_frames rate m fields in
       subst Told (sym (label_kept rate m fields e))
-      (label-by-count z (record { unstated = u; minus = m; fields = fields; text = x; kept = e; count = refl }) (isCount z) refl)
+      (label-by-count z (record { unstated = u; minus = m; fields = fields; text = x; kept = e; count = refl }) (is_count z) refl)
 
   -- ---- a footage
-  footage-by-count : (format : FilmFormat) (z : ℤ) → FootageCount l stated format z → (t : Bool) → isCount z ≡ t → Told (asFootage rate format (held z))
-  footage-by-count format z x true e = subst (λ a. Told (asFootage rate format a)) (sym (held_in z e)) (refl, (x, e))
+  footage-by-count : (format : FilmFormat) (z : ℤ) → FootageCount l stated format z → (t : Bool) → is_count z ≡ t → Told (as_footage rate format (held z))
+  footage-by-count format z x true e = subst (λ a. Told (as_footage rate format a)) (sym (held_in z e)) (refl, (x, e))
   footage-by-count format z x false e =
-      subst (λ a. Told (asFootage rate format a)) (sym (held_out z e)) (record { z = z; count = inr (format, x); out = e }, refl)
+      subst (λ a. Told (as_footage rate format a)) (sym (held_out z e)) (record { z = z; count = inr (format, x); out = e }, refl)
 
   -- a format takes every footage but one with a perf field that it has not
-  refuses : (format : FilmFormat) (perf : Bool) → takesPerf format perf ≡ false → (perf ≡ true) × (allowsPerfField format ≡ false)
+  refuses : (format : FilmFormat) (perf : Bool) → takes_perf format perf ≡ false → (perf ≡ true) × (allows_perf_field format ≡ false)
   refuses format true e = (refl, e)
   refuses format false e = let z : ◌≡◌ {A = ℕ} 0 1 = cc in absurd (omega arith)
 
   module _ (p : FootageParts) (x : FootageText l p) where
     abbrev perf : Bool
-    perf = hasPerf p.perf
+    perf = has_perf p.perf
 
     abbrev format : FilmFormat
-    format = formatFor stated perf
+    format = format_for stated perf
 
     abbrev read : Read
-    read = footageRead rate format p.minus (value_of p.feet) (value_of p.frames) perf (value_of p.perf)
+    read = footage_read rate format p.minus (value_of p.feet) (value_of p.frames) perf (value_of p.perf)
 
     -- in a format that takes it, by whether it can be on the film
-    film-told : takesPerf format perf ≡ true → (t : Bool) → onFilm format (value_of p.feet) (value_of p.frames) perf (value_of p.perf) ≡ t → Told read
+    film-told : takes_perf format perf ≡ true → (t : Bool) → on_film format (value_of p.feet) (value_of p.frames) perf (value_of p.perf) ≡ t → Told read
     film-told e true f =
-        let z = footageFrames format p.minus (value_of p.feet) (value_of p.frames) in
-        let on = (on-film-exactly format (value_of p.feet) (value_of p.frames) perf (value_of p.perf)).0 f in
+        let z = footage_frames format p.minus (value_of p.feet) (value_of p.frames) in
+        let on = (on_film_exactly format (value_of p.feet) (value_of p.frames) perf (value_of p.perf)).0 f in
         subst Told (sym (footage-on rate format p.minus (value_of p.feet) (value_of p.frames) perf (value_of p.perf) e f))
         (footage-by-count format z
         (record { parts = p; text = x; in-format = record { chosen = refl; takes = e }; on = on; count = refl })
-        (isCount z) refl)
+        (is_count z) refl)
     film-told e false f =
         subst Told (sym (footage-off rate format p.minus (value_of p.feet) (value_of p.frames) perf (value_of p.perf) e f)) (
           record {
@@ -105,35 +105,35 @@ module _ (l : List ℕ) (stated : Stated) (rate : ℕ) where
             text = x;
             format = format;
             in-format = record { chosen = refl; takes = e };
-            off = (off-film-exactly format (value_of p.feet) (value_of p.frames) perf (value_of p.perf)).0 f;
+            off = (off_film_exactly format (value_of p.feet) (value_of p.frames) perf (value_of p.perf)).0 f;
           },
           refl,
         )
 
-    footage-told : (t : Bool) → takesPerf format perf ≡ t → Told read
-    footage-told false e =
+    footage_told : (t : Bool) → takes_perf format perf ≡ t → Told read
+    footage_told false e =
         let r = refuses format perf e in
         subst Told (sym (footage-marked rate format p.minus (value_of p.feet) (value_of p.frames) perf (value_of p.perf) e))
-        (record { parts = p; text = x; present = r.0; none = ap (λ (b : Bool). allowsPerfField (formatFor stated b)) (sym r.0) ∙ r.1 }, refl)
-    footage-told true e = film-told e (onFilm format (value_of p.feet) (value_of p.frames) perf (value_of p.perf)) refl
+        (record { parts = p; text = x; present = r.0; none = ap (λ (b : Bool). allows_perf_field (format_for stated b)) (sym r.0) ∙ r.1 }, refl)
+    footage_told true e = film-told e (on_film format (value_of p.feet) (value_of p.frames) perf (value_of p.perf)) refl
 
   -- ---- a text
-  kind-told : (x : Shaped) → Kind stated l x → Told (readShaped rate stated x)
+  kind-told : (x : Shaped) → Kind stated l x → Told (read_shaped rate stated x)
   kind-told x (none place h longest) = (h, longest)
   kind-told x (long place h) = h
-  kind-told x (labelled {m = m} {fields = fields} u t) = label-told u m fields t (droppedIn (dropFrames rate) fields) refl
-  kind-told x (filmed p t) = footage-told p t (takesPerf (format p t) (perf p t)) refl
+  kind-told x (labelled {m = m} {fields = fields} u t) = label_told u m fields t (dropped_in (drop_frames rate) fields) refl
+  kind-told x (filmed p t) = footage_told p t (takes_perf (format p t) (perf p t)) refl
 
-  by-format : isRate rate ≡ true → (t : Bool) → isStated stated ≡ t → Told (readText l stated rate)
-  by-format r true s = subst Told (sym (read-shaped l stated rate r s)) (kind-told (shape_of stated l) (kind stated l))
-  by-format r false s = subst Told (sym (no-format l stated rate r s)) (inr s, refl)
+  by_format : is_rate rate ≡ true → (t : Bool) → is_stated stated ≡ t → Told (read_text l stated rate)
+  by_format r true s = subst Told (sym (read-shaped l stated rate r s)) (kind-told (shape_of stated l) (kind stated l))
+  by_format r false s = subst Told (sym (no-format l stated rate r s)) (inr s, refl)
 
-  by-rate : (t : Bool) → isRate rate ≡ t → Told (readText l stated rate)
-  by-rate true r = by-format r (isStated stated) refl
-  by-rate false r = subst Told (sym (no-rate l stated rate r)) (inl r, refl)
+  by-rate : (t : Bool) → is_rate rate ≡ t → Told (read_text l stated rate)
+  by-rate true r = by_format r (is_stated stated) refl
+  by-rate false r = subst Told (sym (no_rate l stated rate r)) (inl r, refl)
 
-  pub told : Told (readText l stated rate)
-  told = by-rate (isRate rate) refl
+  pub told : Told (read_text l stated rate)
+  told = by-rate (is_rate rate) refl
 
   number_by : (r : Read) (n : ℕ) → Told r → 0 < n → number_of r ≡ n → Cause n (place_of r)
   number_by (Label tc) n t h e = absurd (omega arith)
@@ -141,8 +141,8 @@ module _ (l : List ℕ) (stated : Stated) (rate : ℕ) where
   number_by (Refused f) n t h e = subst (λ (k : ℕ). Cause k f.place) e t
 
   -- a refusal's number tells its cause, and what its place is
-  pub cause : (n : ℕ) → 0 < n → number_of (readText l stated rate) ≡ n → Cause n (place_of (readText l stated rate))
-  cause n h e = number_by (readText l stated rate) n told h e
+  pub cause : (n : ℕ) → 0 < n → number_of (read_text l stated rate) ≡ n → Cause n (place_of (read_text l stated rate))
+  cause n h e = number_by (read_text l stated rate) n told h e
 
   behind-else : (six thirteen : Bool) (place : ℕ) → Behind six thirteen place → place ≡ 0
   behind-else true t place c = c.1
@@ -164,5 +164,5 @@ module _ (l : List ℕ) (stated : Stated) (rate : ℕ) where
   else-by (Footage tc format) t one two = refl
   else-by (Refused f) t one two = cause-else f.number f.place t one two
 
-  pub place-else : ¬ (number_of (readText l stated rate) ≡ 1) → ¬ (number_of (readText l stated rate) ≡ 2) → place_of (readText l stated rate) ≡ 0
-  place-else = else-by (readText l stated rate) told
+  pub place_else : ¬ (number_of (read_text l stated rate) ≡ 1) → ¬ (number_of (read_text l stated rate) ≡ 2) → place_of (read_text l stated rate) ≡ 0
+  place_else = else-by (read_text l stated rate) told

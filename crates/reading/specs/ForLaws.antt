@@ -6,127 +6,127 @@ use Rattle.std.proofs.Common.{sym, ap, ap₂, ◌∙◌, subst}
 use Rattle.answers.specs.declared.Refusal.{Refusal}
 use Rattle.answers.specs.Order.{unless}
 use Rattle.answers.specs.OrderLaws.{unless-map}
-use Rattle.answers.specs.Refusals.{notStrict, noSuch}
-use Rattle.rates.specs.Rates.{isRate, rateRow}
+use Rattle.answers.specs.Refusals.{not_strict, no_such}
+use Rattle.rates.specs.Rates.{is_rate, rate_row}
 use Rattle.timecodes.specs.declared.kinds.Kind.{Kind}
 use Rattle.timecodes.specs.declared.kinds.Kind.TheVariants.{Length, Position}
-use Rattle.timecodes.specs.Kinds.{isPosition}
+use Rattle.timecodes.specs.Kinds.{is_position}
 use Rattle.timecodes.specs.Timecode.{timecode}
 use Rattle.film.specs.declared.FilmFormat.{FilmFormat}
-use Rattle.faults.specs.Faults.{isNone, signFault}
+use Rattle.faults.specs.Faults.{is_none, sign_fault}
 use Rattle.faults.specs.FaultLaws.{sign-none, leftmost-none}
-use Rattle.labels.specs.Label.{isStrict}
-use Rattle.labels.specs.Faults.{strictFault}
-use Rattle.labels.specs.FaultLaws.{strictFault-none}
-use Rattle.labels.specs.AtRate.{labelFrames}
+use Rattle.labels.specs.Label.{is_strict}
+use Rattle.labels.specs.Faults.{strict_fault}
+use Rattle.labels.specs.FaultLaws.{strict_fault-none}
+use Rattle.labels.specs.AtRate.{label_frames}
 use Rattle.reading.specs.declared.Stated.{Stated}
 use Rattle.reading.specs.declared.Read.{Read}
 use Rattle.reading.specs.declared.Read.TheVariants.{Label, Footage, Refused}
-use Rattle.reading.specs.Shaped.{isStated, formatFor, Shaped, label, footage, refused, shape_of}
-use Rattle.reading.specs.Reading.{labelReadWhen, labelRead, footageFrames, footageReadWhen, footageRead, readShaped, readText}
-use Rattle.reading.specs.ReadingLaws.{no-rate, no-format, read-shaped}
-use Rattle.reading.specs.For.{settledRead, positionFault, isLabelOf, strictWhen, shapedFor, read_by, readFor}
+use Rattle.reading.specs.Shaped.{is_stated, format_for, Shaped, label, footage, refused, shape_of}
+use Rattle.reading.specs.Reading.{label_read_when, label_read, footage_frames, footage_read_when, footage_read, read_shaped, read_text}
+use Rattle.reading.specs.ReadingLaws.{no_rate, no-format, read-shaped}
+use Rattle.reading.specs.For.{settled_read, position_fault, is_label_of, strict_when, shaped_for, read_by, read_for}
 
 -- ---- a label by kind: any may be a length's, a position's is strict and has no sign
-pub any-label : (kind : Kind) (rate : ℕ) (minus : Bool) (fields : List ℕ) → isPosition kind ≡ false → isLabelOf kind rate minus fields ≡ true
+pub any-label : (kind : Kind) (rate : ℕ) (minus : Bool) (fields : List ℕ) → is_position kind ≡ false → is_label_of kind rate minus fields ≡ true
 any-label Length rate minus fields e = refl
 any-label Position rate minus fields e = absurd (subst T e tt)
 
-pub day-label : (kind : Kind) (rate : ℕ) (minus : Bool) (fields : List ℕ) → isPosition kind ≡ true
-    → isLabelOf kind rate minus fields ≡ (not minus && isStrict (rateRow rate).timebase fields)
+pub day-label : (kind : Kind) (rate : ℕ) (minus : Bool) (fields : List ℕ) → is_position kind ≡ true
+    → is_label_of kind rate minus fields ≡ (not minus && is_strict (rate_row rate).timebase fields)
 day-label Length rate minus fields e = absurd (subst T (sym e) tt)
 day-label Position rate minus fields e = refl
 
 -- nothing is at fault in it just where it has no sign and is strict
 pub position-none : (rate : ℕ) (minus : Bool) (fields : List ℕ)
-    → isNone (positionFault rate minus fields) ≡ (not minus && isStrict (rateRow rate).timebase fields)
-unfolding positionFault
+    → is_none (position_fault rate minus fields) ≡ (not minus && is_strict (rate_row rate).timebase fields)
+unfolding position_fault
 position-none rate minus fields =
-    leftmost-none (signFault minus) (strictFault (rateRow rate).timebase fields)
-    ∙ ap₂ ◌&&◌ (sign-none minus) (strictFault-none (rateRow rate).timebase fields)
+    leftmost-none (sign_fault minus) (strict_fault (rate_row rate).timebase fields)
+    ∙ ap₂ ◌&&◌ (sign-none minus) (strict_fault-none (rate_row rate).timebase fields)
 
 -- ---- by shape
 module _ (kind : Kind) (rate : ℕ) (stated : Stated) where
-  pub label-not-of : (minus : Bool) (fields : List ℕ) → isLabelOf kind rate minus fields ≡ false
-      → shapedFor kind rate stated (label minus fields) ≡ Refused notStrict
-  unfolding shapedFor
+  pub label-not-of : (minus : Bool) (fields : List ℕ) → is_label_of kind rate minus fields ≡ false
+      → shaped_for kind rate stated (label minus fields) ≡ Refused not_strict
+  unfolding shaped_for
   label-not-of minus fields e = rw e
 
-  pub label_of : (minus : Bool) (fields : List ℕ) → isLabelOf kind rate minus fields ≡ true
-      → shapedFor kind rate stated (label minus fields) ≡ settledRead kind (labelRead rate minus fields)
-  unfolding shapedFor
+  pub label_of : (minus : Bool) (fields : List ℕ) → is_label_of kind rate minus fields ≡ true
+      → shaped_for kind rate stated (label minus fields) ≡ settled_read kind (label_read rate minus fields)
+  unfolding shaped_for
   label_of minus fields e = rw e
 
   -- a footage, and what is neither, get no 14
   pub footage-for : (minus : Bool) (feet frames : ℕ) (perf : Bool) (marker : ℕ)
-      → shapedFor kind rate stated (footage minus feet frames perf marker)
-      ≡ settledRead kind (footageRead rate (formatFor stated perf) minus feet frames perf marker)
-  unfolding shapedFor
+      → shaped_for kind rate stated (footage minus feet frames perf marker)
+      ≡ settled_read kind (footage_read rate (format_for stated perf) minus feet frames perf marker)
+  unfolding shaped_for
   footage-for minus feet frames perf marker = refl
 
-  pub refused-for : (e : Refusal) → shapedFor kind rate stated (refused e) ≡ Refused e
-  unfolding shapedFor
+  pub refused-for : (e : Refusal) → shaped_for kind rate stated (refused e) ≡ Refused e
+  unfolding shaped_for
   refused-for e = refl
 
 -- ---- by shape a length's reading is as it was
-length-read : (rate : ℕ) (stated : Stated) (x : Shaped) → shapedFor Length rate stated x ≡ readShaped rate stated x
-unfolding shapedFor labelRead footageRead
-length-read rate stated (label minus fields) =
-    unless-map (settledRead Length) Refused Refused (λ e. refl) (labelReadWhen rate minus fields) (Label (timecode (labelFrames rate minus fields) rate))
-length-read rate stated (footage minus feet frames perf marker) = settled-footage (formatFor stated perf)
+length_read : (rate : ℕ) (stated : Stated) (x : Shaped) → shaped_for Length rate stated x ≡ read_shaped rate stated x
+unfolding shaped_for label_read footage_read
+length_read rate stated (label minus fields) =
+    unless-map (settled_read Length) Refused Refused (λ e. refl) (label_read_when rate minus fields) (Label (timecode (label_frames rate minus fields) rate))
+length_read rate stated (footage minus feet frames perf marker) = settled-footage (format_for stated perf)
   where
-    settled-footage : (format : FilmFormat) → settledRead Length (footageRead rate format minus feet frames perf marker) ≡ footageRead rate format minus feet frames perf marker
+    settled-footage : (format : FilmFormat) → settled_read Length (footage_read rate format minus feet frames perf marker) ≡ footage_read rate format minus feet frames perf marker
     settled-footage format =
-        unless-map (settledRead Length) Refused Refused (λ e. refl) (footageReadWhen format minus feet frames perf marker)
-        (Footage (timecode (footageFrames format minus feet frames) rate) format)
-length-read rate stated (refused e) = refl
+        unless-map (settled_read Length) Refused Refused (λ e. refl) (footage_read_when format minus feet frames perf marker)
+        (Footage (timecode (footage_frames format minus feet frames) rate) format)
+length_read rate stated (refused e) = refl
 
 -- ---- a text
 module _ (kind : Kind) (text : List ℕ) (stated : Stated) (rate : ℕ) where
-  pub for-no-rate : isRate rate ≡ false → readFor kind text stated rate ≡ Refused noSuch
-  unfolding readFor
+  pub for-no-rate : is_rate rate ≡ false → read_for kind text stated rate ≡ Refused no_such
+  unfolding read_for
   for-no-rate e = simp e
 
-  pub for-no-format : isRate rate ≡ true → isStated stated ≡ false → readFor kind text stated rate ≡ Refused noSuch
-  unfolding readFor
+  pub for-no-format : is_rate rate ≡ true → is_stated stated ≡ false → read_for kind text stated rate ≡ Refused no_such
+  unfolding read_for
   for-no-format r s = simp (r, s)
 
-  pub for-shaped : isRate rate ≡ true → isStated stated ≡ true → readFor kind text stated rate ≡ shapedFor kind rate stated (shape_of stated text)
-  unfolding readFor shapedFor
+  pub for-shaped : is_rate rate ≡ true → is_stated stated ≡ true → read_for kind text stated rate ≡ shaped_for kind rate stated (shape_of stated text)
+  unfolding read_for shaped_for
   for-shaped r s =
       let x = shape_of stated text in
-      simp (r, s) (ap (λ (a : Read). unless Refused (strictWhen kind rate x) (settledRead kind a)) (read-shaped text stated rate r s))
+      simp (r, s) (ap (λ (a : Read). unless Refused (strict_when kind rate x) (settled_read kind a)) (read-shaped text stated rate r s))
 
 -- ---- what was taken by its shape
 module _ (kind : Kind) (stated : Stated) (rate : ℕ) (x : Shaped) where
-  pub by-no-rate : isRate rate ≡ false → read_by kind stated rate x ≡ Refused noSuch
+  pub by-no-rate : is_rate rate ≡ false → read_by kind stated rate x ≡ Refused no_such
   unfolding read_by
   by-no-rate e = simp e
 
-  pub by-no-format : isRate rate ≡ true → isStated stated ≡ false → read_by kind stated rate x ≡ Refused noSuch
+  pub by-no-format : is_rate rate ≡ true → is_stated stated ≡ false → read_by kind stated rate x ≡ Refused no_such
   unfolding read_by
   by-no-format r s = simp (r, s)
 
-  pub by-shaped : isRate rate ≡ true → isStated stated ≡ true → read_by kind stated rate x ≡ shapedFor kind rate stated x
+  pub by-shaped : is_rate rate ≡ true → is_stated stated ≡ true → read_by kind stated rate x ≡ shaped_for kind rate stated x
   unfolding read_by
   by-shaped r s = simp (r, s)
 
 -- a text reads as its shape does
 pub read-by-shape : (kind : Kind) (text : List ℕ) (stated : Stated) (rate : ℕ)
-    → readFor kind text stated rate ≡ read_by kind stated rate (shape_of stated text)
-read-by-shape kind text stated rate = by (isRate rate) (isStated stated) refl refl
+    → read_for kind text stated rate ≡ read_by kind stated rate (shape_of stated text)
+read-by-shape kind text stated rate = by (is_rate rate) (is_stated stated) refl refl
   where
-    by : (s t : Bool) → isRate rate ≡ s → isStated stated ≡ t → readFor kind text stated rate ≡ read_by kind stated rate (shape_of stated text)
+    by : (s t : Bool) → is_rate rate ≡ s → is_stated stated ≡ t → read_for kind text stated rate ≡ read_by kind stated rate (shape_of stated text)
     by false t r f = for-no-rate kind text stated rate r ∙ sym (by-no-rate kind stated rate (shape_of stated text) r)
     by true false r f = for-no-format kind text stated rate r f ∙ sym (by-no-format kind stated rate (shape_of stated text) r f)
     by true true r f = for-shaped kind text stated rate r f ∙ sym (by-shaped kind stated rate (shape_of stated text) r f)
 
 -- a length's reading is as it was
-pub read_length : (text : List ℕ) (stated : Stated) (rate : ℕ) → readFor Length text stated rate ≡ readText text stated rate
-read_length text stated rate = by (isRate rate) (isStated stated) refl refl
+pub read_length : (text : List ℕ) (stated : Stated) (rate : ℕ) → read_for Length text stated rate ≡ read_text text stated rate
+read_length text stated rate = by (is_rate rate) (is_stated stated) refl refl
   where
-    by : (s t : Bool) → isRate rate ≡ s → isStated stated ≡ t → readFor Length text stated rate ≡ readText text stated rate
-    by false t r f = for-no-rate Length text stated rate r ∙ sym (no-rate text stated rate r)
+    by : (s t : Bool) → is_rate rate ≡ s → is_stated stated ≡ t → read_for Length text stated rate ≡ read_text text stated rate
+    by false t r f = for-no-rate Length text stated rate r ∙ sym (no_rate text stated rate r)
     by true false r f = for-no-format Length text stated rate r f ∙ sym (no-format text stated rate r f)
     by true true r f =
-        for-shaped Length text stated rate r f ∙ length-read rate stated (shape_of stated text) ∙ sym (read-shaped text stated rate r f)
+        for-shaped Length text stated rate r f ∙ length_read rate stated (shape_of stated text) ∙ sym (read-shaped text stated rate r f)

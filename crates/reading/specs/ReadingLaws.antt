@@ -4,68 +4,68 @@ use Rattle.std.specs.Prelude.{ℕ, ◌≡◌, refl, Bool, true, false, List, [],
 use Rattle.std.proofs.Common.{sym, ap, ◌∙◌}
 use Rattle.answers.specs.declared.Counted.TheVariants as counted
 use Rattle.answers.specs.OrderLaws.{unless-map}
-use Rattle.answers.specs.Refusals.{droppedLabel, noPerfField, noSuch, notOnFilm, isCount, badCount, held}
+use Rattle.answers.specs.Refusals.{dropped_label, no_perf_field, no_such, not_on_film, is_count, bad_count, held}
 use Rattle.answers.specs.Laws.{held_in}
-use Rattle.rates.specs.Rates.{isRate, dropFrames}
+use Rattle.rates.specs.Rates.{is_rate, drop_frames}
 use Rattle.timecodes.specs.Timecode.{timecode}
 use Rattle.film.specs.declared.FilmFormat.{FilmFormat}
-use Rattle.film.specs.OnFilm.{onFilm}
-use Rattle.labels.specs.Label.{droppedIn}
-use Rattle.labels.specs.AtRate.{labelFrames}
+use Rattle.film.specs.OnFilm.{on_film}
+use Rattle.labels.specs.Label.{dropped_in}
+use Rattle.labels.specs.AtRate.{label_frames}
 use Rattle.reading.specs.declared.Stated.{Stated}
 use Rattle.reading.specs.declared.Read.TheVariants.{Label, Refused}
-use Rattle.reading.specs.Answer.{asLabel, asFootage}
-use Rattle.reading.specs.Shaped.{isStated, shape_of}
-use Rattle.reading.specs.Reading.{labelRead, takesPerf, footageFrames, footageRead, readShaped, readText}
+use Rattle.reading.specs.Answer.{as_label, as_footage}
+use Rattle.reading.specs.Shaped.{is_stated, shape_of}
+use Rattle.reading.specs.Reading.{label_read, takes_perf, footage_frames, footage_read, read_shaped, read_text}
 
 -- ---- a label
 module _ (rate : ℕ) (minus : Bool) (fields : List ℕ) where
-  pub label-dropped : droppedIn (dropFrames rate) fields ≡ true → labelRead rate minus fields ≡ Refused droppedLabel
-  unfolding labelRead
+  pub label-dropped : dropped_in (drop_frames rate) fields ≡ true → label_read rate minus fields ≡ Refused dropped_label
+  unfolding label_read
   label-dropped e = simp e
 
   -- a label that is kept is its count, held to the bounds
-  pub label_kept : droppedIn (dropFrames rate) fields ≡ false → labelRead rate minus fields ≡ asLabel rate (held (labelFrames rate minus fields))
-  unfolding labelRead held
+  pub label_kept : dropped_in (drop_frames rate) fields ≡ false → label_read rate minus fields ≡ as_label rate (held (label_frames rate minus fields))
+  unfolding label_read held
   label_kept e =
-      let z = labelFrames rate minus fields in
-      simp e (sym (unless-map (asLabel rate) counted.Refused Refused (λ f. refl) (badCount z ∷ []) (counted.Count z)))
+      let z = label_frames rate minus fields in
+      simp e (sym (unless-map (as_label rate) counted.Refused Refused (λ f. refl) (bad_count z ∷ []) (counted.Count z)))
 
   -- and where that is within its bounds, it is read as it
   pub label-within :
-      droppedIn (dropFrames rate) fields ≡ false → isCount (labelFrames rate minus fields) ≡ true
-      → labelRead rate minus fields ≡ Label (timecode (labelFrames rate minus fields) rate)
-  label-within kept bounds = label_kept kept ∙ ap (asLabel rate) (held_in (labelFrames rate minus fields) bounds)
+      dropped_in (drop_frames rate) fields ≡ false → is_count (label_frames rate minus fields) ≡ true
+      → label_read rate minus fields ≡ Label (timecode (label_frames rate minus fields) rate)
+  label-within kept bounds = label_kept kept ∙ ap (as_label rate) (held_in (label_frames rate minus fields) bounds)
 
 -- ---- a footage
 module _ (rate : ℕ) (format : FilmFormat) (minus : Bool) (feet frames : ℕ) (perf : Bool) (marker : ℕ) where
-  pub footage-marked : takesPerf format perf ≡ false → footageRead rate format minus feet frames perf marker ≡ Refused noPerfField
-  unfolding footageRead
+  pub footage-marked : takes_perf format perf ≡ false → footage_read rate format minus feet frames perf marker ≡ Refused no_perf_field
+  unfolding footage_read
   footage-marked e = simp e
 
-  pub footage-off : takesPerf format perf ≡ true → onFilm format feet frames perf marker ≡ false
-      → footageRead rate format minus feet frames perf marker ≡ Refused notOnFilm
-  unfolding footageRead
+  pub footage-off : takes_perf format perf ≡ true → on_film format feet frames perf marker ≡ false
+      → footage_read rate format minus feet frames perf marker ≡ Refused not_on_film
+  unfolding footage_read
   footage-off e f = simp (e, f)
 
   -- a footage that can be on the film is its count, held to the bounds
-  pub footage-on : takesPerf format perf ≡ true → onFilm format feet frames perf marker ≡ true
-      → footageRead rate format minus feet frames perf marker ≡ asFootage rate format (held (footageFrames format minus feet frames))
-  unfolding footageRead held
+  pub footage-on : takes_perf format perf ≡ true → on_film format feet frames perf marker ≡ true
+      → footage_read rate format minus feet frames perf marker ≡ as_footage rate format (held (footage_frames format minus feet frames))
+  unfolding footage_read held
   footage-on e f =
-      let z = footageFrames format minus feet frames in
-      simp (e, f) (sym (unless-map (asFootage rate format) counted.Refused Refused (λ r. refl) (badCount z ∷ []) (counted.Count z)))
+      let z = footage_frames format minus feet frames in
+      simp (e, f) (sym (unless-map (as_footage rate format) counted.Refused Refused (λ r. refl) (bad_count z ∷ []) (counted.Count z)))
 
 -- ---- a text
 module _ (text : List ℕ) (stated : Stated) (rate : ℕ) where
-  pub no-rate : isRate rate ≡ false → readText text stated rate ≡ Refused noSuch
-  unfolding readText
-  no-rate e = simp e
+  pub no_rate : is_rate rate ≡ false → read_text text stated rate ≡ Refused no_such
+  unfolding read_text
+  no_rate e = simp e
 
-  pub no-format : isRate rate ≡ true → isStated stated ≡ false → readText text stated rate ≡ Refused noSuch
-  unfolding readText
+  pub no-format : is_rate rate ≡ true → is_stated stated ≡ false → read_text text stated rate ≡ Refused no_such
+  unfolding read_text
   no-format r s = simp (r, s)
 
-  pub read-shaped : isRate rate ≡ true → isStated stated ≡ true → readText text stated rate ≡ readShaped rate stated (shape_of stated text)
-  unfolding readText
+  pub read-shaped : is_rate rate ≡ true → is_stated stated ≡ true → read_text text stated rate ≡ read_shaped rate stated (shape_of stated text)
+  unfolding read_text
   read-shaped r s = simp (r, s)

@@ -2,13 +2,15 @@
 // footage. Refuses 6: no such rate or film format; 1: no shape; 2: a field of over 9 digits; 4: a perf field with a stated format that has
 // none; 13: a footage that cannot be on the film; 14: a label of a position that is not strict or has a sign; 3: a dropped label; 5: the
 // count is out of bounds; in this order. The place of 1 and 2 is the one that the scanners say.
+#![tactic(auto)]
+
 ghost use Rattle.std.specs.Prelude.{◌≡◌, true};
-ghost use Rattle.rates.specs.Rates.{isRate};
-ghost use Rattle.reading.specs.Answer.{number_of, asLabel, asFootage};
-ghost use Rattle.reading.specs.Shaped.{isStated, formatFor, label};
-ghost use Rattle.reading.specs.Taken.{shapedIn};
-ghost use Rattle.reading.specs.Reading.{takesPerf, labelRead, footageRead};
-ghost use Rattle.reading.specs.For.{settledRead, positionFault, isLabelOf, shapedFor, read_by, readFor, labelFor};
+ghost use Rattle.rates.specs.Rates.{is_rate};
+ghost use Rattle.reading.specs.Answer.{number_of, as_label, as_footage};
+ghost use Rattle.reading.specs.Shaped.{is_stated, format_for, label};
+ghost use Rattle.reading.specs.Taken.{shaped_in};
+ghost use Rattle.reading.specs.Reading.{takes_perf, label_read, footage_read};
+ghost use Rattle.reading.specs.For.{settled_read, position_fault, is_label_of, shaped_for, read_by, read_for, label_for};
 
 use answers::{Counted, Refusal};
 use faults::Found;
@@ -36,7 +38,7 @@ pub enum Read {
 
 // The number of an answer; 0: not refused.
 pub fn number(read: Read) -> u8
-    ensures answer { result ≡ number_of read }
+    ensures { result ≡ number_of read }
 {
     match read {
         Read::Label(_) => 0,
@@ -47,7 +49,7 @@ pub fn number(read: Read) -> u8
 
 // What was read as a length, made a timecode of a kind: a position is reduced by whole days.
 fn settled(read: Read, kind: Kind) -> Read
-    ensures answer { result ≡ settledRead kind read }
+    ensures { result ≡ settled_read kind read }
 {
     match read {
         Read::Label(tc) => Read::Label(timecodes::made(tc.count, tc.rate, kind)),
@@ -60,7 +62,7 @@ fn settled(read: Read, kind: Kind) -> Read
 
 // A count at a rate as the answer to a label.
 fn as_label(rate: u64, counted: Counted) -> Read
-    ensures answer { result ≡ asLabel rate counted }
+    ensures { result ≡ as_label rate counted }
 {
     match counted {
         Counted::Count(count) => Read::Label(timecodes::new(count, rate, Kind::Length)),
@@ -70,7 +72,7 @@ fn as_label(rate: u64, counted: Counted) -> Read
 
 // A count at a rate as the answer to a footage.
 fn as_footage(rate: u64, format: FilmFormat, counted: Counted) -> Read
-    ensures answer { result ≡ asFootage rate format counted }
+    ensures { result ≡ as_footage rate format counted }
 {
     match counted {
         Counted::Count(count) => {
@@ -82,7 +84,7 @@ fn as_footage(rate: u64, format: FilmFormat, counted: Counted) -> Read
 
 // Whether what is stated is no number, or that of a film format.
 fn is_stated(stated: Stated) -> bool
-    ensures answer { result ≡ isStated stated }
+    ensures { result ≡ is_stated stated }
 {
     let Stated::Format(n) = stated else {
         return true;
@@ -96,7 +98,7 @@ fn is_stated(stated: Stated) -> bool
 
 // The film format of a footage: the stated one, or that which the perf field chooses.
 pub fn format_for(stated: Stated, perf: bool) -> FilmFormat
-    ensures answer { result ≡ formatFor stated perf }
+    ensures { result ≡ format_for stated perf }
 {
     let Stated::Format(n) = stated else {
         if perf {
@@ -113,7 +115,7 @@ pub fn format_for(stated: Stated, perf: bool) -> FilmFormat
 
 // Whether a footage of this format may have the perf field that it has, or has none.
 fn takes_perf(format: FilmFormat, perf: bool) -> bool
-    ensures answer { result ≡ takesPerf format perf }
+    ensures { result ≡ takes_perf format perf }
 {
     if !perf {
         return true;
@@ -123,8 +125,8 @@ fn takes_perf(format: FilmFormat, perf: bool) -> bool
 
 // The answer to a label's sign and fields. Asks a rate.
 fn read_label(rate: u64, minus: bool, fields: [u64; 4]) -> Read
-    requires rate { isRate rate ≡ true }
-    ensures answer { result ≡ labelRead rate minus fields }
+    requires { is_rate rate ≡ true }
+    ensures { result ≡ label_read rate minus fields }
 {
     let d = rates::drop_frames_per_minute(rate);
     if labels::is_dropped(fields, d) {
@@ -135,7 +137,7 @@ fn read_label(rate: u64, minus: bool, fields: [u64; 4]) -> Read
 
 // What is at fault in the label of a position: its sign, or else the leftmost field that is not strict.
 pub fn position_fault(rate: u64, minus: bool, fields: [u64; 4]) -> Found
-    ensures answer { result ≡ positionFault rate minus fields }
+    ensures { result ≡ position_fault rate minus fields }
 {
     let timebase = rates::row(rate).timebase;
     faults::leftmost(
@@ -146,7 +148,7 @@ pub fn position_fault(rate: u64, minus: bool, fields: [u64; 4]) -> Found
 
 // Whether a label's sign and fields may be those of this kind: in the label of a position nothing is at fault.
 fn is_label_of(kind: Kind, rate: u64, minus: bool, fields: [u64; 4]) -> bool
-    ensures answer { result ≡ isLabelOf kind rate minus fields }
+    ensures { result ≡ is_label_of kind rate minus fields }
 {
     if !kind.is_position() {
         return true;
@@ -156,8 +158,8 @@ fn is_label_of(kind: Kind, rate: u64, minus: bool, fields: [u64; 4]) -> bool
 
 // The answer to a label's sign and fields, as a timecode of a kind. Asks a rate.
 fn label_for(rate: u64, minus: bool, fields: [u64; 4], kind: Kind) -> Read
-    requires rate { isRate rate ≡ true }
-    ensures answer { result ≡ shapedFor kind rate Stated.Nothing (label minus fields) }
+    requires { is_rate rate ≡ true }
+    ensures { result ≡ shaped_for kind rate Stated.Nothing (label minus fields) }
 {
     if !is_label_of(kind, rate, minus, fields) {
         return Read::Refused(answers::NOT_STRICT);
@@ -175,7 +177,7 @@ fn read_footage(
     perf: bool,
     marker: u64,
 ) -> Read
-    ensures answer { result ≡ footageRead rate format minus feet frames perf marker }
+    ensures { result ≡ footage_read rate format minus feet frames perf marker }
 {
     if !takes_perf(format, perf) {
         return Read::Refused(answers::NO_PERF_FIELD);
@@ -192,7 +194,7 @@ fn read_footage(
 
 // What a text that was taken by its shape reads as at a rate, a length or a position.
 pub fn read_taken(taken: Taken, stated: Stated, rate: u64, kind: Kind) -> Read
-    ensures answer { result ≡ read_by kind stated rate (shapedIn taken) }
+    ensures { result ≡ read_by kind stated rate (shaped_in taken) }
 {
     if !rates::is_rate(rate) {
         return Read::Refused(answers::NO_SUCH);
@@ -228,14 +230,14 @@ pub fn read_taken(taken: Taken, stated: Stated, rate: u64, kind: Kind) -> Read
 // What a text reads as at a rate, a length or a position (vtc's `parse_timecode_string` and `parse_feet_and_frames_str`, which read
 // lengths): it is taken by its shape, and that is read.
 pub fn read_text(text: &[u8], stated: Stated, rate: u64, kind: Kind) -> Read
-    ensures answer { result ≡ readFor kind text.now stated rate }
+    ensures { result ≡ read_for kind text.now stated rate }
 {
     read_taken(take_text(text, stated), stated, rate, kind)
 }
 
 // What a text reads as where only a label may stand: a label as `read_text` reads it; any other text has no shape.
 pub fn read_label_only(text: &[u8], rate: u64, kind: Kind) -> Read
-    ensures answer { result ≡ labelFor kind text.now rate }
+    ensures { result ≡ label_for kind text.now rate }
 {
     read_taken(take_label(text), Stated::Nothing, rate, kind)
 }

@@ -1,7 +1,7 @@
 // A text taken by its shape, whatever the rate: for a label or for a footage, but with a stated film format only for a footage. Refuses 1: no shape; 2: a field of over 9 digits; each with the place that the scanners say.
 ghost use Rattle.std.specs.Prelude.{max, ◌≡◌};
-ghost use Rattle.footage_scan.specs.Footage.{footageScan};
-ghost use Rattle.reading.specs.Shaped.{label, footageShaped, shape_of, labelOnly};
+ghost use Rattle.footage_scan.specs.Footage.{footage_scan};
+ghost use Rattle.reading.specs.Shaped.{label, footage_shaped, shape_of, label_only};
 ghost use Rattle.reading.specs.Taken.{taken_of};
 
 use crate::Stated;
@@ -31,7 +31,7 @@ pub enum Taken {
 
 // The farther of two places.
 fn farther(p: usize, q: usize) -> usize
-    ensures answer { result ≡ max p q }
+    ensures { result ≡ max p q }
 {
     if p < q {
         return q;
@@ -41,7 +41,7 @@ fn farther(p: usize, q: usize) -> usize
 
 // What a text is taken for that can be a footage only, where the scanner of another shape stopped at a place (0, where no other is allowed).
 fn footage_or_neither(text: &[u8], stopped: usize) -> Taken
-    ensures answer { result ≡ taken_of (footageShaped stopped (footageScan text.now)) }
+    ensures { result ≡ taken_of (footage_shaped stopped (footage_scan text.now)) }
 {
     let scan = footage_scan::scan_footage(text);
     let fit = scan.fit;
@@ -63,7 +63,7 @@ fn footage_or_neither(text: &[u8], stopped: usize) -> Taken
 
 // A label's sign and fields.
 fn taken_label(minus: bool, fields: [u64; 4]) -> Taken
-    ensures answer { result ≡ taken_of (label minus fields) }
+    ensures { result ≡ taken_of (label minus fields) }
 {
     Taken::Label {
         minus,
@@ -76,7 +76,7 @@ fn taken_label(minus: bool, fields: [u64; 4]) -> Taken
 
 // What a text is taken for where only a label may stand.
 pub fn take_label(text: &[u8]) -> Taken
-    ensures answer { result ≡ taken_of (labelOnly text.now) }
+    ensures { result ≡ taken_of (label_only text.now) }
 {
     let scan = label_scan::scan_label(text);
     let fit = scan.fit;
@@ -92,7 +92,7 @@ pub fn take_label(text: &[u8]) -> Taken
 
 // A text is taken for a label, or else for what it is as a footage.
 fn label_or_footage(text: &[u8]) -> Taken
-    ensures answer { result ≡ taken_of (shape_of Stated.Nothing text.now) }
+    ensures { result ≡ taken_of (shape_of Stated.Nothing text.now) }
 {
     let scan = label_scan::scan_label(text);
     let fit = scan.fit;
@@ -108,7 +108,7 @@ fn label_or_footage(text: &[u8]) -> Taken
 
 // What a text is taken for, by its shape.
 pub fn take_text(text: &[u8], stated: Stated) -> Taken
-    ensures answer { result ≡ taken_of (shape_of stated text.now) }
+    ensures { result ≡ taken_of (shape_of stated text.now) }
 {
     let Stated::Format(_) = stated else {
         return label_or_footage(text);

@@ -11,32 +11,32 @@ use lib.IntN.{nat_abs}
 use Rattle.digits.specs.Digits.{value_of}
 use Rattle.numbers.specs.Sign.{signed}
 use Rattle.numbers.specs.SignLaws.{abs-signed}
-use Rattle.answers.specs.Refusals.{mostCount, isCount}
+use Rattle.answers.specs.Refusals.{most_count, is_count}
 use Rattle.faults.specs.declared.Field.TheVariants.{Count}
-use Rattle.faults.specs.Faults.{fault, countFault}
+use Rattle.faults.specs.Faults.{fault, count_fault}
 use Rattle.faults.specs.FaultLaws.{count_at, nearest-count}
-use Rattle.rates.specs.Rates.{isRate, rateRow, dropFrames}
+use Rattle.rates.specs.Rates.{is_rate, rate_row, drop_frames}
 use Rattle.film.specs.declared.FilmFormat.{FilmFormat}
-use Rattle.film.specs.Footage.{footageCount, footageOr-in}
-use Rattle.labels.specs.Label.{countIn, Short}
-use Rattle.labels.specs.BoundLaws.{isShort-in}
-use Rattle.labels.specs.AtRate.{framesOr-in}
+use Rattle.film.specs.Footage.{footage_count, footage_or-in}
+use Rattle.labels.specs.Label.{count_in, Short}
+use Rattle.labels.specs.BoundLaws.{is_short-in}
+use Rattle.labels.specs.AtRate.{frames_or-in}
 use Rattle.footage_scan.specs.declared.FootageScan.{FootageScan}
-use Rattle.footage_scan.specs.Shape.{FootageParts, hasPerf}
-use Rattle.footage_scan.proofs.Statements.{footage-reads, footage-below}
+use Rattle.footage_scan.specs.Shape.{FootageParts, has_perf}
+use Rattle.footage_scan.proofs.Statements.{footage_reads, footage_below}
 use Rattle.reading.specs.declared.Stated.{Stated}
-use Rattle.reading.specs.Shaped.{label, formatFor, shape_of}
+use Rattle.reading.specs.Shaped.{label, format_for, shape_of}
 use Rattle.reading.specs.Statements.{FootageText, LabelCount, FootageCount}
 use Rattle.reading.proofs.Shapes.{shape-footage}
 use Rattle.reasons.specs.declared.Fact.TheVariants.{Limit}
-use Rattle.reasons.specs.Facts.{limitFrom, ShortLabel, footageFact, factBy}
+use Rattle.reasons.specs.Facts.{limit_from, ShortLabel, footage_fact, fact_by}
 use Rattle.reasons.specs.Holds.{FactHolds, out-of-bounds}
 use Rattle.reasons.proofs.Facts.{label-five, footage-five}
 use Rattle.reasons.proofs.Told.{shape-short}
 
 -- a magnitude whose count is out of bounds is past them
-pub past-count : (minus : Bool) (m : ℕ) → isCount (signed minus m) ≡ false → mostCount < m
-past-count minus m e = let l = leb-false (nat_abs (signed minus m)) mostCount e in let s = abs-signed minus m in omega arith
+pub past-count : (minus : Bool) (m : ℕ) → is_count (signed minus m) ≡ false → most_count < m
+past-count minus m e = let l = leb-false (nat_abs (signed minus m)) most_count e in let s = abs-signed minus m in omega arith
 
 -- the fields of a text's label have at most 9 digits
 pub label-short : (l : List ℕ) (stated : Stated) (minus : Bool) (fields : List ℕ) → shape_of stated l ≡ label minus fields → Short fields
@@ -45,37 +45,37 @@ label-short l stated minus fields e = subst ShortLabel e (shape-short stated l)
 -- and the feet and frames of its footage
 footage-small : (l : List ℕ) (p : FootageParts) → FootageText l p → (value_of p.feet < 1000000000) × (value_of p.frames < 1000000000)
 footage-small l p t =
-    let b = footage-below l in
-    let e = footage-reads l p t.shape t.short in
+    let b = footage_below l in
+    let e = footage_reads l p t.shape t.short in
     (subst (λ (s : FootageScan). s.feet < 1000000000) e b.0, subst (λ (s : FootageScan). s.frames < 1000000000) e b.1)
 
-module _ (l : List ℕ) (stated : Stated) (rate : ℕ) (r : isRate rate ≡ true) where
-  pub label-count : (minus : Bool) (fields : List ℕ) → LabelCount l stated rate (signed minus (countIn (rateRow rate).timebase (dropFrames rate) fields))
-      → shape_of stated l ≡ label minus fields → isCount (signed minus (countIn (rateRow rate).timebase (dropFrames rate) fields)) ≡ false
-      → FactHolds l stated rate 5 (factBy 5 rate stated (shape_of stated l))
+module _ (l : List ℕ) (stated : Stated) (rate : ℕ) (r : is_rate rate ≡ true) where
+  pub label-count : (minus : Bool) (fields : List ℕ) → LabelCount l stated rate (signed minus (count_in (rate_row rate).timebase (drop_frames rate) fields))
+      → shape_of stated l ≡ label minus fields → is_count (signed minus (count_in (rate_row rate).timebase (drop_frames rate) fields)) ≡ false
+      → FactHolds l stated rate 5 (fact_by 5 rate stated (shape_of stated l))
   label-count minus fields count e out =
-      let m = countIn (rateRow rate).timebase (dropFrames rate) fields in
+      let m = count_in (rate_row rate).timebase (drop_frames rate) fields in
       let past = past-count minus m out in
-      let short = isShort-in fields (label-short l stated minus fields e) in
-      let is : factBy 5 rate stated (shape_of stated l) ≡ Limit (fault Count minus mostCount m) =
-      ap (factBy 5 rate stated) e
+      let short = is_short-in fields (label-short l stated minus fields e) in
+      let is : fact_by 5 rate stated (shape_of stated l) ≡ Limit (fault Count minus most_count m) =
+      ap (fact_by 5 rate stated) e
       ∙ label-five 5 rate minus fields refl
-      ∙ ap limitFrom (ap (countFault minus) (framesOr-in rate fields r short) ∙ count_at minus m past) in
-      subst (FactHolds l stated rate 5) (sym is) (out-of-bounds (record { of-count = refl; count = inl count; nearest = nearest-count minus m past }))
+      ∙ ap limit_from (ap (count_fault minus) (frames_or-in rate fields r short) ∙ count_at minus m past) in
+      subst (FactHolds l stated rate 5) (sym is) (out-of-bounds (record { of_count = refl; count = inl count; nearest = nearest-count minus m past }))
 
-  pub footage-count : (format : FilmFormat) (p : FootageParts) → FootageText l p → formatFor stated (hasPerf p.perf) ≡ format
-      → FootageCount l stated format (signed p.minus (footageCount format (value_of p.feet) (value_of p.frames)))
-      → isCount (signed p.minus (footageCount format (value_of p.feet) (value_of p.frames))) ≡ false
-      → FactHolds l stated rate 5 (factBy 5 rate stated (shape_of stated l))
+  pub footage-count : (format : FilmFormat) (p : FootageParts) → FootageText l p → format_for stated (has_perf p.perf) ≡ format
+      → FootageCount l stated format (signed p.minus (footage_count format (value_of p.feet) (value_of p.frames)))
+      → is_count (signed p.minus (footage_count format (value_of p.feet) (value_of p.frames))) ≡ false
+      → FactHolds l stated rate 5 (fact_by 5 rate stated (shape_of stated l))
   footage-count format p text chosen count out =
-      let m = footageCount format (value_of p.feet) (value_of p.frames) in
+      let m = footage_count format (value_of p.feet) (value_of p.frames) in
       let past = past-count p.minus m out in
       let small = footage-small l p text in
-      let is : factBy 5 rate stated (shape_of stated l) ≡ Limit (fault Count p.minus mostCount m) =
-      ap (factBy 5 rate stated) (shape-footage stated l p text)
-      ∙ ap (λ (x : FilmFormat). footageFact 5 x p.minus (value_of p.feet) (value_of p.frames) (hasPerf p.perf) (value_of p.perf)) chosen
-      ∙ footage-five 5 format p.minus (value_of p.feet) (value_of p.frames) (hasPerf p.perf) (value_of p.perf) refl
-      ∙ ap limitFrom
-      (ap (countFault p.minus) (footageOr-in format (value_of p.feet) (value_of p.frames) small.0 small.1) ∙ count_at p.minus m past) in
+      let is : fact_by 5 rate stated (shape_of stated l) ≡ Limit (fault Count p.minus most_count m) =
+      ap (fact_by 5 rate stated) (shape-footage stated l p text)
+      ∙ ap (λ (x : FilmFormat). footage_fact 5 x p.minus (value_of p.feet) (value_of p.frames) (has_perf p.perf) (value_of p.perf)) chosen
+      ∙ footage-five 5 format p.minus (value_of p.feet) (value_of p.frames) (has_perf p.perf) (value_of p.perf) refl
+      ∙ ap limit_from
+      (ap (count_fault p.minus) (footage_or-in format (value_of p.feet) (value_of p.frames) small.0 small.1) ∙ count_at p.minus m past) in
       subst (FactHolds l stated rate 5) (sym is)
-      (out-of-bounds (record { of-count = refl; count = inr (format, count); nearest = nearest-count p.minus m past }))
+      (out-of-bounds (record { of_count = refl; count = inr (format, count); nearest = nearest-count p.minus m past }))

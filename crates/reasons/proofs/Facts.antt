@@ -5,44 +5,44 @@ use mathlib.Core.Path.{◌≡◌, ap}
 use mathlib.Core.Bool.{Bool}
 use mathlib.Core.List.{List}
 use borrow.Author.Tests.{ne_eqb}
-use Rattle.faults.specs.Faults.{countFault}
-use Rattle.rates.specs.Rates.{dropFrames}
+use Rattle.faults.specs.Faults.{count_fault}
+use Rattle.rates.specs.Rates.{drop_frames}
 use Rattle.film.specs.declared.FilmFormat.{FilmFormat}
-use Rattle.film.specs.Footage.{footageOr}
-use Rattle.film.specs.Faults.{filmFault}
-use Rattle.labels.specs.AtRate.{framesOr}
-use Rattle.reading.specs.For.{positionFault}
+use Rattle.film.specs.Footage.{footage_or}
+use Rattle.film.specs.Faults.{film_fault}
+use Rattle.labels.specs.AtRate.{frames_or}
+use Rattle.reading.specs.For.{position_fault}
 use Rattle.reasons.specs.declared.Fact.TheVariants.{Nothing, First}
-use Rattle.reasons.specs.Facts.{limitFrom, firstLabel, labelFact, footageFact}
+use Rattle.reasons.specs.Facts.{limit_from, first_label, label_fact, footage_fact}
 
 module _ (number rate : ℕ) (minus : Bool) (fields : List ℕ) where
-  pub label-three : number ≡ 3 → labelFact number rate minus fields ≡ First (firstLabel (dropFrames rate) minus fields)
-  unfolding labelFact
-  label-three e = ap (λ (n : ℕ). labelFact n rate minus fields) e
+  pub label-three : number ≡ 3 → label_fact number rate minus fields ≡ First (first_label (drop_frames rate) minus fields)
+  unfolding label_fact
+  label-three e = ap (λ (n : ℕ). label_fact n rate minus fields) e
 
-  pub label-five : number ≡ 5 → labelFact number rate minus fields ≡ limitFrom (countFault minus (framesOr rate fields))
-  unfolding labelFact
-  label-five e = ap (λ (n : ℕ). labelFact n rate minus fields) e
+  pub label-five : number ≡ 5 → label_fact number rate minus fields ≡ limit_from (count_fault minus (frames_or rate fields))
+  unfolding label_fact
+  label-five e = ap (λ (n : ℕ). label_fact n rate minus fields) e
 
-  pub label-fourteen : number ≡ 14 → labelFact number rate minus fields ≡ limitFrom (positionFault rate minus fields)
-  unfolding labelFact
-  label-fourteen e = ap (λ (n : ℕ). labelFact n rate minus fields) e
+  pub label-fourteen : number ≡ 14 → label_fact number rate minus fields ≡ limit_from (position_fault rate minus fields)
+  unfolding label_fact
+  label-fourteen e = ap (λ (n : ℕ). label_fact n rate minus fields) e
 
-  pub label-none : ¬ (number ≡ 3) → ¬ (number ≡ 5) → ¬ (number ≡ 14) → labelFact number rate minus fields ≡ Nothing
-  unfolding labelFact
-  label-none a b c = rw (ne_eqb number 3 a, ne_eqb number 5 b, ne_eqb number 14 c)
+  pub label_none : ¬ (number ≡ 3) → ¬ (number ≡ 5) → ¬ (number ≡ 14) → label_fact number rate minus fields ≡ Nothing
+  unfolding label_fact
+  label_none a b c = rw (ne_eqb number 3 a, ne_eqb number 5 b, ne_eqb number 14 c)
 
 module _ (number : ℕ) (format : FilmFormat) (minus : Bool) (feet frames : ℕ) (perf : Bool) (marker : ℕ) where
   pub footage-five : number ≡ 5
-      → footageFact number format minus feet frames perf marker ≡ limitFrom (countFault minus (footageOr format feet frames))
-  unfolding footageFact
-  footage-five e = ap (λ (n : ℕ). footageFact n format minus feet frames perf marker) e
+      → footage_fact number format minus feet frames perf marker ≡ limit_from (count_fault minus (footage_or format feet frames))
+  unfolding footage_fact
+  footage-five e = ap (λ (n : ℕ). footage_fact n format minus feet frames perf marker) e
 
   pub footage-thirteen : number ≡ 13
-      → footageFact number format minus feet frames perf marker ≡ limitFrom (filmFault format feet frames perf marker)
-  unfolding footageFact
-  footage-thirteen e = ap (λ (n : ℕ). footageFact n format minus feet frames perf marker) e
+      → footage_fact number format minus feet frames perf marker ≡ limit_from (film_fault format feet frames perf marker)
+  unfolding footage_fact
+  footage-thirteen e = ap (λ (n : ℕ). footage_fact n format minus feet frames perf marker) e
 
-  pub footage-none : ¬ (number ≡ 5) → ¬ (number ≡ 13) → footageFact number format minus feet frames perf marker ≡ Nothing
-  unfolding footageFact
+  pub footage-none : ¬ (number ≡ 5) → ¬ (number ≡ 13) → footage_fact number format minus feet frames perf marker ≡ Nothing
+  unfolding footage_fact
   footage-none a b = rw (ne_eqb number 5 a, ne_eqb number 13 b)

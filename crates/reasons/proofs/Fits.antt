@@ -6,39 +6,39 @@ use mathlib.Core.Path.{◌≡◌, refl}
 use mathlib.Core.Bool.{Bool, true, false, cond, ◌&&◌}
 use mathlib.Core.List.{List}
 use lib.Dec.{ltb, eqb, leb}
-use Rattle.answers.specs.Refusals.{mostCount, beyond}
+use Rattle.answers.specs.Refusals.{most_count, beyond}
 use Rattle.faults.specs.declared.Field.{Field}
 use Rattle.faults.specs.declared.Field.TheVariants.{Count, Hours, Minutes, Seconds, Frames, Marker}
 use Rattle.faults.specs.declared.Fault.{Fault}
 use Rattle.faults.specs.declared.Found.{Found}
 use Rattle.faults.specs.declared.Found.TheVariants.{NoFault, At}
-use Rattle.faults.specs.Faults.{fault, under, exactly, signFault, countFault, leftmost}
-use Rattle.rates.specs.Rates.{isRate, rateRow, dropFrames}
+use Rattle.faults.specs.Faults.{fault, under, exactly, sign_fault, count_fault, leftmost}
+use Rattle.rates.specs.Rates.{is_rate, rate_row, drop_frames}
 use Rattle.rates.specs.Rule.{sound}
 use Rattle.film.specs.declared.FilmFormat.{FilmFormat}
 use Rattle.film.specs.declared.FilmFormat.TheVariants.{FF35mm4perf, FF35mm3perf, FF35mm2perf, FF16mm}
-use Rattle.film.specs.OnFilm.{leavesTwo, framesInFoot}
-use Rattle.film.specs.Footage.{footageCount, footageOr}
+use Rattle.film.specs.OnFilm.{leaves_two, frames_in_foot}
+use Rattle.film.specs.Footage.{footage_count, footage_or}
 use Rattle.film.specs.FootageLaws.{count-le}
-use Rattle.film.specs.Faults.{markerFault, filmFault}
-use Rattle.labels.specs.Label.{hoursIn, minutesIn, secondsIn, framesIn, labelCount, countIn, isShort, Short}
-use Rattle.labels.specs.AtRate.{framesOr}
+use Rattle.film.specs.Faults.{marker_fault, film_fault}
+use Rattle.labels.specs.Label.{hours_in, minutes_in, seconds_in, frames_in, label_count, count_in, is_short, Short}
+use Rattle.labels.specs.AtRate.{frames_or}
 use Rattle.labels.specs.BoundLaws.{number_short}
-use Rattle.labels.specs.Faults.{strictFault}
-use Rattle.labels.specs.Sections.{labelNumber}
+use Rattle.labels.specs.Faults.{strict_fault}
+use Rattle.labels.specs.Sections.{label_number}
 use Rattle.scanner.specs.declared.text.Fit.{Fit}
 use Rattle.scanner.specs.declared.text.Fit.TheVariants.{Fits, TooLong, NoShape}
-use Rattle.label_scan.specs.Label.{labelScan}
+use Rattle.label_scan.specs.Label.{label_scan}
 use Rattle.footage_scan.specs.declared.FootageScan.{FootageScan}
-use Rattle.footage_scan.specs.Footage.{footageScan}
-use Rattle.footage_scan.proofs.Statements.{footage-below}
+use Rattle.footage_scan.specs.Footage.{footage_scan}
+use Rattle.footage_scan.proofs.Statements.{footage_below}
 use Rattle.reading.specs.declared.Stated.{Stated}
 use Rattle.reading.specs.declared.Stated.TheVariants.{Nothing, Format}
-use Rattle.reading.specs.Shaped.{Shaped, label, footage, refused, formatFor, byFit, farthest, footageShaped, shape_of}
-use Rattle.reading.specs.For.{positionFault}
+use Rattle.reading.specs.Shaped.{Shaped, label, footage, refused, format_for, by_fit, farthest, footage_shaped, shape_of}
+use Rattle.reading.specs.For.{position_fault}
 use Rattle.reasons.specs.declared.Fact.{Fact}
 use Rattle.reasons.specs.declared.Fact.TheVariants as fact
-use Rattle.reasons.specs.Facts.{limitFrom, firstLabel, labelFact, footageFact, factBy}
+use Rattle.reasons.specs.Facts.{limit_from, first_label, label_fact, footage_fact, fact_by}
 use Rattle.reasons.proofs.Told.{short-scanned}
 
 -- a fault that fits, and a fact
@@ -63,12 +63,12 @@ under-small : (field : Field) (bound value : ℕ) → bound ≤ 100 → value < 
 unfolding under
 under-small field bound value b v = by-test (ltb value bound) (fault field false (bound - 1) value) (omega arith, omega arith)
 
-count_small : (minus : Bool) (m : ℕ) → m < 1000000000000000 → SmallIn (countFault minus m)
-unfolding countFault
-count_small minus m h = by-test (leb m mostCount) (fault Count minus mostCount m) (omega arith, omega arith)
+count_small : (minus : Bool) (m : ℕ) → m < 1000000000000000 → SmallIn (count_fault minus m)
+unfolding count_fault
+count_small minus m h = by-test (leb m most_count) (fault Count minus most_count m) (omega arith, omega arith)
 
-marker-small : (feet : ℕ) (marked : Bool) (marker : ℕ) → marker < 1000000000 → SmallIn (markerFault feet marked marker)
-unfolding markerFault exactly
+marker-small : (feet : ℕ) (marked : Bool) (marker : ℕ) → marker < 1000000000 → SmallIn (marker_fault feet marked marker)
+unfolding marker_fault exactly
 marker-small feet true marker h = by-test (eqb marker (feet % 3)) (fault Marker false (feet % 3) marker) (omega arith, omega arith)
 marker-small feet false marker h = tt
 
@@ -76,44 +76,44 @@ leftmost-small : (left right : Found) → SmallIn left → SmallIn right → Sma
 leftmost-small NoFault right a b = b
 leftmost-small (At f) right a b = a
 
-sign_small : (minus : Bool) → SmallIn (signFault minus)
+sign_small : (minus : Bool) → SmallIn (sign_fault minus)
 sign_small true = (omega arith, omega arith)
 sign_small false = tt
 
-limit-small : (found : Found) → SmallIn found → SmallFact (limitFrom found)
+limit-small : (found : Found) → SmallIn found → SmallFact (limit_from found)
 limit-small NoFault h = tt
 limit-small (At f) h = h
 
 -- ---- the counts
 -- a label's count is at most its number
-count-number : (timebase D : ℕ) (fields : List ℕ) → countIn timebase D fields ≤ labelNumber timebase fields
-unfolding labelCount
+count-number : (timebase D : ℕ) (fields : List ℕ) → count_in timebase D fields ≤ label_number timebase fields
+unfolding label_count
 count-number timebase D fields = omega arith
 
-frames_small : (rate : ℕ) (fields : List ℕ) → Short fields → framesOr rate fields < 1000000000000000
-unfolding framesOr
-frames_small rate fields s = by (isRate rate) refl (isShort fields)
+frames_small : (rate : ℕ) (fields : List ℕ) → Short fields → frames_or rate fields < 1000000000000000
+unfolding frames_or
+frames_small rate fields s = by (is_rate rate) refl (is_short fields)
   where
-    by : (r : Bool) → isRate rate ≡ r → (t : Bool)
-        → cond (r && t) (countIn (rateRow rate).timebase (dropFrames rate) fields) beyond < 1000000000000000
+    by : (r : Bool) → is_rate rate ≡ r → (t : Bool)
+        → cond (r && t) (count_in (rate_row rate).timebase (drop_frames rate) fields) beyond < 1000000000000000
     by true e true =
-        let low = count-number (rateRow rate).timebase (dropFrames rate) fields in
-        let high = number_short (rateRow rate).timebase (sound rate e).timebase-most fields s in
+        let low = count-number (rate_row rate).timebase (drop_frames rate) fields in
+        let high = number_short (rate_row rate).timebase (sound rate e).timebase_most fields s in
         omega (arith, low, high)
     by true e false = omega arith
     by false e t = omega arith
 
-feet-small : (format : FilmFormat) (feet frames : ℕ) → feet < 1000000000 → frames < 1000000000 → footageOr format feet frames < 1000000000000000
-unfolding footageOr
+feet-small : (format : FilmFormat) (feet frames : ℕ) → feet < 1000000000 → frames < 1000000000 → footage_or format feet frames < 1000000000000000
+unfolding footage_or
 feet-small format feet frames h k = by (ltb feet beyond && ltb frames beyond)
   where
-    by : (t : Bool) → cond t (footageCount format feet frames) beyond < 1000000000000000
+    by : (t : Bool) → cond t (footage_count format feet frames) beyond < 1000000000000000
     by true = omega (arith, count-le format feet frames)
     by false = omega arith
 
-foot-small : (format : FilmFormat) (feet : ℕ) → framesInFoot format feet ≤ 100
+foot-small : (format : FilmFormat) (feet : ℕ) → frames_in_foot format feet ≤ 100
 foot-small FF35mm4perf feet = omega arith
-foot-small FF35mm3perf feet = by (leavesTwo feet)
+foot-small FF35mm3perf feet = by (leaves_two feet)
   where
     by : (t : Bool) → cond t 22 21 ≤ 100
     by true = omega arith
@@ -128,80 +128,80 @@ SmallShape (footage minus feet frames perf marker) = (feet < 1000000000) × (fra
 SmallShape (refused e) = Unit {0}
 
 footage-shape-small : (stopped : ℕ) (s : FootageScan) → (s.feet < 1000000000) × (s.frames < 1000000000) × (s.marker < 1000000000)
-    → SmallShape (footageShaped stopped s)
+    → SmallShape (footage_shaped stopped s)
 footage-shape-small stopped s b = by s.fit
   where
-    by : (fit : Fit) → SmallShape (byFit (footage s.minus s.feet s.frames s.perf s.marker) (farthest stopped) fit)
+    by : (fit : Fit) → SmallShape (by_fit (footage s.minus s.feet s.frames s.perf s.marker) (farthest stopped) fit)
     by Fits = b
     by (TooLong place) = tt
     by (NoShape stop) = tt
 
 shape-small : (stated : Stated) (text : List ℕ) → SmallShape (shape_of stated text)
-shape-small Nothing text = by (labelScan text).fit
+shape-small Nothing text = by (label_scan text).fit
   where
-    by : (fit : Fit) → SmallShape (byFit (label (labelScan text).minus (labelScan text).fields) (λ stop. footageShaped stop (footageScan text)) fit)
+    by : (fit : Fit) → SmallShape (by_fit (label (label_scan text).minus (label_scan text).fields) (λ stop. footage_shaped stop (footage_scan text)) fit)
     by Fits = short-scanned text
     by (TooLong place) = tt
-    by (NoShape stop) = footage-shape-small stop (footageScan text) (footage-below text)
-shape-small (Format n) text = footage-shape-small 0 (footageScan text) (footage-below text)
+    by (NoShape stop) = footage-shape-small stop (footage_scan text) (footage_below text)
+shape-small (Format n) text = footage-shape-small 0 (footage_scan text) (footage_below text)
 
 -- ---- the fact
 by_number : (t : Bool) (a b : Fact) → SmallFact a → SmallFact b → SmallFact (cond t a b)
 by_number true a b p q = p
 by_number false a b p q = q
 
-strict-small : (timebase : ℕ) (fields : List ℕ) → timebase ≤ 60 → Short fields → SmallIn (strictFault timebase fields)
-unfolding strictFault
+strict-small : (timebase : ℕ) (fields : List ℕ) → timebase ≤ 60 → Short fields → SmallIn (strict_fault timebase fields)
+unfolding strict_fault
 strict-small timebase fields b s =
-    let hours = under Hours 24 (hoursIn fields) in
-    let minutes = under Minutes 60 (minutesIn fields) in
-    let seconds = under Seconds 60 (secondsIn fields) in
-    let frames = under Frames timebase (framesIn fields) in
-    leftmost-small hours (leftmost minutes (leftmost seconds frames)) (under-small Hours 24 (hoursIn fields) (omega arith) s.hours)
-    (leftmost-small minutes (leftmost seconds frames) (under-small Minutes 60 (minutesIn fields) (omega arith) s.minutes)
-    (leftmost-small seconds frames (under-small Seconds 60 (secondsIn fields) (omega arith) s.seconds)
-    (under-small Frames timebase (framesIn fields) (omega arith) s.frames)))
+    let hours = under Hours 24 (hours_in fields) in
+    let minutes = under Minutes 60 (minutes_in fields) in
+    let seconds = under Seconds 60 (seconds_in fields) in
+    let frames = under Frames timebase (frames_in fields) in
+    leftmost-small hours (leftmost minutes (leftmost seconds frames)) (under-small Hours 24 (hours_in fields) (omega arith) s.hours)
+    (leftmost-small minutes (leftmost seconds frames) (under-small Minutes 60 (minutes_in fields) (omega arith) s.minutes)
+    (leftmost-small seconds frames (under-small Seconds 60 (seconds_in fields) (omega arith) s.seconds)
+    (under-small Frames timebase (frames_in fields) (omega arith) s.frames)))
 
-position-small : (rate : ℕ) (minus : Bool) (fields : List ℕ) → isRate rate ≡ true → Short fields → SmallIn (positionFault rate minus fields)
-unfolding positionFault
+position-small : (rate : ℕ) (minus : Bool) (fields : List ℕ) → is_rate rate ≡ true → Short fields → SmallIn (position_fault rate minus fields)
+unfolding position_fault
 position-small rate minus fields r s =
-    leftmost-small (signFault minus) (strictFault (rateRow rate).timebase fields) (sign_small minus)
-    (strict-small (rateRow rate).timebase fields (sound rate r).timebase-most s)
+    leftmost-small (sign_fault minus) (strict_fault (rate_row rate).timebase fields) (sign_small minus)
+    (strict-small (rate_row rate).timebase fields (sound rate r).timebase_most s)
 
 film-small : (format : FilmFormat) (feet frames : ℕ) (perf : Bool) (marker : ℕ) → frames < 1000000000 → marker < 1000000000
-    → SmallIn (filmFault format feet frames perf marker)
-unfolding filmFault
+    → SmallIn (film_fault format feet frames perf marker)
+unfolding film_fault
 film-small format feet frames perf marker h k =
-    leftmost-small (under Frames (framesInFoot format feet) frames) (markerFault feet perf marker)
-    (under-small Frames (framesInFoot format feet) frames (foot-small format feet) h) (marker-small feet perf marker k)
+    leftmost-small (under Frames (frames_in_foot format feet) frames) (marker_fault feet perf marker)
+    (under-small Frames (frames_in_foot format feet) frames (foot-small format feet) h) (marker-small feet perf marker k)
 
-label_small : (number rate : ℕ) (minus : Bool) (fields : List ℕ) → isRate rate ≡ true → Short fields → SmallFact (labelFact number rate minus fields)
-unfolding labelFact
+label_small : (number rate : ℕ) (minus : Bool) (fields : List ℕ) → is_rate rate ≡ true → Short fields → SmallFact (label_fact number rate minus fields)
+unfolding label_fact
 label_small number rate minus fields r s =
-    by_number (eqb number 3) (fact.First (firstLabel (dropFrames rate) minus fields))
-    (cond (eqb number 5) (limitFrom (countFault minus (framesOr rate fields)))
-    (cond (eqb number 14) (limitFrom (positionFault rate minus fields)) fact.Nothing))
+    by_number (eqb number 3) (fact.First (first_label (drop_frames rate) minus fields))
+    (cond (eqb number 5) (limit_from (count_fault minus (frames_or rate fields)))
+    (cond (eqb number 14) (limit_from (position_fault rate minus fields)) fact.Nothing))
     tt
-    (by_number (eqb number 5) (limitFrom (countFault minus (framesOr rate fields)))
-    (cond (eqb number 14) (limitFrom (positionFault rate minus fields)) fact.Nothing)
-    (limit-small (countFault minus (framesOr rate fields)) (count_small minus (framesOr rate fields) (frames_small rate fields s)))
-    (by_number (eqb number 14) (limitFrom (positionFault rate minus fields)) fact.Nothing
-    (limit-small (positionFault rate minus fields) (position-small rate minus fields r s)) tt))
+    (by_number (eqb number 5) (limit_from (count_fault minus (frames_or rate fields)))
+    (cond (eqb number 14) (limit_from (position_fault rate minus fields)) fact.Nothing)
+    (limit-small (count_fault minus (frames_or rate fields)) (count_small minus (frames_or rate fields) (frames_small rate fields s)))
+    (by_number (eqb number 14) (limit_from (position_fault rate minus fields)) fact.Nothing
+    (limit-small (position_fault rate minus fields) (position-small rate minus fields r s)) tt))
 
 footage-small : (number : ℕ) (format : FilmFormat) (minus : Bool) (feet frames : ℕ) (perf : Bool) (marker : ℕ)
-    → (feet < 1000000000) × (frames < 1000000000) × (marker < 1000000000) → SmallFact (footageFact number format minus feet frames perf marker)
-unfolding footageFact
+    → (feet < 1000000000) × (frames < 1000000000) × (marker < 1000000000) → SmallFact (footage_fact number format minus feet frames perf marker)
+unfolding footage_fact
 footage-small number format minus feet frames perf marker b =
-    by_number (eqb number 5) (limitFrom (countFault minus (footageOr format feet frames)))
-    (cond (eqb number 13) (limitFrom (filmFault format feet frames perf marker)) fact.Nothing)
-    (limit-small (countFault minus (footageOr format feet frames)) (count_small minus (footageOr format feet frames) (feet-small format feet frames b.0 b.1)))
-    (by_number (eqb number 13) (limitFrom (filmFault format feet frames perf marker)) fact.Nothing
-    (limit-small (filmFault format feet frames perf marker) (film-small format feet frames perf marker b.1 b.2)) tt)
+    by_number (eqb number 5) (limit_from (count_fault minus (footage_or format feet frames)))
+    (cond (eqb number 13) (limit_from (film_fault format feet frames perf marker)) fact.Nothing)
+    (limit-small (count_fault minus (footage_or format feet frames)) (count_small minus (footage_or format feet frames) (feet-small format feet frames b.0 b.1)))
+    (by_number (eqb number 13) (limit_from (film_fault format feet frames perf marker)) fact.Nothing
+    (limit-small (film_fault format feet frames perf marker) (film-small format feet frames perf marker b.1 b.2)) tt)
 
-pub fact_small : (number rate : ℕ) (stated : Stated) (text : List ℕ) → isRate rate ≡ true → SmallFact (factBy number rate stated (shape_of stated text))
+pub fact_small : (number rate : ℕ) (stated : Stated) (text : List ℕ) → is_rate rate ≡ true → SmallFact (fact_by number rate stated (shape_of stated text))
 fact_small number rate stated text r = by (shape_of stated text) (shape-small stated text)
   where
-    by : (x : Shaped) → SmallShape x → SmallFact (factBy number rate stated x)
+    by : (x : Shaped) → SmallShape x → SmallFact (fact_by number rate stated x)
     by (label minus fields) s = label_small number rate minus fields r s
-    by (footage minus feet frames perf marker) b = footage-small number (formatFor stated perf) minus feet frames perf marker b
+    by (footage minus feet frames perf marker) b = footage-small number (format_for stated perf) minus feet frames perf marker b
     by (refused e) u = tt

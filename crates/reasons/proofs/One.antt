@@ -11,27 +11,27 @@ use lib.Dec.{T}
 use lib.IntN.{ℤ, pos}
 use lib.ListN.{get_or}
 use Rattle.digits.specs.Digits.{value_of}
-use Rattle.answers.specs.Refusals.{isCount}
+use Rattle.answers.specs.Refusals.{is_count}
 use Rattle.faults.specs.declared.Fault.{Fault}
 use Rattle.faults.specs.Faults as faults
-use Rattle.faults.specs.Faults.{NearestAllowed, limitOf}
+use Rattle.faults.specs.Faults.{NearestAllowed, limit_of}
 use Rattle.faults.specs.OneLaws.{one-limit, limit-apart, one-fault}
-use Rattle.rates.specs.Rates.{rateRow}
+use Rattle.rates.specs.Rates.{rate_row}
 use Rattle.film.specs.declared.FilmFormat.{FilmFormat}
-use Rattle.labels.specs.Label.{hoursIn, minutesIn, secondsIn, framesIn}
-use Rattle.labels.specs.AtRate.{labelFrames}
-use Rattle.labels.specs.Sections.{labelNumber, fieldsAt}
+use Rattle.labels.specs.Label.{hours_in, minutes_in, seconds_in, frames_in}
+use Rattle.labels.specs.AtRate.{label_frames}
+use Rattle.labels.specs.Sections.{label_number, fields_at}
 use Rattle.labels.proofs.Statements.{one_number}
 use Rattle.scanner.specs.Justified.{justified}
-use Rattle.label_scan.proofs.Statements.{one-label-shape}
-use Rattle.footage_scan.specs.Shape.{FootageParts, hasPerf}
-use Rattle.footage_scan.proofs.Statements.{one-footage-shape}
+use Rattle.label_scan.proofs.Statements.{one_label_shape}
+use Rattle.footage_scan.specs.Shape.{FootageParts, has_perf}
+use Rattle.footage_scan.proofs.Statements.{one_footage_shape}
 use Rattle.label_writer.specs.declared.TimecodeSections.{TimecodeSections}
 use Rattle.reading.specs.declared.Stated.{Stated}
-use Rattle.reading.specs.Shaped.{formatFor}
-use Rattle.reading.specs.Reading.{footageFrames}
+use Rattle.reading.specs.Shaped.{format_for}
+use Rattle.reading.specs.Reading.{footage_frames}
 use Rattle.reading.specs.Statements.{LabelText, LabelCount, FootageCount}
-use Rattle.reading.proofs.Shapes.{shapes-apart}
+use Rattle.reading.proofs.Shapes.{shapes_apart}
 use Rattle.reasons.specs.declared.Fact.{Fact}
 use Rattle.reasons.specs.declared.Fact.TheVariants.{Limit, First}
 use Rattle.reasons.specs.Holds.{fields_of, FirstOfMinute, CountOf, CountFact, OfFoot, FilmFact, FootageFact, OfDayLabel, field_at, StrictFact, FactHolds}
@@ -40,36 +40,36 @@ use Rattle.reasons.specs.Holds.{frames, marker, sign, field, none, dropped, out-
 -- ---- a text has one label, and one footage
 one-text : (l : List ℕ) (m n : Bool) (a b : List ℕ) → LabelText l m a → LabelText l n b → (m ≡ n) × (a ≡ b)
 one-text l m n a b s t =
-    let same = one-label-shape l m n s.digits t.digits s.shape t.shape in
+    let same = one_label_shape l m n s.digits t.digits s.shape t.shape in
     (same.0, sym s.values ∙ ap (λ (d : List (List ℕ)). justified (map value_of d)) same.1 ∙ t.values)
 
 -- ---- faults of one field that show the nearest to one value
 one_of : (Allowed : ℤ → Type 0) (f g : Fault) → f.field ≡ g.field → faults.value_of f ≡ faults.value_of g
-    → NearestAllowed Allowed (limitOf f) (faults.value_of f) → NearestAllowed Allowed (limitOf g) (faults.value_of g) → f ≡ g
+    → NearestAllowed Allowed (limit_of f) (faults.value_of f) → NearestAllowed Allowed (limit_of g) (faults.value_of g) → f ≡ g
 one_of Allowed f g e v p q =
-    let limit = one-limit Allowed (faults.value_of f) (limitOf f) (limitOf g) p (subst (NearestAllowed Allowed (limitOf g)) (sym v) q) in
-    one-fault f g e limit v (limit-apart Allowed (limitOf f) (faults.value_of f) p)
+    let limit = one-limit Allowed (faults.value_of f) (limit_of f) (limit_of g) p (subst (NearestAllowed Allowed (limit_of g)) (sym v) q) in
+    one-fault f g e limit v (limit-apart Allowed (limit_of f) (faults.value_of f) p)
 
 -- ---- 3
 sections-same : (s t : TimecodeSections) → s.negative ≡ t.negative → fields_of s ≡ fields_of t → s ≡ t
 sections-same s t n e =
     ap (λ (x : Bool). of x s.hours s.minutes s.seconds s.frames) n
-    ∙ ap (λ (x : ℕ). of t.negative x s.minutes s.seconds s.frames) (ap hoursIn e)
-    ∙ ap (λ (x : ℕ). of t.negative t.hours x s.seconds s.frames) (ap minutesIn e)
-    ∙ ap (λ (x : ℕ). of t.negative t.hours t.minutes x s.frames) (ap secondsIn e)
-    ∙ ap (λ (x : ℕ). of t.negative t.hours t.minutes t.seconds x) (ap framesIn e)
+    ∙ ap (λ (x : ℕ). of t.negative x s.minutes s.seconds s.frames) (ap hours_in e)
+    ∙ ap (λ (x : ℕ). of t.negative t.hours x s.seconds s.frames) (ap minutes_in e)
+    ∙ ap (λ (x : ℕ). of t.negative t.hours t.minutes x s.frames) (ap seconds_in e)
+    ∙ ap (λ (x : ℕ). of t.negative t.hours t.minutes t.seconds x) (ap frames_in e)
   where
     of : Bool → (h m s f : ℕ) → TimecodeSections
     of n h m s f = record { negative = n; hours = h; minutes = m; seconds = s; frames = f }
 
 one-first : (rate : ℕ) (minus : Bool) (fields : List ℕ) (s t : TimecodeSections) → FirstOfMinute rate minus fields s → FirstOfMinute rate minus fields t → s ≡ t
 one-first rate minus fields s t p q =
-    let timebase = (rateRow rate).timebase in
+    let timebase = (rate_row rate).timebase in
     let low = p.first (fields_of t) q.strict q.allowed q.minute in
     let high = q.first (fields_of s) p.strict p.allowed p.minute in
-    let number : labelNumber timebase (fields_of s) ≡ labelNumber timebase (fields_of t) = omega (arith, low, high) in
+    let number : label_number timebase (fields_of s) ≡ label_number timebase (fields_of t) = omega (arith, low, high) in
     sections-same s t (p.sign ∙ sym q.sign)
-    (sym (one_number timebase (fields_of s) p.strict) ∙ ap (fieldsAt timebase) number ∙ one_number timebase (fields_of t) q.strict)
+    (sym (one_number timebase (fields_of s) p.strict) ∙ ap (fields_at timebase) number ∙ one_number timebase (fields_of t) q.strict)
 
 -- ---- 5
 module _ (l : List ℕ) (stated : Stated) (rate : ℕ) where
@@ -77,17 +77,17 @@ module _ (l : List ℕ) (stated : Stated) (rate : ℕ) where
   one-label-count y z a b =
       let same = one-text l a.minus b.minus a.fields b.fields a.text b.text in
       sym a.count
-      ∙ ap (λ (m : Bool). labelFrames rate m a.fields) same.0
-      ∙ ap (λ (x : List ℕ). labelFrames rate b.minus x) same.1
+      ∙ ap (λ (m : Bool). label_frames rate m a.fields) same.0
+      ∙ ap (λ (x : List ℕ). label_frames rate b.minus x) same.1
       ∙ b.count
 
   one-footage-count : (y z : ℤ) (f g : FilmFormat) → FootageCount l stated f y → FootageCount l stated g z → y ≡ z
   one-footage-count y z f g a b =
-      let same = one-footage-shape l a.parts b.parts a.text.shape b.text.shape in
+      let same = one_footage_shape l a.parts b.parts a.text.shape b.text.shape in
       sym a.count
-      ∙ ap (λ (x : FilmFormat). footageFrames x a.parts.minus (value_of a.parts.feet) (value_of a.parts.frames)) (sym a.in-format.chosen)
-      ∙ ap (λ (p : FootageParts). footageFrames (formatFor stated (hasPerf p.perf)) p.minus (value_of p.feet) (value_of p.frames)) same
-      ∙ ap (λ (x : FilmFormat). footageFrames x b.parts.minus (value_of b.parts.feet) (value_of b.parts.frames)) b.in-format.chosen
+      ∙ ap (λ (x : FilmFormat). footage_frames x a.parts.minus (value_of a.parts.feet) (value_of a.parts.frames)) (sym a.in-format.chosen)
+      ∙ ap (λ (p : FootageParts). footage_frames (format_for stated (has_perf p.perf)) p.minus (value_of p.feet) (value_of p.frames)) same
+      ∙ ap (λ (x : FilmFormat). footage_frames x b.parts.minus (value_of b.parts.feet) (value_of b.parts.frames)) b.in-format.chosen
       ∙ b.count
 
   one-count : (y z : ℤ) → CountOf l stated rate y → CountOf l stated rate z → y ≡ z
@@ -98,24 +98,24 @@ module _ (l : List ℕ) (stated : Stated) (rate : ℕ) where
       a
     where
       apart : {p q : ℤ} {format : FilmFormat} → LabelCount l stated rate p → FootageCount l stated format q → ⊥
-      apart x w = shapes-apart l x.minus x.text.digits w.parts x.text.shape w.text.shape
+      apart x w = shapes_apart l x.minus x.text.digits w.parts x.text.shape w.text.shape
 
   one-count-fact : (f g : Fault) → CountFact l stated rate f → CountFact l stated rate g → f ≡ g
   one-count-fact f g a b =
-      one_of (λ z. isCount z ≡ true) f g (a.of-count ∙ sym b.of-count) (one-count (faults.value_of f) (faults.value_of g) a.count b.count) a.nearest b.nearest
+      one_of (λ z. is_count z ≡ true) f g (a.of_count ∙ sym b.of_count) (one-count (faults.value_of f) (faults.value_of g) a.count b.count) a.nearest b.nearest
 
 -- ---- 13
 one-film : (format : FilmFormat) (p : FootageParts) (f g : Fault) → FilmFact format p f → FilmFact format p g → f ≡ g
 one-film format p f g (frames a v n) (frames b w m) = one_of (OfFoot format (value_of p.feet)) f g (a ∙ sym b) (v ∙ sym w) n m
-one-film format p f g (frames a v n) (marker b o h w m) = absurd (n.not-allowed (record { number = value_of p.frames; is = v; occurs = o }))
-one-film format p f g (marker a o h v n) (frames b w m) = absurd (m.not-allowed (record { number = value_of p.frames; is = w; occurs = o }))
+one-film format p f g (frames a v n) (marker b o h w m) = absurd (n.not_allowed (record { number = value_of p.frames; is = v; occurs = o }))
+one-film format p f g (marker a o h v n) (frames b w m) = absurd (m.not_allowed (record { number = value_of p.frames; is = w; occurs = o }))
 one-film format p f g (marker a o h v n) (marker b i k w m) = one_of _ f g (a ∙ sym b) (v ∙ sym w) n m
 
 one-footage-fact : (l : List ℕ) (stated : Stated) (f g : Fault) → FootageFact l stated f → FootageFact l stated g → f ≡ g
 one-footage-fact l stated f g a b =
-    let same = one-footage-shape l a.parts b.parts a.text.shape b.text.shape in
+    let same = one_footage_shape l a.parts b.parts a.text.shape b.text.shape in
     let format : a.format ≡ b.format =
-    sym a.in-format.chosen ∙ ap (λ (p : FootageParts). formatFor stated (hasPerf p.perf)) same ∙ b.in-format.chosen in
+    sym a.in-format.chosen ∙ ap (λ (p : FootageParts). format_for stated (has_perf p.perf)) same ∙ b.in-format.chosen in
     one-film b.format b.parts f g (subst (λ (x : FilmFormat). FilmFact x b.parts f) format (subst (λ (p : FootageParts). FilmFact a.format p f) same a.fact)) b.fact
 
 -- ---- 14
@@ -127,12 +127,12 @@ one-strict timebase minus fields f g (field i h a n left v p) (sign m e) = absur
 one-strict timebase minus fields f g (field i h a m left v p) (field j k b n before w q) = by (dec_lt i j) (dec_lt j i)
   where
     by : Dec (i < j) → Dec (j < i) → f ≡ g
-    by (yes x) y = absurd (p.not-allowed (subst (OfDayLabel timebase i) (sym v) (before i x)))
-    by (no x) (yes y) = absurd (q.not-allowed (subst (OfDayLabel timebase j) (sym w) (left j y)))
+    by (yes x) y = absurd (p.not_allowed (subst (OfDayLabel timebase i) (sym v) (before i x)))
+    by (no x) (yes y) = absurd (q.not_allowed (subst (OfDayLabel timebase j) (sym w) (left j y)))
     by (no x) (no y) =
         let same : i ≡ j = omega (arith, x, y) in
         one_of (OfDayLabel timebase j) f g (a ∙ ap field_at same ∙ sym b) (v ∙ ap (λ (c : ℕ). pos (get_or fields c 0)) same ∙ sym w)
-        (subst (λ (c : ℕ). NearestAllowed (OfDayLabel timebase c) (limitOf f) (faults.value_of f)) same p) q
+        (subst (λ (c : ℕ). NearestAllowed (OfDayLabel timebase c) (limit_of f) (faults.value_of f)) same p) q
 
 -- ---- by number
 -- one that shows nothing is none of those that show something
@@ -159,6 +159,6 @@ same-fact l stated rate n f g (out-of-bounds {f = a} p) (out-of-bounds {f = b} q
 same-fact l stated rate n f g (not-on-film {f = a} p) (not-on-film {f = b} q) = ap Limit (one-footage-fact l stated a b p q)
 same-fact l stated rate n f g (not-strict {minus = a} {fields = x} {f = v} t p) (not-strict {minus = b} {fields = y} {f = w} u q) =
     let same = one-text l a b x y t u in
-    let timebase = (rateRow rate).timebase in
+    let timebase = (rate_row rate).timebase in
     ap Limit
     (one-strict timebase b y v w (subst (λ (z : List ℕ). StrictFact timebase b z v) same.1 (subst (λ (m : Bool). StrictFact timebase m x v) same.0 p)) q)

@@ -15,16 +15,16 @@ use Rattle.faults.specs.declared.Found.{Found}
 use Rattle.faults.specs.declared.Found.TheVariants.{At}
 use Rattle.faults.specs.Faults.{fault, under, leftmost}
 use Rattle.faults.specs.FaultLaws.{under_at, under-not, nearest-under}
-use Rattle.rates.specs.Rates.{rateRow}
-use Rattle.labels.specs.Label.{hoursIn, minutesIn, secondsIn, framesIn, Strict}
-use Rattle.labels.specs.Faults.{strictFault}
+use Rattle.rates.specs.Rates.{rate_row}
+use Rattle.labels.specs.Label.{hours_in, minutes_in, seconds_in, frames_in, Strict}
+use Rattle.labels.specs.Faults.{strict_fault}
 use Rattle.reading.specs.declared.Stated.{Stated}
 use Rattle.reading.specs.declared.Stated.TheVariants.{Nothing}
 use Rattle.reading.specs.Shaped.{shape_of}
-use Rattle.reading.specs.For.{positionFault}
+use Rattle.reading.specs.For.{position_fault}
 use Rattle.reading.specs.Positions.{NotStrictText}
 use Rattle.reading.proofs.Positions.{four-fields, label-shape}
-use Rattle.reasons.specs.Facts.{limitFrom, factBy}
+use Rattle.reasons.specs.Facts.{limit_from, fact_by}
 use Rattle.reasons.specs.Holds.{OfDayLabel, field_at, StrictFact, sign, field, FactHolds, not-strict}
 use Rattle.reasons.proofs.Facts.{label-fourteen}
 
@@ -54,7 +54,7 @@ module _ (timebase : ℕ) (some : 0 < timebase) where
       record { fields = alone 3 n; hours = omega arith; strict = record { four = refl; minutes = omega arith; seconds = omega arith; frames = b }; there = refl }
   day-all (suc (suc (suc (suc i)))) n h b = absurd (omega arith)
 
-  day-under : (i : ℕ) (fields : List ℕ) → i < 4 → hoursIn fields < 24 → Strict timebase fields → get_or fields i 0 < bound_at timebase i
+  day-under : (i : ℕ) (fields : List ℕ) → i < 4 → hours_in fields < 24 → Strict timebase fields → get_or fields i 0 < bound_at timebase i
   day-under zero fields h hours s = hours
   day-under (suc zero) fields h hours s = s.minutes
   day-under (suc (suc zero)) fields h hours s = s.seconds
@@ -83,16 +83,16 @@ module _ (timebase : ℕ) (some : 0 < timebase) where
 
 -- ---- the leftmost of them
 -- under their bounds so far
-under-1 : (timebase : ℕ) (fields : List ℕ) → hoursIn fields < 24 → (j : ℕ) → j < 1 → get_or fields j 0 < bound_at timebase j
+under-1 : (timebase : ℕ) (fields : List ℕ) → hours_in fields < 24 → (j : ℕ) → j < 1 → get_or fields j 0 < bound_at timebase j
 under-1 timebase fields h zero k = h
 under-1 timebase fields h (suc j) k = absurd (omega arith)
 
-under-2 : (timebase : ℕ) (fields : List ℕ) → hoursIn fields < 24 → minutesIn fields < 60 → (j : ℕ) → j < 2 → get_or fields j 0 < bound_at timebase j
+under-2 : (timebase : ℕ) (fields : List ℕ) → hours_in fields < 24 → minutes_in fields < 60 → (j : ℕ) → j < 2 → get_or fields j 0 < bound_at timebase j
 under-2 timebase fields h m zero k = h
 under-2 timebase fields h m (suc zero) k = m
 under-2 timebase fields h m (suc (suc j)) k = absurd (omega arith)
 
-under-3 : (timebase : ℕ) (fields : List ℕ) → hoursIn fields < 24 → minutesIn fields < 60 → secondsIn fields < 60
+under-3 : (timebase : ℕ) (fields : List ℕ) → hours_in fields < 24 → minutes_in fields < 60 → seconds_in fields < 60
     → (j : ℕ) → j < 3 → get_or fields j 0 < bound_at timebase j
 under-3 timebase fields h m s zero k = h
 under-3 timebase fields h m s (suc zero) k = m
@@ -107,16 +107,16 @@ pub record FoundFact (found : Found) (timebase : ℕ) (minus : Bool) (fields : L
 
 module _ (timebase : ℕ) (fields : List ℕ) (some : 0 < timebase) where
   abbrev h : ℕ
-  h = hoursIn fields
+  h = hours_in fields
 
   abbrev m : ℕ
-  m = minutesIn fields
+  m = minutes_in fields
 
   abbrev s : ℕ
-  s = secondsIn fields
+  s = seconds_in fields
 
   abbrev f : ℕ
-  f = framesIn fields
+  f = frames_in fields
 
   abbrev Is : Found → Type 0
   Is found = FoundFact found timebase false fields
@@ -165,8 +165,8 @@ module _ (timebase : ℕ) (fields : List ℕ) (some : 0 < timebase) where
       }
 
   -- a label that is not strict has one
-  pub strict-found : length fields ≡ 4 → ¬ ((h < 24) × Strict timebase fields) → Is (strictFault timebase fields)
-  unfolding strictFault
+  pub strict-found : length fields ≡ 4 → ¬ ((h < 24) × Strict timebase fields) → Is (strict_fault timebase fields)
+  unfolding strict_fault
   strict-found four never =
       at-hours (λ a. at-minutes a (λ b. at-seconds a b (λ c. at-frames a b c (past a b c (dec_lt f timebase)))))
     where
@@ -175,29 +175,29 @@ module _ (timebase : ℕ) (fields : List ℕ) (some : 0 < timebase) where
       past a b c (no d) = omega arith
 
 -- ---- with the sign before all
-found-by : (rate : ℕ) (fields : List ℕ) → 0 < (rateRow rate).timebase → (t : Bool) → length fields ≡ 4
-    → (t ≡ false → ¬ ((hoursIn fields < 24) × Strict (rateRow rate).timebase fields))
-    → FoundFact (positionFault rate t fields) (rateRow rate).timebase t fields
-unfolding positionFault
+found-by : (rate : ℕ) (fields : List ℕ) → 0 < (rate_row rate).timebase → (t : Bool) → length fields ≡ 4
+    → (t ≡ false → ¬ ((hours_in fields < 24) × Strict (rate_row rate).timebase fields))
+    → FoundFact (position_fault rate t fields) (rate_row rate).timebase t fields
+unfolding position_fault
 found-by rate fields some true four never = record { the = fault Sign false 0 0; is = refl; fact = sign refl refl }
-found-by rate fields some false four never = strict-found (rateRow rate).timebase fields some four (never refl)
+found-by rate fields some false four never = strict-found (rate_row rate).timebase fields some four (never refl)
 
 -- ---- of a text
-pub fourteen-holds : (l : List ℕ) (stated : Stated) (rate : ℕ) → stated ≡ Nothing → 0 < (rateRow rate).timebase → NotStrictText l rate → FactHolds l stated rate 14 (factBy 14 rate stated (shape_of stated l))
+pub fourteen-holds : (l : List ℕ) (stated : Stated) (rate : ℕ) → stated ≡ Nothing → 0 < (rate_row rate).timebase → NotStrictText l rate → FactHolds l stated rate 14 (fact_by 14 rate stated (shape_of stated l))
 fourteen-holds l stated rate unstated some x = by x.minus refl
   where
-    shown : factBy 14 rate stated (shape_of stated l) ≡ limitFrom (positionFault rate x.minus x.fields)
+    shown : fact_by 14 rate stated (shape_of stated l) ≡ limit_from (position_fault rate x.minus x.fields)
     shown =
-        ap (factBy 14 rate stated) (label-shape l stated x.minus x.fields unstated x.text)
+        ap (fact_by 14 rate stated) (label-shape l stated x.minus x.fields unstated x.text)
         ∙ label-fourteen 14 rate x.minus x.fields refl
 
-    holds : FoundFact (positionFault rate x.minus x.fields) (rateRow rate).timebase x.minus x.fields
-        → FactHolds l stated rate 14 (factBy 14 rate stated (shape_of stated l))
-    holds k = subst (FactHolds l stated rate 14) (sym (shown ∙ ap limitFrom k.is)) (not-strict x.text k.fact)
+    holds : FoundFact (position_fault rate x.minus x.fields) (rate_row rate).timebase x.minus x.fields
+        → FactHolds l stated rate 14 (fact_by 14 rate stated (shape_of stated l))
+    holds k = subst (FactHolds l stated rate 14) (sym (shown ∙ ap limit_from k.is)) (not-strict x.text k.fact)
 
-    by : (t : Bool) → x.minus ≡ t → FactHolds l stated rate 14 (factBy 14 rate stated (shape_of stated l))
+    by : (t : Bool) → x.minus ≡ t → FactHolds l stated rate 14 (fact_by 14 rate stated (shape_of stated l))
     by t e =
         holds
-        (subst (λ (k : Bool). FoundFact (positionFault rate k x.fields) (rateRow rate).timebase k x.fields) (sym e)
+        (subst (λ (k : Bool). FoundFact (position_fault rate k x.fields) (rate_row rate).timebase k x.fields) (sym e)
         (found-by rate x.fields some t (four-fields l x.minus x.fields x.text)
         (λ u o. x.not-strict (record { unsigned = e ∙ u; hours = o.0; strict = o.1 }))))

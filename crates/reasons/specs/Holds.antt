@@ -3,18 +3,18 @@
 -- Assumes nothing.
 use Rattle.std.specs.Prelude.{ℕ, zero, suc, ◌+◌, ◌*◌, ◌%◌, ◌≤◌, ◌<◌, ◌≡◌, ◌⊎◌, Bool, true, false, List, [], ◌∷◌, ℤ, pos, get_or}
 use Rattle.digits.specs.Digits.{value_of}
-use Rattle.answers.specs.Refusals.{isCount}
+use Rattle.answers.specs.Refusals.{is_count}
 use Rattle.faults.specs.declared.Field.{Field}
 use Rattle.faults.specs.declared.Field.TheVariants.{Count, Sign, Hours, Minutes, Seconds, Frames, Marker}
 use Rattle.faults.specs.declared.Fault.{Fault}
 use Rattle.faults.specs.Faults as faults
-use Rattle.faults.specs.Faults.{NearestAllowed, limitOf}
-use Rattle.rates.specs.Rates.{rateRow, dropFrames}
+use Rattle.faults.specs.Faults.{NearestAllowed, limit_of}
+use Rattle.rates.specs.Rates.{rate_row, drop_frames}
 use Rattle.film.specs.declared.FilmFormat.{FilmFormat}
 use Rattle.film.specs.Statements.{Occurs}
-use Rattle.labels.specs.Label.{hoursIn, minutesIn, droppedIn, Strict}
-use Rattle.labels.specs.Sections.{labelNumber}
-use Rattle.footage_scan.specs.Shape.{FootageParts, hasPerf}
+use Rattle.labels.specs.Label.{hours_in, minutes_in, dropped_in, Strict}
+use Rattle.labels.specs.Sections.{label_number}
+use Rattle.footage_scan.specs.Shape.{FootageParts, has_perf}
 use Rattle.label_writer.specs.declared.TimecodeSections.{TimecodeSections}
 use Rattle.reading.specs.declared.Stated.{Stated}
 use Rattle.reading.specs.Statements.{LabelText, FootageText, InFormat, LabelCount, FootageCount}
@@ -27,19 +27,19 @@ abbrev pub fields_of : TimecodeSections → List ℕ
 fields_of s = s.hours ∷ s.minutes ∷ s.seconds ∷ s.frames ∷ []
 
 -- the minute that a label's fields lie in, minutes past 59 carried into hours
-abbrev pub minuteOf : (fields : List ℕ) → ℕ
-minuteOf fields = 60 * hoursIn fields + minutesIn fields
+abbrev pub minute_of : (fields : List ℕ) → ℕ
+minute_of fields = 60 * hours_in fields + minutes_in fields
 
 -- these are, under the text's sign, the fields of the first label of its minute that is allowed: minutes and seconds under 60, frames under the
 -- timebase, as they are written; hours run on
 pub record FirstOfMinute (rate : ℕ) (minus : Bool) (fields : List ℕ) (s : TimecodeSections) : Type 0 where
   pub sign : s.negative ≡ minus
-  pub strict : Strict (rateRow rate).timebase (fields_of s)
-  pub allowed : droppedIn (dropFrames rate) (fields_of s) ≡ false
-  pub minute : minuteOf (fields_of s) ≡ minuteOf fields
+  pub strict : Strict (rate_row rate).timebase (fields_of s)
+  pub allowed : dropped_in (drop_frames rate) (fields_of s) ≡ false
+  pub minute : minute_of (fields_of s) ≡ minute_of fields
   pub first :
-      (other : List ℕ) → Strict (rateRow rate).timebase other → droppedIn (dropFrames rate) other ≡ false → minuteOf other ≡ minuteOf fields
-      → labelNumber (rateRow rate).timebase (fields_of s) ≤ labelNumber (rateRow rate).timebase other
+      (other : List ℕ) → Strict (rate_row rate).timebase other → dropped_in (drop_frames rate) other ≡ false → minute_of other ≡ minute_of fields
+      → label_number (rate_row rate).timebase (fields_of s) ≤ label_number (rate_row rate).timebase other
 
 -- ---- 5
 -- the exact count that a text has, before any reduction: a label's, or a footage's in its film format
@@ -48,9 +48,9 @@ CountOf l stated rate z = LabelCount l stated rate z ⊎ ((format : FilmFormat) 
 
 -- it is that count which is shown, it is out of bounds, and the limit is the nearest count within them
 pub record CountFact (l : List ℕ) (stated : Stated) (rate : ℕ) (f : Fault) : Type 0 where
-  pub of-count : f.field ≡ Count
+  pub of_count : f.field ≡ Count
   pub count : CountOf l stated rate (faults.value_of f)
-  pub nearest : NearestAllowed (λ z. isCount z ≡ true) (limitOf f) (faults.value_of f)
+  pub nearest : NearestAllowed (λ z. is_count z ≡ true) (limit_of f) (faults.value_of f)
 
 -- ---- 13
 -- a frames number that occurs in a foot
@@ -63,12 +63,12 @@ pub data FilmFact (format : FilmFormat) (p : FootageParts) (f : Fault) : Type 0 
   -- the frames number does not occur in that foot, and the limit is the nearest that does
   frames :
       f.field ≡ Frames → faults.value_of f ≡ pos (value_of p.frames)
-      → NearestAllowed (OfFoot format (value_of p.feet)) (limitOf f) (faults.value_of f) → FilmFact format p f
+      → NearestAllowed (OfFoot format (value_of p.feet)) (limit_of f) (faults.value_of f) → FilmFact format p f
   -- it does, but the marker is present and is not feet modulo 3, which alone is allowed
   marker :
-      f.field ≡ Marker → Occurs format (value_of p.feet) (value_of p.frames) → hasPerf p.perf ≡ true
+      f.field ≡ Marker → Occurs format (value_of p.feet) (value_of p.frames) → has_perf p.perf ≡ true
       → faults.value_of f ≡ pos (value_of p.perf)
-      → NearestAllowed (λ x. x ≡ pos (value_of p.feet % 3)) (limitOf f) (faults.value_of f) → FilmFact format p f
+      → NearestAllowed (λ x. x ≡ pos (value_of p.feet % 3)) (limit_of f) (faults.value_of f) → FilmFact format p f
 
 pub record FootageFact (l : List ℕ) (stated : Stated) (f : Fault) : Type 0 where
   pub parts : FootageParts
@@ -81,7 +81,7 @@ pub record FootageFact (l : List ℕ) (stated : Stated) (f : Fault) : Type 0 whe
 -- a value that some strict label of the day has in its i-th field, hours being the 0th
 pub record OfDayLabel (timebase i : ℕ) (x : ℤ) : Type 0 where
   pub fields : List ℕ
-  pub hours : hoursIn fields < 24
+  pub hours : hours_in fields < 24
   pub strict : Strict timebase fields
   pub there : x ≡ pos (get_or fields i 0)
 
@@ -97,7 +97,7 @@ pub data StrictFact (timebase : ℕ) (minus : Bool) (fields : List ℕ) (f : Fau
   -- no sign, and each field to the left is allowed: the value of this one is not, and the limit is the nearest that is
   field :
       (i : ℕ) → i < 4 → f.field ≡ field_at i → minus ≡ false → ((j : ℕ) → j < i → OfDayLabel timebase j (pos (get_or fields j 0)))
-      → faults.value_of f ≡ pos (get_or fields i 0) → NearestAllowed (OfDayLabel timebase i) (limitOf f) (faults.value_of f)
+      → faults.value_of f ≡ pos (get_or fields i 0) → NearestAllowed (OfDayLabel timebase i) (limit_of f) (faults.value_of f)
       → StrictFact timebase minus fields f
 
 -- ---- by number
@@ -113,4 +113,4 @@ pub data FactHolds (l : List ℕ) (stated : Stated) (rate : ℕ) : (number : ℕ
   not-on-film : {f : Fault} → FootageFact l stated f → FactHolds l stated rate 13 (Limit f)
   -- 14: the sign of a label, or a field
   not-strict : {minus : Bool} {fields : List ℕ} {f : Fault}
-      → LabelText l minus fields → StrictFact (rateRow rate).timebase minus fields f → FactHolds l stated rate 14 (Limit f)
+      → LabelText l minus fields → StrictFact (rate_row rate).timebase minus fields f → FactHolds l stated rate 14 (Limit f)

@@ -1,11 +1,13 @@
 // Why a text was turned down: the reader's own answer, the phrase of its number, laid into the caller's line, and the fact behind it. It
 // takes the reader's steps, one after the other. Refuses 8 alone, where the phrase has no room.
+#![tactic(auto)]
+
 ghost use Rattle.std.specs.Prelude.{◌≡◌};
 ghost use Rattle.labels.specs.Label.{Short};
-ghost use Rattle.written.specs.Written.{Text, lineTo};
-ghost use Rattle.reading.specs.Taken.{shapedIn};
-ghost use Rattle.reasons.specs.Facts.{limitFrom, firstLabel, labelFact, footageFact, ShortLabel, factBy};
-ghost use Rattle.reasons.specs.Why.{phraseFor, whyOf};
+ghost use Rattle.written.specs.Written.{Text, line_to};
+ghost use Rattle.reading.specs.Taken.{shaped_in};
+ghost use Rattle.reasons.specs.Facts.{limit_from, first_label, label_fact, footage_fact, ShortLabel, fact_by};
+ghost use Rattle.reasons.specs.Why.{phrase_for, why_of};
 
 use answers::Refusal;
 use faults::{Fault, Found};
@@ -40,7 +42,7 @@ pub enum Reasoned {
 
 // A fault as a fact.
 fn limit_from(found: Found) -> Fact
-    ensures answer { result ≡ limitFrom found }
+    ensures { result ≡ limit_from found }
 {
     match found {
         Found::NoFault => Fact::Nothing,
@@ -51,8 +53,8 @@ fn limit_from(found: Found) -> Fact
 // The first allowed label of a dropped label's minute, under its sign: minutes past 59 are carried into hours. Asks fields of at most 9
 // digits.
 fn first_label(minus: bool, fields: [u64; 4], d: u64) -> TimecodeSections
-    requires fields { Short fields }
-    ensures answer { result ≡ firstLabel d minus fields }
+    requires { Short fields }
+    ensures { result ≡ first_label d minus fields }
 {
     TimecodeSections {
         negative: minus,
@@ -65,8 +67,8 @@ fn first_label(minus: bool, fields: [u64; 4], d: u64) -> TimecodeSections
 
 // The fact behind a label's number. Asks fields of at most 9 digits.
 fn label_fact(number: u8, rate: u64, minus: bool, fields: [u64; 4]) -> Fact
-    requires fields { Short fields }
-    ensures answer { result ≡ labelFact number rate minus fields }
+    requires { Short fields }
+    ensures { result ≡ label_fact number rate minus fields }
 {
     match number {
         3 => Fact::First(first_label(minus, fields, rates::drop_frames_per_minute(rate))),
@@ -86,7 +88,7 @@ fn footage_fact(
     perf: bool,
     marker: u64,
 ) -> Fact
-    ensures answer { result ≡ footageFact number format minus feet frames perf marker }
+    ensures { result ≡ footage_fact number format minus feet frames perf marker }
 {
     match number {
         5 => limit_from(faults::count_fault(minus, film::footage_frames(format, feet, frames))),
@@ -97,8 +99,8 @@ fn footage_fact(
 
 // The fact behind the number of what a text was taken for. Asks a label's fields of at most 9 digits.
 fn fact_by(number: u8, rate: u64, stated: Stated, taken: Taken) -> Fact
-    requires fields { ShortLabel (shapedIn taken) }
-    ensures answer { result ≡ factBy number rate stated (shapedIn taken) }
+    requires { ShortLabel (shaped_in taken) }
+    ensures { result ≡ fact_by number rate stated (shaped_in taken) }
 {
     match taken {
         Taken::Label {
@@ -137,8 +139,8 @@ pub fn why(
     line: &mut [u8],
     place: usize,
 ) -> Reasoned
-    ensures answer { result ≡ whyOf kind text.now stated rate line.old place }
-    ensures line { line.new ≡ lineTo line.old place (Text (phraseFor kind text.now stated rate)) }
+    ensures answer { result ≡ why_of kind text.now stated rate line.old place }
+    ensures line { line.new ≡ line_to line.old place (Text (phrase_for kind text.now stated rate)) }
 {
     let taken = reading::take_text(text, stated);
     let read = reading::read_taken(taken, stated, rate, kind);

@@ -1,6 +1,6 @@
 // The directory file, line by line, up to its end or a bad line.
 ghost use Rattle.std.specs.Prelude.{◌≡◌};
-ghost use Rattle.streams.specs.Turns.{waitingBehind};
+ghost use Rattle.streams.specs.Turns.{waiting_behind};
 
 use routing::{Flaw, Loaded, Loading};
 use streams::{Gathered, Step};
@@ -130,8 +130,8 @@ fn with_step(t: Step, buffer: &[u8], l: Loads) -> Loads {
 
 // A chunk of the file, line by line.
 fn feed(chunk: &[u8], buffer: &mut [u8], first: Gathered, before: Loads) -> Fed
-    ensures gathered { result.gathered ≡ (waitingBehind buffer.old first chunk.now).gathered }
-    ensures buffer { buffer.new ≡ (waitingBehind buffer.old first chunk.now).buffer }
+    ensures gathered { result.gathered ≡ (waiting_behind buffer.old first chunk.now).gathered }
+    ensures buffer { buffer.new ≡ (waiting_behind buffer.old first chunk.now).buffer }
 {
     let mut g = first;
     let mut l = before;

@@ -1,6 +1,8 @@
 // Tells which shards of a reel a query must ask (docs/ROUTING.md): the directory of the shards is a file, each line of standard input a
 // query. What the lines are and what is told is routing's, which shards are asked the router's; here are the arguments, the buffers, the
 // reads and the writes.
+#![tactic(auto)]
+
 use file::Loads;
 use routing::{Flaw, Loading};
 

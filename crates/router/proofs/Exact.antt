@@ -10,7 +10,7 @@ use lib.Dec.{leb, ltb}
 use lib.ListN.{length, get_or}
 use Rattle.router.specs.declared.Routed.TheVariants.{Shards}
 use Rattle.router.specs.Directory.{Rules}
-use Rattle.router.specs.Route.{Common, askedSpan, first_of, after_of}
+use Rattle.router.specs.Route.{Common, asked_span, first_of, after_of}
 use Rattle.router.specs.AskedLaws.{Asked, asked-common, common-asked, span_none, span-is}
 use Rattle.router.specs.HalvingLaws.{lo, hi, high, from-lo, under-hi, between}
 use Rattle.router.specs.Statements.{Between, Exactly, Together}
@@ -39,7 +39,7 @@ module _ (day : ℕ) (firsts ends : List ℕ) (start end : ℕ) (r : Rules day f
   pub record Answered : Type 0 where
     pub first : ℕ
     pub after : ℕ
-    pub is : askedSpan start end firsts ends ≡ Shards first after
+    pub is : asked_span start end firsts ends ≡ Shards first after
     pub exactly : Exactly firsts ends start end first after
 
   pub answered : Answered
@@ -67,20 +67,20 @@ module _ (day : ℕ) (firsts ends : List ℕ) (start end : ℕ) (r : Rules day f
           omega (arith, from-lo day start end firsts ends r i h a, under-hi day start end firsts ends r i h a, ltb-false (lo day start end firsts ends r) (hi day start end firsts ends r) f))
 
   -- and no other answer is
-  pub span-exactly : (p q : ℕ) → askedSpan start end firsts ends ≡ Shards p q → Exactly firsts ends start end p q
+  pub span-exactly : (p q : ℕ) → asked_span start end firsts ends ≡ Shards p q → Exactly firsts ends start end p q
   span-exactly p q h =
       let a = answered in
       let e = sym a.is ∙ h in
       subst (λ (k : ℕ). Exactly firsts ends start end p k) (ap after_of e)
       (subst (λ (k : ℕ). Exactly firsts ends start end k a.after) (ap first_of e) a.exactly)
 
-  pub exactly-one : (p q : ℕ) → Exactly firsts ends start end p q → askedSpan start end firsts ends ≡ Shards p q
+  pub exactly-one : (p q : ℕ) → Exactly firsts ends start end p q → asked_span start end firsts ends ≡ Shards p q
   exactly-one p q x = by (ltb p q) refl
     where
       one : (i : ℕ) → i < length firsts → Asked start end firsts ends i → (p ≤ i) × (i < q)
       one i h a = (x.asked i h).1 (asked-common start end firsts ends i a)
 
-      by : (t : Bool) → ltb p q ≡ t → askedSpan start end firsts ends ≡ Shards p q
+      by : (t : Bool) → ltb p q ≡ t → asked_span start end firsts ends ≡ Shards p q
       by true e =
           span-is start end firsts ends p q r.paired (ltb-true p q e) x.inside
           (λ i h k. let c = (x.asked i (omega (arith, k, x.inside))).0 (h, k) in common-asked start end firsts ends i c.0 c.1) one

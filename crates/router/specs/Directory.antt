@@ -2,9 +2,9 @@
 -- Assumes nothing.
 use Rattle.std.specs.Prelude.{ℕ, ◌≤◌, ◌<◌, ◌≡◌, List, [], ◌∷◌, Bool, true, false, not, ◌&&◌, cond, leb, ltb, length, get_or}
 use Rattle.answers.specs.Order.{Condition, when}
-use Rattle.answers.specs.Refusals.{brokenDirectory}
-use Rattle.rates.specs.Rates.{badRate}
-use Rattle.rates.specs.Day.{dayFrames}
+use Rattle.answers.specs.Refusals.{broken_directory}
+use Rattle.rates.specs.Rates.{bad_rate}
+use Rattle.rates.specs.Day.{day_frames}
 
 -- a frame lies in shard i: from its first frame up to its end, which is not in it
 pub record InShard (firsts ends : List ℕ) (i frame : ℕ) : Type 0 where
@@ -21,15 +21,15 @@ pub record Rules (day : ℕ) (firsts ends : List ℕ) : Type 0 where
   pub within : (i : ℕ) → i < length firsts → get_or ends i 0 ≤ day
 
 -- the test, from the front on: none begins before `low`, the end of the one before it
-unfoldable pub inOrder : (day low : ℕ) (firsts ends : List ℕ) → Bool
-inOrder day low [] [] = true
-inOrder day low [] (e ∷ ends) = false
-inOrder day low (f ∷ firsts) [] = false
-inOrder day low (f ∷ firsts) (e ∷ ends) = cond (ltb f low) false (cond (leb e f) false (cond (ltb day e) false (inOrder day e firsts ends)))
+unfoldable pub in_order : (day low : ℕ) (firsts ends : List ℕ) → Bool
+in_order day low [] [] = true
+in_order day low [] (e ∷ ends) = false
+in_order day low (f ∷ firsts) [] = false
+in_order day low (f ∷ firsts) (e ∷ ends) = cond (ltb f low) false (cond (leb e f) false (cond (ltb day e) false (in_order day e firsts ends)))
 
-unfoldable pub isDirectory : (day : ℕ) (firsts ends : List ℕ) → Bool
-isDirectory day firsts ends = leb (length firsts) 256 && inOrder day 0 firsts ends
+unfoldable pub is_directory : (day : ℕ) (firsts ends : List ℕ) → Bool
+is_directory day firsts ends = leb (length firsts) 256 && in_order day 0 firsts ends
 
 -- 6: no such rate; 16: the directory breaks a rule
-abbrev pub directoryWhen : (rate : ℕ) (firsts ends : List ℕ) → List Condition
-directoryWhen rate firsts ends = badRate rate ∷ when brokenDirectory (not (isDirectory (dayFrames rate) firsts ends)) ∷ []
+abbrev pub directory_when : (rate : ℕ) (firsts ends : List ℕ) → List Condition
+directory_when rate firsts ends = bad_rate rate ∷ when broken_directory (not (is_directory (day_frames rate) firsts ends)) ∷ []

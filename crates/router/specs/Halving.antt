@@ -11,20 +11,20 @@ abbrev pub middle : (lo hi : ℕ) → ℕ
 middle lo hi = lo + (hi - lo) / 2
 
 -- the part from lo up to hi, halved until nothing is left, in so many turns at most
-unfoldable pub halvedFrom : (turns : ℕ) (v : ℕ) (l : List ℕ) (lo hi : ℕ) → ℕ
-halvedFrom zero v l lo hi = lo
-halvedFrom (suc turns) v l lo hi =
-    cond (ltb lo hi) (cond (ltb (get_or l (middle lo hi) 0) v) (halvedFrom turns v l (middle lo hi + 1) hi) (halvedFrom turns v l lo (middle lo hi))) lo
+unfoldable pub halved_from : (turns : ℕ) (v : ℕ) (l : List ℕ) (lo hi : ℕ) → ℕ
+halved_from zero v l lo hi = lo
+halved_from (suc turns) v l lo hi =
+    cond (ltb lo hi) (cond (ltb (get_or l (middle lo hi) 0) v) (halved_from turns v l (middle lo hi + 1) hi) (halved_from turns v l lo (middle lo hi))) lo
 
 unfoldable pub halved : (v : ℕ) → List ℕ → ℕ
-halved v l = halvedFrom (length l) v l 0 (length l)
+halved v l = halved_from (length l) v l 0 (length l)
 
 -- the shards behind those that end by the start, and before those that begin at the end or later
-unfoldable pub halvedSpan : (start end : ℕ) (firsts ends : List ℕ) → Routed
-halvedSpan start end firsts ends =
+unfoldable pub halved_span : (start end : ℕ) (firsts ends : List ℕ) → Routed
+halved_span start end firsts ends =
     cond (leb end start) (Shards 0 0)
     (cond (ltb (halved (start + 1) ends) (halved end firsts)) (Shards (halved (start + 1) ends) (halved end firsts)) (Shards 0 0))
 
-abbrev pub foundIn : (firsts ends : List ℕ) → Ranged → Routed
-foundIn firsts ends (ranged.Frames start end) = halvedSpan start end firsts ends
-foundIn firsts ends (ranged.Refused e) = Refused e
+abbrev pub found_in : (firsts ends : List ℕ) → Ranged → Routed
+found_in firsts ends (ranged.Frames start end) = halved_span start end firsts ends
+found_in firsts ends (ranged.Refused e) = Refused e

@@ -11,14 +11,14 @@ use Rattle.router.specs.declared.Routed.TheVariants.{Shards}
 use Rattle.router.specs.declared.query.Ranged.{Ranged}
 use Rattle.router.specs.declared.query.Ranged.TheVariants.{Frames, Refused}
 use Rattle.router.specs.Directory.{Rules}
-use Rattle.router.specs.Route.{isAsked, askedSpan, askedIn}
-use Rattle.router.specs.Halving.{middle, halvedFrom, halved, halvedSpan, foundIn}
+use Rattle.router.specs.Route.{is_asked, asked_span, asked_in}
+use Rattle.router.specs.Halving.{middle, halved_from, halved, halved_span, found_in}
 use Rattle.router.specs.RuleLaws.{Rising, firsts-rise, ends-rise}
 use Rattle.router.specs.AskedLaws.{Asked, span_none, span-is}
 
 -- ---- the loop: a turn, and the end
-pub halved-end : (turns v : ℕ) (l : List ℕ) (lo hi : ℕ) → hi ≤ lo → halvedFrom turns v l lo hi ≡ lo
-unfolding halvedFrom
+pub halved-end : (turns v : ℕ) (l : List ℕ) (lo hi : ℕ) → hi ≤ lo → halved_from turns v l lo hi ≡ lo
+unfolding halved_from
 halved-end zero v l lo hi h = refl
 halved-end (suc turns) v l lo hi h = rw (le-ltb lo hi h)
 
@@ -28,21 +28,21 @@ pub record Halves (v : ℕ) (l : List ℕ) (lo hi : ℕ) : Type 0 where
   pub inside : hi ≤ length l
   pub turns : ℕ
   pub enough : hi - lo ≤ turns
-  pub same : halved v l ≡ halvedFrom turns v l lo hi
+  pub same : halved v l ≡ halved_from turns v l lo hi
 
 pub halves-start : (v : ℕ) (l : List ℕ) → Halves v l 0 (length l)
 unfolding halved
 halves-start v l = record { order = omega arith; inside = omega arith; turns = length l; enough = omega arith; same = refl }
 
 up_by : (turns v : ℕ) (l : List ℕ) (lo hi : ℕ) → lo < hi → hi - lo ≤ turns → get_or l (middle lo hi) 0 < v
-    → (n : ℕ) × ((hi - (middle lo hi + 1) ≤ n) × (halvedFrom turns v l lo hi ≡ halvedFrom n v l (middle lo hi + 1) hi))
-unfolding halvedFrom
+    → (n : ℕ) × ((hi - (middle lo hi + 1) ≤ n) × (halved_from turns v l lo hi ≡ halved_from n v l (middle lo hi + 1) hi))
+unfolding halved_from
 up_by zero v l lo hi h k q = absurd (omega arith)
 up_by (suc turns) v l lo hi h k q = (turns, (omega arith, rw (lt-ltb lo hi h, lt-ltb (get_or l (middle lo hi) 0) v q)))
 
 down_by : (turns v : ℕ) (l : List ℕ) (lo hi : ℕ) → lo < hi → hi - lo ≤ turns → v ≤ get_or l (middle lo hi) 0
-    → (n : ℕ) × ((middle lo hi - lo ≤ n) × (halvedFrom turns v l lo hi ≡ halvedFrom n v l lo (middle lo hi)))
-unfolding halvedFrom
+    → (n : ℕ) × ((middle lo hi - lo ≤ n) × (halved_from turns v l lo hi ≡ halved_from n v l lo (middle lo hi)))
+unfolding halved_from
 down_by zero v l lo hi h k q = absurd (omega arith)
 down_by (suc turns) v l lo hi h k q = (turns, (omega arith, rw (lt-ltb lo hi h, le-ltb (get_or l (middle lo hi) 0) v q)))
 
@@ -66,17 +66,17 @@ pub record Parted (v : ℕ) (l : List ℕ) (k : ℕ) : Type 0 where
   pub back : (i : ℕ) → k ≤ i → i < length l → v ≤ get_or l i 0
 
 parted-from : (turns v : ℕ) (l : List ℕ) (lo hi : ℕ) → Rising l → lo ≤ hi → hi ≤ length l → hi - lo ≤ turns
-    → ((i : ℕ) → i < lo → get_or l i 0 < v) → ((i : ℕ) → hi ≤ i → i < length l → v ≤ get_or l i 0) → Parted v l (halvedFrom turns v l lo hi)
-unfolding halvedFrom
+    → ((i : ℕ) → i < lo → get_or l i 0 < v) → ((i : ℕ) → hi ≤ i → i < length l → v ≤ get_or l i 0) → Parted v l (halved_from turns v l lo hi)
+unfolding halved_from
 parted-from zero v l lo hi r o p q f b = record { inside = omega arith; front = f; back = λ i h k. b i (omega arith) k }
 parted-from (suc turns) v l lo hi r o p q f b = by (ltb lo hi) (ltb (get_or l (middle lo hi) 0) v) refl refl
     (λ s t. parted-from turns v l (middle lo hi + 1) hi r (omega arith) p (omega arith) (λ i k. omega (arith, r i (middle lo hi) (omega arith) (omega arith), t)) b)
     (λ s t. parted-from turns v l lo (middle lo hi) r (omega arith) (omega arith) (omega arith) f (λ i k m. omega (arith, r (middle lo hi) i k m, t)))
   where
     by : (s t : Bool) → ltb lo hi ≡ s → ltb (get_or l (middle lo hi) 0) v ≡ t
-        → (lo < hi → get_or l (middle lo hi) 0 < v → Parted v l (halvedFrom turns v l (middle lo hi + 1) hi))
-        → (lo < hi → v ≤ get_or l (middle lo hi) 0 → Parted v l (halvedFrom turns v l lo (middle lo hi)))
-        → Parted v l (cond s (cond t (halvedFrom turns v l (middle lo hi + 1) hi) (halvedFrom turns v l lo (middle lo hi))) lo)
+        → (lo < hi → get_or l (middle lo hi) 0 < v → Parted v l (halved_from turns v l (middle lo hi + 1) hi))
+        → (lo < hi → v ≤ get_or l (middle lo hi) 0 → Parted v l (halved_from turns v l lo (middle lo hi)))
+        → Parted v l (cond s (cond t (halved_from turns v l (middle lo hi + 1) hi) (halved_from turns v l lo (middle lo hi))) lo)
     by false t d e up down = let h = ltb-false lo hi d in record { inside = omega arith; front = f; back = λ i k m. b i (omega arith) m }
     by true true d e up down = up (ltb-true lo hi d) (ltb-true (get_or l (middle lo hi) 0) v e)
     by true false d e up down = down (ltb-true lo hi d) (ltb-false (get_or l (middle lo hi) 0) v e)
@@ -128,12 +128,12 @@ module _ (day start end : ℕ) (firsts ends : List ℕ) (r : Rules day firsts en
       let k = r.some i n in
       lt-ltb (max (get_or firsts i 0) start) (min (get_or ends i 0) end) (omega (arith, f, e, k, s))
 
-  pub halves-walk : halvedSpan start end firsts ends ≡ askedSpan start end firsts ends
-  unfolding halvedSpan
-  halves-walk = by (leb end start) (ltb lo hi) refl refl
+  pub halves_walk : halved_span start end firsts ends ≡ asked_span start end firsts ends
+  unfolding halved_span
+  halves_walk = by (leb end start) (ltb lo hi) refl refl
     where
       by : (s t : Bool) → leb end start ≡ s → ltb lo hi ≡ t
-          → cond s (Shards 0 0) (cond t (Shards lo hi) (Shards 0 0)) ≡ askedSpan start end firsts ends
+          → cond s (Shards 0 0) (cond t (Shards lo hi) (Shards 0 0)) ≡ asked_span start end firsts ends
       by true t e f =
           sym (span_none start end firsts ends r.paired (λ i h a.
           let m = ltb-true (max (get_or firsts i 0) start) (min (get_or ends i 0) end) a in omega (arith, m, leb-true end start e)))
@@ -143,23 +143,23 @@ module _ (day start end : ℕ) (firsts ends : List ℕ) (r : Rules day firsts en
           sym (span_none start end firsts ends r.paired (λ i h a. omega (arith, from-lo i h a, under-hi i h a, ltb-false lo hi f)))
 
 -- ---- as the code finds them
-pub met-empty : (start end : ℕ) (firsts ends : List ℕ) → end ≤ start → Shards 0 0 ≡ halvedSpan start end firsts ends
-unfolding halvedSpan
+pub met-empty : (start end : ℕ) (firsts ends : List ℕ) → end ≤ start → Shards 0 0 ≡ halved_span start end firsts ends
+unfolding halved_span
 met-empty start end firsts ends h = sym (rw (le-leb end start h))
 
 module _ (start end v p q : ℕ) (firsts ends : List ℕ) (h : start < end) (one : v ≡ start + 1) (e : p ≡ halved v ends) (f : q ≡ halved end firsts) where
   lo-is : p ≡ halved (start + 1) ends
   lo-is = e ∙ ap (λ (n : ℕ). halved n ends) one
 
-  pub met_some : p < q → Shards p q ≡ halvedSpan start end firsts ends
-  unfolding halvedSpan
+  pub met_some : p < q → Shards p q ≡ halved_span start end firsts ends
+  unfolding halved_span
   met_some k = rw (lt-leb end start h, ← lo-is, ← f, lt-ltb p q k)
 
-  pub met-none : q ≤ p → Shards 0 0 ≡ halvedSpan start end firsts ends
-  unfolding halvedSpan
+  pub met-none : q ≤ p → Shards 0 0 ≡ halved_span start end firsts ends
+  unfolding halved_span
   met-none k = rw (lt-leb end start h, ← lo-is, ← f, le-ltb p q k)
 
 -- so of any range
-pub found-asked : (day : ℕ) (firsts ends : List ℕ) → Rules day firsts ends → (x : Ranged) → foundIn firsts ends x ≡ askedIn firsts ends x
-found-asked day firsts ends r (Frames start end) = halves-walk day start end firsts ends r
+pub found-asked : (day : ℕ) (firsts ends : List ℕ) → Rules day firsts ends → (x : Ranged) → found_in firsts ends x ≡ asked_in firsts ends x
+found-asked day firsts ends r (Frames start end) = halves_walk day start end firsts ends r
 found-asked day firsts ends r (Refused e) = refl

@@ -1,14 +1,14 @@
 -- A query (BEHAVIOUR: Router): the label of a position and a length, as a half-open range of frames.
 -- Assumes nothing.
 use Rattle.std.specs.Prelude.{ℕ, ◌+◌, ◌≤◌, ◌<◌, List, [], ◌∷◌, Bool, not, ◌&&◌, leb, ltb, ℤ, nat_abs}
-use Rattle.numbers.specs.Sign.{isNeg}
+use Rattle.numbers.specs.Sign.{is_neg}
 use Rattle.answers.specs.Order.{Condition, when, unless}
-use Rattle.answers.specs.Refusals.{outOfBounds, pastDay, mostCount}
-use Rattle.rates.specs.Day.{dayFrames}
+use Rattle.answers.specs.Refusals.{out_of_bounds, past_day, most_count}
+use Rattle.rates.specs.Day.{day_frames}
 use Rattle.timecodes.specs.declared.kinds.Kind.TheVariants.{Position}
 use Rattle.reading.specs.declared.Read.{Read}
 use Rattle.reading.specs.declared.Read.TheVariants as read
-use Rattle.reading.specs.For.{labelFor}
+use Rattle.reading.specs.For.{label_for}
 use Rattle.router.specs.declared.query.Ranged.{Ranged}
 use Rattle.router.specs.declared.query.Ranged.TheVariants.{Frames, Refused}
 
@@ -18,24 +18,24 @@ pub record InRange (start end frame : ℕ) : Type 0 where
   pub before : frame < end
 
 -- a length is from 0 to 400,000,000
-abbrev pub isLength : ℤ → Bool
-isLength z = not (isNeg z) && leb (nat_abs z) mostCount
+abbrev pub is_length : ℤ → Bool
+is_length z = not (is_neg z) && leb (nat_abs z) most_count
 
 -- 5: a length outside its bounds; 17: start plus length beyond the day
-abbrev pub rangeWhen : (rate : ℕ) (length : ℤ) (start : ℕ) → List Condition
-rangeWhen rate length start =
-    when outOfBounds (not (isLength length)) ∷ when pastDay (ltb (dayFrames rate) (start + nat_abs length)) ∷ []
+abbrev pub range_when : (rate : ℕ) (length : ℤ) (start : ℕ) → List Condition
+range_when rate length start =
+    when out_of_bounds (not (is_length length)) ∷ when past_day (ltb (day_frames rate) (start + nat_abs length)) ∷ []
 
 -- the range from a position's count on
-unfoldable pub rangeAt : (rate : ℕ) (length count : ℤ) → Ranged
-rangeAt rate length count =
-    unless Refused (rangeWhen rate length (nat_abs count)) (Frames (nat_abs count) (nat_abs count + nat_abs length))
+unfoldable pub range_at : (rate : ℕ) (length count : ℤ) → Ranged
+range_at rate length count =
+    unless Refused (range_when rate length (nat_abs count)) (Frames (nat_abs count) (nat_abs count + nat_abs length))
 
 -- behind what the label is refused (no footage is read where only a label may stand)
-abbrev pub rangeFrom : (rate : ℕ) (length : ℤ) → Read → Ranged
-rangeFrom rate length (read.Label tc) = rangeAt rate length tc.count
-rangeFrom rate length (read.Footage tc format) = rangeAt rate length tc.count
-rangeFrom rate length (read.Refused e) = Refused e
+abbrev pub range_from : (rate : ℕ) (length : ℤ) → Read → Ranged
+range_from rate length (read.Label tc) = range_at rate length tc.count
+range_from rate length (read.Footage tc format) = range_at rate length tc.count
+range_from rate length (read.Refused e) = Refused e
 
 unfoldable pub range_of : (rate : ℕ) (length : ℤ) (text : List ℕ) → Ranged
-range_of rate length text = rangeFrom rate length (labelFor Position text rate)
+range_of rate length text = range_from rate length (label_for Position text rate)

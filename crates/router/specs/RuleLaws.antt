@@ -4,21 +4,21 @@ use Rattle.std.specs.Prelude.{ℕ, zero, suc, ◌+◌, ◌≤◌, ◌<◌, ◌�
 use Rattle.std.proofs.Common.{sym, ap, ◌∙◌, arith, add-one, lt-ltb, le-ltb, le-leb, ltb-true, ltb-false, leb-true, leb-false, drop_of_length-le, drop-cons}
 use Rattle.std.proofs.Math.Bool.{and-eq-true_iff}
 use Rattle.std.proofs.lemmas.Bool.{lt-leb}
-use Rattle.router.specs.Directory.{Rules, inOrder, isDirectory}
+use Rattle.router.specs.Directory.{Rules, in_order, is_directory}
 
 -- ---- one shard at a time
 pub record Fine (day low f e : ℕ) (firsts ends : List ℕ) : Type 0 where
   pub after : low ≤ f
   pub some : f < e
   pub within : e ≤ day
-  pub rest : inOrder day e firsts ends ≡ true
+  pub rest : in_order day e firsts ends ≡ true
 
-fine : (day low f e : ℕ) (firsts ends : List ℕ) → inOrder day low (f ∷ firsts) (e ∷ ends) ≡ true → Fine day low f e firsts ends
-unfolding inOrder
+fine : (day low f e : ℕ) (firsts ends : List ℕ) → in_order day low (f ∷ firsts) (e ∷ ends) ≡ true → Fine day low f e firsts ends
+unfolding in_order
 fine day low f e firsts ends h = by (ltb f low) (leb e f) (ltb day e) refl refl refl h
   where
     by : (p q r : Bool) → ltb f low ≡ p → leb e f ≡ q → ltb day e ≡ r
-        → cond p false (cond q false (cond r false (inOrder day e firsts ends))) ≡ true → Fine day low f e firsts ends
+        → cond p false (cond q false (cond r false (in_order day e firsts ends))) ≡ true → Fine day low f e firsts ends
     by true q r a b c h = let z : ◌≡◌ {A = ℕ} 0 1 = cc in absurd (omega arith)
     by false true r a b c h = let z : ◌≡◌ {A = ℕ} 0 1 = cc in absurd (omega arith)
     by false false true a b c h = let z : ◌≡◌ {A = ℕ} 0 1 = cc in absurd (omega arith)
@@ -50,8 +50,8 @@ module _ (day low f e : ℕ) (firsts ends : List ℕ) (k : Fine day low f e firs
   within_by zero q = k.within
   within_by (suc i) q = r.within i (omega arith)
 
-ordered : (day low : ℕ) (firsts ends : List ℕ) → inOrder day low firsts ends ≡ true → Ordered day low firsts ends
-unfolding inOrder
+ordered : (day low : ℕ) (firsts ends : List ℕ) → in_order day low firsts ends ≡ true → Ordered day low firsts ends
+unfolding in_order
 ordered day low [] [] h =
     record {
       paired = refl;
@@ -74,8 +74,8 @@ ordered day low (f ∷ firsts) (e ∷ ends) h =
     }
 
 -- and back: what is so ordered passes the test
-pub passes : (day low : ℕ) (firsts ends : List ℕ) → Ordered day low firsts ends → inOrder day low firsts ends ≡ true
-unfolding inOrder
+pub passes : (day low : ℕ) (firsts ends : List ℕ) → Ordered day low firsts ends → in_order day low firsts ends ≡ true
+unfolding in_order
 passes day low [] [] r = refl
 passes day low [] (e ∷ ends) r = absurd (omega (arith, r.paired))
 passes day low (f ∷ firsts) [] r = absurd (omega (arith, r.paired))
@@ -90,17 +90,17 @@ passes day low (f ∷ firsts) (e ∷ ends) r =
     rw (le-ltb f low (r.above 0 (omega arith)), lt-leb e f (r.some 0 (omega arith)), le-ltb day e (r.within 0 (omega arith))) rest
 
 -- ---- the test is of the rules
-pub rules-told : (day : ℕ) (firsts ends : List ℕ) → isDirectory day firsts ends ≡ true → Rules day firsts ends
-unfolding isDirectory
+pub rules-told : (day : ℕ) (firsts ends : List ℕ) → is_directory day firsts ends ≡ true → Rules day firsts ends
+unfolding is_directory
 rules-told day firsts ends h =
-    let both = (and-eq-true_iff (leb (length firsts) 256) (inOrder day 0 firsts ends)).0 h in
+    let both = (and-eq-true_iff (leb (length firsts) 256) (in_order day 0 firsts ends)).0 h in
     let r = ordered day 0 firsts ends both.1 in
     record { paired = r.paired; few = leb-true (length firsts) 256 both.0; some = r.some; apart = r.apart; within = r.within }
 
-pub rules-pass : (day : ℕ) (firsts ends : List ℕ) → Rules day firsts ends → isDirectory day firsts ends ≡ true
-unfolding isDirectory
+pub rules-pass : (day : ℕ) (firsts ends : List ℕ) → Rules day firsts ends → is_directory day firsts ends ≡ true
+unfolding is_directory
 rules-pass day firsts ends r =
-    (and-eq-true_iff (leb (length firsts) 256) (inOrder day 0 firsts ends)).1 (
+    (and-eq-true_iff (leb (length firsts) 256) (in_order day 0 firsts ends)).1 (
       le-leb (length firsts) 256 r.few,
       passes day 0 firsts ends (record { paired = r.paired; above = λ i q. omega arith; some = r.some; apart = r.apart; within = r.within }),
     )
@@ -127,19 +127,19 @@ module _ (day : ℕ) (firsts ends : List ℕ) (r : Rules day firsts ends) where
       by false e = let s : i ≡ j = omega (arith, ltb-false i j e) in omega (arith, ap (λ (n : ℕ). get_or ends n 0) s)
 
 -- ---- the test as a loop makes it
-pub uneven : (day low : ℕ) (firsts ends : List ℕ) → (length firsts ≡ length ends → ⊥) → false ≡ inOrder day low firsts ends
-uneven day low firsts ends h = by (inOrder day low firsts ends) refl
+pub uneven : (day low : ℕ) (firsts ends : List ℕ) → (length firsts ≡ length ends → ⊥) → false ≡ in_order day low firsts ends
+uneven day low firsts ends h = by (in_order day low firsts ends) refl
   where
-    by : (t : Bool) → inOrder day low firsts ends ≡ t → false ≡ t
+    by : (t : Bool) → in_order day low firsts ends ≡ t → false ≡ t
     by true e = absurd (h (ordered day low firsts ends e).paired)
     by false e = refl
 
 order-at : (day low : ℕ) (firsts ends : List ℕ) (i : ℕ) → i < length firsts → length firsts ≡ length ends
-    → inOrder day low (drop i firsts) (drop i ends)
+    → in_order day low (drop i firsts) (drop i ends)
     ≡ cond (ltb (get_or firsts i 0) low) false
     (cond (leb (get_or ends i 0) (get_or firsts i 0)) false
-    (cond (ltb day (get_or ends i 0)) false (inOrder day (get_or ends i 0) (drop (i + 1) firsts) (drop (i + 1) ends))))
-unfolding inOrder
+    (cond (ltb day (get_or ends i 0)) false (in_order day (get_or ends i 0) (drop (i + 1) firsts) (drop (i + 1) ends))))
+unfolding in_order
 order-at day low firsts ends i h k =
     let p : drop i firsts ≡ get_or firsts i 0 ∷ drop (i + 1) firsts = rw (add-one i) (drop-cons firsts i 0 h) in
     let q : drop i ends ≡ get_or ends i 0 ∷ drop (i + 1) ends = rw (add-one i) (drop-cons ends i 0 (omega arith)) in
@@ -147,24 +147,24 @@ order-at day low firsts ends i h k =
 
 -- a shard fails in one of three ways, or the rest decides
 module _ (day low : ℕ) (firsts ends : List ℕ) (i : ℕ) (h : i < length firsts) (k : length firsts ≡ length ends) where
-  pub order-low : get_or firsts i 0 < low → false ≡ inOrder day low (drop i firsts) (drop i ends)
+  pub order-low : get_or firsts i 0 < low → false ≡ in_order day low (drop i firsts) (drop i ends)
   order-low a = sym (order-at day low firsts ends i h k ∙ rw (lt-ltb (get_or firsts i 0) low a))
 
-  pub order-empty : low ≤ get_or firsts i 0 → get_or ends i 0 ≤ get_or firsts i 0 → false ≡ inOrder day low (drop i firsts) (drop i ends)
+  pub order-empty : low ≤ get_or firsts i 0 → get_or ends i 0 ≤ get_or firsts i 0 → false ≡ in_order day low (drop i firsts) (drop i ends)
   order-empty a b = sym (order-at day low firsts ends i h k ∙ rw (le-ltb (get_or firsts i 0) low a, le-leb (get_or ends i 0) (get_or firsts i 0) b))
 
-  pub order-past : low ≤ get_or firsts i 0 → get_or firsts i 0 < get_or ends i 0 → day < get_or ends i 0 → false ≡ inOrder day low (drop i firsts) (drop i ends)
+  pub order-past : low ≤ get_or firsts i 0 → get_or firsts i 0 < get_or ends i 0 → day < get_or ends i 0 → false ≡ in_order day low (drop i firsts) (drop i ends)
   order-past a b c =
       sym (order-at day low firsts ends i h k
       ∙ rw (le-ltb (get_or firsts i 0) low a, lt-leb (get_or ends i 0) (get_or firsts i 0) b, lt-ltb day (get_or ends i 0) c))
 
   pub order-on : low ≤ get_or firsts i 0 → get_or firsts i 0 < get_or ends i 0 → get_or ends i 0 ≤ day
-      → inOrder day low (drop i firsts) (drop i ends) ≡ inOrder day (get_or ends i 0) (drop (i + 1) firsts) (drop (i + 1) ends)
+      → in_order day low (drop i firsts) (drop i ends) ≡ in_order day (get_or ends i 0) (drop (i + 1) firsts) (drop (i + 1) ends)
   order-on a b c =
       order-at day low firsts ends i h k
       ∙ rw (le-ltb (get_or firsts i 0) low a, lt-leb (get_or ends i 0) (get_or firsts i 0) b, le-ltb day (get_or ends i 0) c)
 
 pub order-end : (day low : ℕ) (firsts ends : List ℕ) (i : ℕ) → length firsts ≤ i → length firsts ≡ length ends
-    → inOrder day low (drop i firsts) (drop i ends) ≡ true
-unfolding inOrder
+    → in_order day low (drop i firsts) (drop i ends) ≡ true
+unfolding in_order
 order-end day low firsts ends i h k = rw (drop_of_length-le firsts {i = i} h, drop_of_length-le ends {i = i} (omega arith))

@@ -8,36 +8,36 @@ use Rattle.answers.specs.Order.{judged}
 use Rattle.router.specs.declared.Routed.{Routed}
 use Rattle.router.specs.declared.Routed.TheVariants.{Refused}
 use Rattle.router.specs.declared.many.Directory.{Directory}
-use Rattle.router.specs.Directory.{directoryWhen}
+use Rattle.router.specs.Directory.{directory_when}
 use Rattle.router.specs.Query.{range_of}
-use Rattle.router.specs.Halving.{foundIn}
+use Rattle.router.specs.Halving.{found_in}
 
 -- the first n numbers of a list, zeros behind them up to 256
 unfoldable pub copied : (n : ℕ) → List ℕ → List ℕ
 copied n l = paste (replicate 256 0) 0 l n
 
 -- up to 256 numbers of a list
-abbrev pub keptOf : List ℕ → List ℕ
-keptOf l = copied (min 256 (length l)) l
+abbrev pub kept_of : List ℕ → List ℕ
+kept_of l = copied (min 256 (length l)) l
 
 -- the directory that is kept: what its test gave, and its shards
-unfoldable pub directoryOf : (rate : ℕ) (firsts ends : List ℕ) → Directory
-directoryOf rate firsts ends = record {
-  verdict = judged (directoryWhen rate firsts ends);
+unfoldable pub directory_of : (rate : ℕ) (firsts ends : List ℕ) → Directory
+directory_of rate firsts ends = record {
+  verdict = judged (directory_when rate firsts ends);
   rate = rate;
   shards = length firsts;
-  firsts = keptOf firsts;
-  ends = keptOf ends;
+  firsts = kept_of firsts;
+  ends = kept_of ends;
 }
 
 -- what its test gave
-abbrev pub verdictOf : Directory → Verdict
-verdictOf d = d.verdict
+abbrev pub verdict_of : Directory → Verdict
+verdict_of d = d.verdict
 
 -- behind what its test gave, the search in what is kept
-abbrev pub routedBy : Directory → (length : ℤ) (text : List ℕ) → Verdict → Routed
-routedBy d length text answers.Passed = foundIn (take d.shards d.firsts) (take d.shards d.ends) (range_of d.rate length text)
-routedBy d length text (answers.Refused e) = Refused e
+abbrev pub routed_by : Directory → (length : ℤ) (text : List ℕ) → Verdict → Routed
+routed_by d length text answers.Passed = found_in (take d.shards d.firsts) (take d.shards d.ends) (range_of d.rate length text)
+routed_by d length text (answers.Refused e) = Refused e
 
-unfoldable pub routedIn : Directory → (length : ℤ) (text : List ℕ) → Routed
-routedIn d length text = routedBy d length text (verdictOf d)
+unfoldable pub routed_in : Directory → (length : ℤ) (text : List ℕ) → Routed
+routed_in d length text = routed_by d length text (verdict_of d)

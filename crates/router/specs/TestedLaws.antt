@@ -8,8 +8,8 @@ use Rattle.std.proofs.lemmas.List.Edits.{length-paste, take-paste}
 use Rattle.answers.specs.declared.Verdict.{Verdict}
 use Rattle.answers.specs.Order.{judged}
 use Rattle.router.specs.declared.many.Directory.{Directory}
-use Rattle.router.specs.Directory.{directoryWhen}
-use Rattle.router.specs.Tested.{copied, keptOf, directoryOf}
+use Rattle.router.specs.Directory.{directory_when}
+use Rattle.router.specs.Tested.{copied, kept_of, directory_of}
 
 pub copied_none : (l : List ℕ) → replicate 256 0 ≡ copied 0 l
 unfolding copied
@@ -32,7 +32,7 @@ copied_more n l h k =
     ∙ ap (λ (m : ℕ). paste (replicate 256 0) 0 l m) (sym (add-one n))
 
 -- the whole of a list that is not longer
-pub kept_back : (l : List ℕ) → length l ≤ 256 → take (length l) (keptOf l) ≡ l
+pub kept_back : (l : List ℕ) → length l ≤ 256 → take (length l) (kept_of l) ≡ l
 unfolding copied
 kept_back l h =
     let s : length (replicate {A = ℕ} 256 0) ≡ 256 = length-replicate {A = ℕ} 256 0 in
@@ -45,7 +45,7 @@ kept_back l h =
 
 -- a directory by its parts
 pub directory-is : (rate n : ℕ) (firsts ends : List ℕ) (v : Verdict) (a b : List ℕ)
-    → v ≡ judged (directoryWhen rate firsts ends) → n ≡ length firsts → a ≡ keptOf firsts → b ≡ keptOf ends
-    → ◌≡◌ {A = Directory} (record { verdict = v; rate = rate; shards = n; firsts = a; ends = b }) (directoryOf rate firsts ends)
-unfolding directoryOf
+    → v ≡ judged (directory_when rate firsts ends) → n ≡ length firsts → a ≡ kept_of firsts → b ≡ kept_of ends
+    → ◌≡◌ {A = Directory} (record { verdict = v; rate = rate; shards = n; firsts = a; ends = b }) (directory_of rate firsts ends)
+unfolding directory_of
 directory-is rate n firsts ends v a b e m f g = rw (e, m, f, g)

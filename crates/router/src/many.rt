@@ -1,7 +1,7 @@
 // A directory that is tested once and asked many times. Only `tested` makes one, so what it holds was tested.
 ghost use Rattle.std.specs.Prelude.{◌≡◌, take};
-ghost use Rattle.router.specs.Halving.{foundIn};
-ghost use Rattle.router.specs.Tested.{keptOf, directoryOf, verdictOf, routedIn};
+ghost use Rattle.router.specs.Halving.{found_in};
+ghost use Rattle.router.specs.Tested.{kept_of, directory_of, verdict_of, routed_in};
 
 use crate::{Routed, found, rules};
 use answers::Verdict;
@@ -18,7 +18,7 @@ pub struct Directory {
 
 // A copy of a list, up to 256 numbers; zeros behind them.
 fn kept(xs: &[u64]) -> [u64; 256]
-    ensures answer { result ≡ keptOf xs.now }
+    ensures { result ≡ kept_of xs.now }
 {
     let mut out = [0u64; 256];
     let mut i = 0;
@@ -34,7 +34,7 @@ fn kept(xs: &[u64]) -> [u64; 256]
 
 // The front of a list, up to n numbers.
 fn front<'a>(xs: &'a [u64], n: usize) -> &'a [u64]
-    ensures answer { result.now ≡ take n xs.now }
+    ensures { result.now ≡ take n xs.now }
 {
     if xs.len() <= n {
         return xs;
@@ -44,7 +44,7 @@ fn front<'a>(xs: &'a [u64], n: usize) -> &'a [u64]
 
 // A directory of shards at a rate, tested and kept.
 pub fn tested(rate: u64, firsts: &[u64], ends: &[u64]) -> Directory
-    ensures answer { result ≡ directoryOf rate firsts.now ends.now }
+    ensures { result ≡ directory_of rate firsts.now ends.now }
 {
     let verdict = rules::check_directory(rate, firsts, ends);
     let a = kept(firsts);
@@ -60,14 +60,14 @@ pub fn tested(rate: u64, firsts: &[u64], ends: &[u64]) -> Directory
 
 // What the test of a directory gave. Refuses 6: no such rate; 16: it breaks a rule.
 pub fn verdict(d: Directory) -> Verdict
-    ensures answer { result ≡ verdictOf d }
+    ensures { result ≡ verdict_of d }
 {
     d.verdict
 }
 
 // The shards of a tested directory that a query asks: its rules are not tested again.
 pub fn route_tested(d: Directory, length: i64, text: &[u8]) -> Routed
-    ensures answer { result ≡ routedIn d length text.now }
+    ensures { result ≡ routed_in d length text.now }
 {
     let verdict = d.verdict;
     let n = d.shards;

@@ -1,6 +1,6 @@
 // A query as a half-open range of frames: the position of its label, and its length behind it.
 ghost use Rattle.std.specs.Prelude.{◌≡◌};
-ghost use Rattle.router.specs.Query.{isLength, rangeAt, range_of};
+ghost use Rattle.router.specs.Query.{is_length, range_at, range_of};
 
 use answers::Refusal;
 use reading::Read;
@@ -15,7 +15,7 @@ pub enum Ranged {
 
 // Whether a length is within its bounds: 0 to 400,000,000.
 fn is_length(length: i64) -> bool
-    ensures answer { result ≡ isLength length }
+    ensures { result ≡ is_length length }
 {
     if numbers::below_zero(length) {
         return false;
@@ -25,7 +25,7 @@ fn is_length(length: i64) -> bool
 
 // The range from a count on. Refuses 5: the length is out of bounds; 17: it ends past the day.
 fn range_at(rate: u64, length: i64, count: i64) -> Ranged
-    ensures answer { result ≡ rangeAt rate length count }
+    ensures { result ≡ range_at rate length count }
 {
     if !is_length(length) {
         return Ranged::Refused(answers::OUT_OF_BOUNDS);
@@ -41,7 +41,7 @@ fn range_at(rate: u64, length: i64, count: i64) -> Ranged
 // The frames of a query at a rate. Refuses 6: no such rate; what the label is refused, with its place; 5: the length is out of bounds; 17:
 // it ends past the day. (That a footage is read where only a label may stand cannot be.)
 pub fn query_range(rate: u64, length: i64, text: &[u8]) -> Ranged
-    ensures answer { result ≡ range_of rate length text.now }
+    ensures { result ≡ range_of rate length text.now }
 {
     match reading::read_label_only(text, rate, Kind::Position) {
         Read::Label(tc) => range_at(rate, length, tc.count),

@@ -1,7 +1,7 @@
 // A directory's rules, tested: as many firsts as ends, at most 256, none empty, in rising order without overlap, none past the day.
 ghost use Rattle.std.specs.Prelude.{◌≡◌};
 ghost use Rattle.answers.specs.Order.{judged};
-ghost use Rattle.router.specs.Directory.{inOrder, isDirectory, directoryWhen};
+ghost use Rattle.router.specs.Directory.{in_order, is_directory, directory_when};
 
 use answers::Verdict;
 
@@ -10,7 +10,7 @@ pub(crate) const MOST_SHARDS: usize = 256;
 
 // As many firsts as ends, none empty, each at or after the end before it, none past the day.
 fn in_order(day: u64, firsts: &[u64], ends: &[u64]) -> bool
-    ensures answer { result ≡ inOrder day 0 firsts.now ends.now }
+    ensures { result ≡ in_order day 0 firsts.now ends.now }
 {
     if firsts.len() != ends.len() {
         return false;
@@ -37,7 +37,7 @@ fn in_order(day: u64, firsts: &[u64], ends: &[u64]) -> bool
 
 // Does a directory keep its rules?
 fn is_directory(day: u64, firsts: &[u64], ends: &[u64]) -> bool
-    ensures answer { result ≡ isDirectory day firsts.now ends.now }
+    ensures { result ≡ is_directory day firsts.now ends.now }
 {
     if firsts.len() > MOST_SHARDS {
         return false;
@@ -47,7 +47,7 @@ fn is_directory(day: u64, firsts: &[u64], ends: &[u64]) -> bool
 
 // A directory of shards at a rate, tested. Refuses 6: no such rate; 16: it breaks a rule.
 pub fn check_directory(rate: u64, firsts: &[u64], ends: &[u64]) -> Verdict
-    ensures answer { result ≡ judged (directoryWhen rate firsts.now ends.now) }
+    ensures { result ≡ judged (directory_when rate firsts.now ends.now) }
 {
     if !rates::is_rate(rate) {
         return Verdict::Refused(answers::NO_SUCH);

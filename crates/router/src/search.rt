@@ -1,12 +1,12 @@
 // Which shards of rising lists of firsts and ends meet a range of frames, by halving.
 ghost use Rattle.std.specs.Prelude.{◌≡◌};
-ghost use Rattle.router.specs.Halving.{halved, halvedSpan};
+ghost use Rattle.router.specs.Halving.{halved, halved_span};
 
 use crate::Routed;
 
 // How many numbers of a rising list are below v: the part where they end is halved until nothing is left of it.
 fn halve(xs: &[u64], v: u64) -> usize
-    ensures answer { result ≡ halved v xs.now }
+    ensures { result ≡ halved v xs.now }
 {
     let mut lo: usize = 0;
     let mut hi: usize = xs.len();
@@ -24,7 +24,7 @@ fn halve(xs: &[u64], v: u64) -> usize
 
 // The shards that meet the frames from `start` up to `end`: behind those that end by the start, before those that begin at the end or later.
 pub(crate) fn met(firsts: &[u64], ends: &[u64], start: u64, end: u64) -> Routed
-    ensures answer { result ≡ halvedSpan start end firsts.now ends.now }
+    ensures { result ≡ halved_span start end firsts.now ends.now }
 {
     if end <= start {
         return Routed::Shards { first: 0, after: 0 };

@@ -8,33 +8,33 @@ use native.Mathlib.Omega.{arith}
 use lib.IntN.{ℤ}
 use lib.ListN.{length, drop}
 use borrow.Author.Tests.{eqb-true}
-use Rattle.digits.specs.Digits.{is_byte, firstIs}
+use Rattle.digits.specs.Digits.{is_byte, first_is}
 use Rattle.asking.specs.declared.values.Word.{Word}
 use Rattle.asking.specs.declared.values.Word.TheVariants.{Number, Nothing}
-use Rattle.asking.specs.Numbers.{signedAt}
+use Rattle.asking.specs.Numbers.{signed_at}
 use Rattle.asking.proofs.Numbers.{stands-within}
 use Rattle.asking.proofs.Numerals.{signed-taken, signed-left, signed-told}
 use Rattle.routing.specs.declared.queries.Query.TheVariants.{Asked, NotUnderstood}
-use Rattle.routing.specs.Queries.{askedAt, askedBy, queryOf}
+use Rattle.routing.specs.Queries.{asked_at, asked_by, query_of}
 use Rattle.routing.specs.Grammar.{Asks, asks}
 use Rattle.routing.specs.Statements.{Understood, QueryUnderstood}
 
 module _ (length : ℤ) (next : ℕ) (l : List ℕ) where
-  pub asked-some : firstIs (is_byte 32) l ≡ true → Asked length (next + 1) ≡ askedAt length next l
-  unfolding askedAt
+  pub asked-some : first_is (is_byte 32) l ≡ true → Asked length (next + 1) ≡ asked_at length next l
+  unfolding asked_at
   asked-some e = rw e
 
-  pub asked-none : firstIs (is_byte 32) l ≡ false → NotUnderstood ≡ askedAt length next l
-  unfolding askedAt
+  pub asked-none : first_is (is_byte 32) l ≡ false → NotUnderstood ≡ asked_at length next l
+  unfolding asked_at
   asked-none e = rw e
 
-pub query-by : (line : List ℕ) (w : Word) → w ≡ signedAt 0 line → askedBy line w ≡ queryOf line
-unfolding queryOf
+pub query-by : (line : List ℕ) (w : Word) → w ≡ signed_at 0 line → asked_by line w ≡ query_of line
+unfolding query_of
 query-by line w e = rw e
 
 -- ---- as the grammar has it
 understood : {line : List ℕ} {z : ℤ} {t : List ℕ} → Asks line z t → Understood line z t
-unfolding queryOf askedAt
+unfolding query_of asked_at
 understood {line} {z} {t} (asks {d} n) =
     let left = signed-left line 0 d (32 ∷ t) refl in
     record {
@@ -45,40 +45,40 @@ understood {line} {z} {t} (asks {d} n) =
 
 record Told (line : List ℕ) (z : ℤ) (at : ℕ) : Type 0 where
   next : ℕ
-  number : signedAt 0 line ≡ Number z next
-  space : firstIs (is_byte 32) (drop next line) ≡ true
-  at-is : at ≡ next + 1
+  number : signed_at 0 line ≡ Number z next
+  space : first_is (is_byte 32) (drop next line) ≡ true
+  at_is : at ≡ next + 1
 
-told : (line : List ℕ) (z : ℤ) (at : ℕ) → queryOf line ≡ Asked z at → Told line z at
-unfolding queryOf askedAt
-told line z at e = by (signedAt 0 line) refl e
+told : (line : List ℕ) (z : ℤ) (at : ℕ) → query_of line ≡ Asked z at → Told line z at
+unfolding query_of asked_at
+told line z at e = by (signed_at 0 line) refl e
   where
-    by : (w : Word) → signedAt 0 line ≡ w → askedBy line w ≡ Asked z at → Told line z at
-    by (Number y next) p f = go (firstIs (is_byte 32) (drop next line)) refl f
+    by : (w : Word) → signed_at 0 line ≡ w → asked_by line w ≡ Asked z at → Told line z at
+    by (Number y next) p f = go (first_is (is_byte 32) (drop next line)) refl f
       where
-        go : (t : Bool) → firstIs (is_byte 32) (drop next line) ≡ t → cond t (Asked y (next + 1)) NotUnderstood ≡ Asked z at → Told line z at
-        go true q g = let v : y ≡ z = cc in record { next = next; number = p ∙ ap (λ x. Number x next) v; space = q; at-is = cc }
+        go : (t : Bool) → first_is (is_byte 32) (drop next line) ≡ t → cond t (Asked y (next + 1)) NotUnderstood ≡ Asked z at → Told line z at
+        go true q g = let v : y ≡ z = cc in record { next = next; number = p ∙ ap (λ x. Number x next) v; space = q; at_is = cc }
         go false q g = let x : ◌≡◌ {A = ℕ} 0 1 = cc in absurd (omega arith)
     by Nothing p f = let x : ◌≡◌ {A = ℕ} 0 1 = cc in absurd (omega arith)
 
-stands-front : (b : ℕ) (l : List ℕ) → firstIs (is_byte b) l ≡ true → l ≡ b ∷ drop 1 l
+stands-front : (b : ℕ) (l : List ℕ) → first_is (is_byte b) l ≡ true → l ≡ b ∷ drop 1 l
 stands-front b [] e = let z : ◌≡◌ {A = ℕ} 0 1 = cc in absurd (omega arith)
 stands-front b (c ∷ l) e = ap (λ z. z ∷ l) (eqb-true c b e)
 
-only : (line : List ℕ) (z : ℤ) (at : ℕ) → queryOf line ≡ Asked z at → Asks line z (drop at line)
+only : (line : List ℕ) (z : ℤ) (at : ℕ) → query_of line ≡ Asked z at → Asks line z (drop at line)
 only line z at e =
     let t = told line z at e in
     let s = signed-told 0 line z t.next t.number in
     let left : drop t.next line ≡ s.rest = ap (λ k. drop k line) s.past ∙ signed-left line 0 s.digits s.rest s.is in
-    let front : s.rest ≡ 32 ∷ drop 1 s.rest = stands-front 32 s.rest (ap (firstIs (is_byte 32)) (sym left) ∙ t.space) in
+    let front : s.rest ≡ 32 ∷ drop 1 s.rest = stands-front 32 s.rest (ap (first_is (is_byte 32)) (sym left) ∙ t.space) in
     let label : drop at line ≡ drop 1 s.rest =
-    ap (λ k. drop k line) t.at-is ∙ signed-left line t.next (32 ∷ []) (drop 1 s.rest) (left ∙ front) in
+    ap (λ k. drop k line) t.at_is ∙ signed-left line t.next (32 ∷ []) (drop 1 s.rest) (left ∙ front) in
     subst (λ x. Asks line z x) (sym label)
     (subst (λ x. Asks x z (drop 1 s.rest)) (sym (s.is ∙ ap (λ x. s.digits ++ x) front)) (asks s.numeral))
 
-pub query-understood : QueryUnderstood
-query-understood line z t = (understood, λ u. subst (Asks line z) u.rest (only line z u.at u.asked))
+pub query_understood : QueryUnderstood
+query_understood line z t = (understood, λ u. subst (Asks line z) u.rest (only line z u.at u.asked))
 
 -- the label begins within the line
-pub query-within : (line : List ℕ) (z : ℤ) (at : ℕ) → queryOf line ≡ Asked z at → at ≤ length line
-query-within line z at e = let t = told line z at e in omega (arith, t.at-is, stands-within line t.next 32 t.space)
+pub query-within : (line : List ℕ) (z : ℤ) (at : ℕ) → query_of line ≡ Asked z at → at ≤ length line
+query-within line z at e = let t = told line z at e in omega (arith, t.at_is, stands-within line t.next 32 t.space)

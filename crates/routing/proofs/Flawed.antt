@@ -7,8 +7,8 @@ use mathlib.Core.Bool.{Bool, true, false, cond, not}
 use native.Mathlib.Omega.{arith}
 use lib.Dec.{leb, ltb}
 use borrow.Author.Tests.{leb-true, ltb-true, leb-false, ltb-false}
-use Rattle.rates.specs.Rates.{isRate}
-use Rattle.rates.specs.Day.{dayFrames}
+use Rattle.rates.specs.Rates.{is_rate}
+use Rattle.rates.specs.Day.{day_frames}
 use Rattle.routing.specs.declared.entries.Entry.{Entry}
 use Rattle.routing.specs.declared.entries.Entry.TheVariants as entry
 use Rattle.routing.specs.declared.loading.Loading.{Loading}
@@ -18,9 +18,9 @@ use Rattle.routing.specs.declared.loading.Loaded.{Loaded}
 use Rattle.routing.specs.declared.loading.Loaded.TheVariants.{Skipped, Head, Shard, Bad}
 use Rattle.routing.specs.Entries.{entry_of}
 use Rattle.routing.specs.Grammar.{SaysNothing, SaysTwo}
-use Rattle.routing.specs.Loading.{with_head, withShard, head_of, shardOf, numbersOf, loadedBy, load_of}
-use Rattle.routing.specs.Statements.{Wrong, too_long, not-two, no-rate, no-reel, many, empty, early, past, NothingLoaded, LineBad}
-use Rattle.routing.proofs.Spelt.{line-skipped, line_taken}
+use Rattle.routing.specs.Loading.{with_head, with_shard, head_of, shard_of, numbers_of, loaded_by, load_of}
+use Rattle.routing.specs.Statements.{Wrong, too_long, not_two, no_rate, no_reel, many, empty, early, past, NothingLoaded, LineBad}
+use Rattle.routing.proofs.Spelt.{line_skipped, line_taken}
 use Rattle.routing.proofs.Taking.{line-over, two-load, head-no-rate, head-no-reel, shard-many, shard-empty, shard-early, shard-past}
 
 module _ (s : Loading) (line : List ℕ) where
@@ -33,36 +33,36 @@ module _ (s : Loading) (line : List ℕ) where
 
   head-says : (rate reel : ℕ) → SaysTwo line rate reel → s.headed ≡ false → Says (head_of rate reel)
   unfolding head_of
-  head-says rate reel k h = by (isRate rate) (ltb 4294967295 reel) refl refl
+  head-says rate reel k h = by (is_rate rate) (ltb 4294967295 reel) refl refl
     where
-      by : (x y : Bool) → isRate rate ≡ x → ltb 4294967295 reel ≡ y → Says (cond (not x) (Bad NoSuchRate) (cond y (Bad NoSuchReel) (Head (with_head rate reel))))
-      by false y p q = no-rate rate reel k h p
-      by true true p q = no-reel rate reel k h p (ltb-true 4294967295 reel q)
+      by : (x y : Bool) → is_rate rate ≡ x → ltb 4294967295 reel ≡ y → Says (cond (not x) (Bad NoSuchRate) (cond y (Bad NoSuchReel) (Head (with_head rate reel))))
+      by false y p q = no_rate rate reel k h p
+      by true true p q = no_reel rate reel k h p (ltb-true 4294967295 reel q)
       by true false p q = tt
 
-  shard-says : (first end : ℕ) → SaysTwo line first end → s.headed ≡ true → Says (shardOf s first end)
-  unfolding shardOf
-  shard-says first end k h = by (leb 256 s.shards) (leb end first) (ltb first s.last) (ltb (dayFrames s.rate) end) refl refl refl refl
+  shard-says : (first end : ℕ) → SaysTwo line first end → s.headed ≡ true → Says (shard_of s first end)
+  unfolding shard_of
+  shard-says first end k h = by (leb 256 s.shards) (leb end first) (ltb first s.last) (ltb (day_frames s.rate) end) refl refl refl refl
     where
-      by : (w x y z : Bool) → leb 256 s.shards ≡ w → leb end first ≡ x → ltb first s.last ≡ y → ltb (dayFrames s.rate) end ≡ z
-          → Says (cond w (Bad ManyShards) (cond x (Bad EmptyShard) (cond y (Bad EarlyShard) (cond z (Bad PastDay) (Shard first end (withShard s end))))))
+      by : (w x y z : Bool) → leb 256 s.shards ≡ w → leb end first ≡ x → ltb first s.last ≡ y → ltb (day_frames s.rate) end ≡ z
+          → Says (cond w (Bad ManyShards) (cond x (Bad EmptyShard) (cond y (Bad EarlyShard) (cond z (Bad PastDay) (Shard first end (with_shard s end))))))
       by true x y z a b c d = many first end k h (leb-true 256 s.shards a)
       by false true y z a b c d = empty first end k h (leb-false 256 s.shards a) (leb-true end first b)
       by false false true z a b c d = early first end k h (leb-false 256 s.shards a) (leb-false end first b) (ltb-true first s.last c)
       by false false false true a b c d =
-          past first end k h (leb-false 256 s.shards a) (leb-false end first b) (ltb-false first s.last c) (ltb-true (dayFrames s.rate) end d)
+          past first end k h (leb-false 256 s.shards a) (leb-false end first b) (ltb-false first s.last c) (ltb-true (day_frames s.rate) end d)
       by false false false false a b c d = tt
 
-  numbers-say : (m n : ℕ) → SaysTwo line m n → (t : Bool) → s.headed ≡ t → Says (cond t (shardOf s m n) (head_of m n))
+  numbers-say : (m n : ℕ) → SaysTwo line m n → (t : Bool) → s.headed ≡ t → Says (cond t (shard_of s m n) (head_of m n))
   numbers-say m n k true e = shard-says m n k e
   numbers-say m n k false e = head-says m n k e
 
-  by-entry : (e : Entry) → entry_of line ≡ e → Says (loadedBy s e)
+  by-entry : (e : Entry) → entry_of line ≡ e → Says (loaded_by s e)
   by-entry entry.Skipped p = tt
   by-entry (entry.Numbers m n) p = numbers-say m n ((line_taken line m n).1 p) s.headed refl
   by-entry entry.Bad p =
-      not-two
-      (λ k. let e = sym ((line-skipped line).0 k) ∙ p in let z : ◌≡◌ {A = ℕ} 0 1 = cc in omega (arith, z))
+      not_two
+      (λ k. let e = sym ((line_skipped line).0 k) ∙ p in let z : ◌≡◌ {A = ℕ} 0 1 = cc in omega (arith, z))
       (λ m n k. let e = sym ((line_taken line m n).0 k) ∙ p in let z : ◌≡◌ {A = ℕ} 0 1 = cc in omega (arith, z))
 
   line-says : Says (load_of s line false)
@@ -70,38 +70,38 @@ module _ (s : Loading) (line : List ℕ) where
   line-says = by-entry (entry_of line) refl
 
   -- what is no line of the grammar is bad
-  other-bad : (SaysNothing line → ⊥) → ((m n : ℕ) → SaysTwo line m n → ⊥) → (e : Entry) → entry_of line ≡ e → loadedBy s e ≡ Bad NotTwoNumbers
-  other-bad a b entry.Skipped p = absurd (a ((line-skipped line).1 p))
+  other-bad : (SaysNothing line → ⊥) → ((m n : ℕ) → SaysTwo line m n → ⊥) → (e : Entry) → entry_of line ≡ e → loaded_by s e ≡ Bad NotTwoNumbers
+  other-bad a b entry.Skipped p = absurd (a ((line_skipped line).1 p))
   other-bad a b (entry.Numbers m n) p = absurd (b m n ((line_taken line m n).1 p))
   other-bad a b entry.Bad p = refl
 
   -- two numbers where rate and reel are wanted, and where a shard is
   as-head : (m n : ℕ) → SaysTwo line m n → s.headed ≡ false → load_of s line false ≡ head_of m n
-  as-head m n k h = two-load s line m n k ∙ ap (λ (b : Bool). cond b (shardOf s m n) (head_of m n)) h
+  as-head m n k h = two-load s line m n k ∙ ap (λ (b : Bool). cond b (shard_of s m n) (head_of m n)) h
 
-  as-shard : (m n : ℕ) → SaysTwo line m n → s.headed ≡ true → load_of s line false ≡ shardOf s m n
-  as-shard m n k h = two-load s line m n k ∙ ap (λ (b : Bool). cond b (shardOf s m n) (head_of m n)) h
+  as-shard : (m n : ℕ) → SaysTwo line m n → s.headed ≡ true → load_of s line false ≡ shard_of s m n
+  as-shard m n k h = two-load s line m n k ∙ ap (λ (b : Bool). cond b (shard_of s m n) (head_of m n)) h
 
   is-bad : (over : Bool) (flaw : Flaw) → Wrong s line over flaw → load_of s line over ≡ Bad flaw
   unfolding load_of
   is-bad over flaw too_long = sym (line-over s line true refl)
-  is-bad over flaw (not-two a b) = other-bad a b (entry_of line) refl
-  is-bad over flaw (no-rate rate reel k h e) = as-head rate reel k h ∙ sym (head-no-rate rate reel e)
-  is-bad over flaw (no-reel rate reel k h e m) = as-head rate reel k h ∙ sym (head-no-reel rate reel e m)
+  is-bad over flaw (not_two a b) = other-bad a b (entry_of line) refl
+  is-bad over flaw (no_rate rate reel k h e) = as-head rate reel k h ∙ sym (head-no-rate rate reel e)
+  is-bad over flaw (no_reel rate reel k h e m) = as-head rate reel k h ∙ sym (head-no-reel rate reel e m)
   is-bad over flaw (many first end k h m) = as-shard first end k h ∙ sym (shard-many s first end m)
   is-bad over flaw (empty first end k h few m) = as-shard first end k h ∙ sym (shard-empty s first end few m)
   is-bad over flaw (early first end k h few some m) = as-shard first end k h ∙ sym (shard-early s first end few some m)
   is-bad over flaw (past first end k h few some after m) = as-shard first end k h ∙ sym (shard-past s first end few some after m)
 
-  flawIn : Flaw → Loaded → Flaw
-  flawIn other (Bad flaw) = flaw
-  flawIn other Skipped = other
-  flawIn other (Head t) = other
-  flawIn other (Shard first end t) = other
+  flaw_in : Flaw → Loaded → Flaw
+  flaw_in other (Bad flaw) = flaw
+  flaw_in other Skipped = other
+  flaw_in other (Head t) = other
+  flaw_in other (Shard first end t) = other
 
   is-wrong : (over : Bool) (flaw : Flaw) → load_of s line over ≡ Bad flaw → Wrong s line over flaw
-  unfolding flawIn
-  is-wrong true flaw e = subst (Wrong s line true) (ap (flawIn flaw) (line-over s line true refl ∙ e)) too_long
+  unfolding flaw_in
+  is-wrong true flaw e = subst (Wrong s line true) (ap (flaw_in flaw) (line-over s line true refl ∙ e)) too_long
   is-wrong false flaw e = subst Says e line-says
 
 -- ---- a line that is passed over
@@ -114,31 +114,31 @@ module _ (s : Loading) (line : List ℕ) where
 
   head-kind : (rate reel : ℕ) → kind_of (head_of rate reel) ≡ 1
   unfolding head_of
-  head-kind rate reel = by (isRate rate) (ltb 4294967295 reel)
+  head-kind rate reel = by (is_rate rate) (ltb 4294967295 reel)
     where
       by : (x y : Bool) → kind_of (cond (not x) (Bad NoSuchRate) (cond y (Bad NoSuchReel) (Head (with_head rate reel)))) ≡ 1
       by false y = refl
       by true true = refl
       by true false = refl
 
-  shard-kind : (first end : ℕ) → kind_of (shardOf s first end) ≡ 1
-  unfolding shardOf
-  shard-kind first end = by (leb 256 s.shards) (leb end first) (ltb first s.last) (ltb (dayFrames s.rate) end)
+  shard-kind : (first end : ℕ) → kind_of (shard_of s first end) ≡ 1
+  unfolding shard_of
+  shard-kind first end = by (leb 256 s.shards) (leb end first) (ltb first s.last) (ltb (day_frames s.rate) end)
     where
       by : (w x y z : Bool)
-          → kind_of (cond w (Bad ManyShards) (cond x (Bad EmptyShard) (cond y (Bad EarlyShard) (cond z (Bad PastDay) (Shard first end (withShard s end)))))) ≡ 1
+          → kind_of (cond w (Bad ManyShards) (cond x (Bad EmptyShard) (cond y (Bad EarlyShard) (cond z (Bad PastDay) (Shard first end (with_shard s end)))))) ≡ 1
       by true x y z = refl
       by false true y z = refl
       by false false true z = refl
       by false false false true = refl
       by false false false false = refl
 
-  numbers-kind : (m n : ℕ) (t : Bool) → kind_of (cond t (shardOf s m n) (head_of m n)) ≡ 1
+  numbers-kind : (m n : ℕ) (t : Bool) → kind_of (cond t (shard_of s m n) (head_of m n)) ≡ 1
   numbers-kind m n true = shard-kind m n
   numbers-kind m n false = head-kind m n
 
-  by_kind : (e : Entry) → entry_of line ≡ e → kind_of (loadedBy s e) ≡ 0 → SaysNothing line
-  by_kind entry.Skipped p k = (line-skipped line).1 p
+  by_kind : (e : Entry) → entry_of line ≡ e → kind_of (loaded_by s e) ≡ 0 → SaysNothing line
+  by_kind entry.Skipped p k = (line_skipped line).1 p
   by_kind (entry.Numbers m n) p k = let z = sym (numbers-kind m n s.headed) ∙ k in absurd (omega (arith, z))
   by_kind entry.Bad p k = absurd (omega (arith, k))
 
@@ -149,10 +149,10 @@ module _ (s : Loading) (line : List ℕ) where
 
   nothing_is : (over : Bool) → over ≡ false → SaysNothing line → load_of s line over ≡ Skipped
   unfolding load_of
-  nothing_is over f n = rw f (ap (loadedBy s) ((line-skipped line).0 n))
+  nothing_is over f n = rw f (ap (loaded_by s) ((line_skipped line).0 n))
 
-pub nothing-loaded : NothingLoaded
-nothing-loaded s line over = (λ h. nothing_is s line over h.0 h.1, is-nothing s line over)
+pub nothing_loaded : NothingLoaded
+nothing_loaded s line over = (λ h. nothing_is s line over h.0 h.1, is-nothing s line over)
 
-pub line-bad : LineBad
-line-bad s line over flaw = (is-bad s line over flaw, is-wrong s line over flaw)
+pub line_bad : LineBad
+line_bad s line over flaw = (is-bad s line over flaw, is-wrong s line over flaw)

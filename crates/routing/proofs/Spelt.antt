@@ -8,36 +8,36 @@ use native.Mathlib.Omega.{arith}
 use lib.Dec.{eqb, ltb}
 use lib.ListN.{length, drop}
 use borrow.Author.Tests.{eqb-true, eqb-false, ne_eqb, lt-ltb, ltb-true}
-use Rattle.digits.specs.Digits.{isDigit, IsField, value_of, firstIs, digitFirst, span, leading}
+use Rattle.digits.specs.Digits.{is_digit, IsField, value_of, first_is, digit_first, span, leading}
 use Rattle.digits.proofs.Values.{digit-bounds, all_head}
 use Rattle.digits.proofs.Runs.{span_run, leading-run, after_run, span-no, span-stops, leading-rest, leading-field, field-first}
 use Rattle.routing.specs.declared.entries.Entry.{Entry}
 use Rattle.routing.specs.declared.entries.Entry.TheVariants.{Skipped, Numbers, Bad}
-use Rattle.routing.specs.Entries.{isBlank, pastBlanks, is_over, is_number, endedBy, secondIn, entryIn, entry_of}
-use Rattle.routing.specs.Grammar.{Blank, space, tab, carriage-return, Blanks, none, more, Over, nothing, comment, Numeral, numeral, SaysNothing, says_nothing, SaysTwo, says_two}
+use Rattle.routing.specs.Entries.{is_blank, past_blanks, is_over, is_number, ended_by, second_in, entry_in, entry_of}
+use Rattle.routing.specs.Grammar.{Blank, space, tab, carriage_return, Blanks, none, more, Over, nothing, comment, Numeral, numeral, SaysNothing, says_nothing, SaysTwo, says_two}
 use Rattle.routing.specs.Statements.{LineSkipped, LineTaken}
 
 never : true ≡ false → ⊥
 never e = let z : ◌≡◌ {A = ℕ} 0 1 = cc in omega arith
 
 -- ---- blanks
-blank-is : {b : ℕ} → Blank b → isBlank b ≡ true
+blank-is : {b : ℕ} → Blank b → is_blank b ≡ true
 blank-is space = refl
 blank-is tab = refl
-blank-is carriage-return = refl
+blank-is carriage_return = refl
 
-blank-told : (b : ℕ) → isBlank b ≡ true → Blank b
+blank-told : (b : ℕ) → is_blank b ≡ true → Blank b
 blank-told b e = by (eqb b 32) (eqb b 9) (eqb b 13) refl refl refl e
   where
     by : (x y z : Bool) → eqb b 32 ≡ x → eqb b 9 ≡ y → eqb b 13 ≡ z → (x || (y || z)) ≡ true → Blank b
     by true y z p q r f = subst Blank (sym (eqb-true b 32 p)) space
     by false true z p q r f = subst Blank (sym (eqb-true b 9 q)) tab
-    by false false true p q r f = subst Blank (sym (eqb-true b 13 r)) carriage-return
+    by false false true p q r f = subst Blank (sym (eqb-true b 13 r)) carriage_return
     by false false false p q r f = absurd (never (sym f))
 
 -- those in front are passed
-past : {a : List ℕ} (l : List ℕ) → Blanks a → pastBlanks (a ++ l) ≡ pastBlanks l
-unfolding pastBlanks
+past : {a : List ℕ} (l : List ℕ) → Blanks a → past_blanks (a ++ l) ≡ past_blanks l
+unfolding past_blanks
 past l none = refl
 past l (more b k) = rw (blank-is b) (past l k)
 
@@ -45,20 +45,20 @@ past l (more b k) = rw (blank-is b) (past l k)
 record Passed (l : List ℕ) : Type 0 where
   front : List ℕ
   blanks : Blanks front
-  is : l ≡ front ++ pastBlanks l
+  is : l ≡ front ++ past_blanks l
 
 passed : (l : List ℕ) → Passed l
-unfolding pastBlanks
+unfolding past_blanks
 passed [] = record { front = []; blanks = none; is = refl }
-passed (b ∷ l) = by (isBlank b) refl (passed l)
+passed (b ∷ l) = by (is_blank b) refl (passed l)
   where
-    by : (t : Bool) → isBlank b ≡ t → Passed l → Passed (b ∷ l)
+    by : (t : Bool) → is_blank b ≡ t → Passed l → Passed (b ∷ l)
     by true e p = record { front = b ∷ p.front; blanks = more (blank-told b e) p.blanks; is = rw e (ap (λ z. b ∷ z) p.is) }
     by false e p = record { front = []; blanks = none; is = rw e }
 
 -- ---- where a line is over
-over-is : {t : List ℕ} → Over t → (is_over t ≡ true) × (pastBlanks t ≡ t)
-unfolding pastBlanks
+over-is : {t : List ℕ} → Over t → (is_over t ≡ true) × (past_blanks t ≡ t)
+unfolding past_blanks
 over-is nothing = (refl, refl)
 over-is comment = (refl, refl)
 
@@ -67,24 +67,24 @@ over-told [] e = nothing
 over-told (b ∷ t) e = subst (λ z. Over (z ∷ t)) (sym (eqb-true b 35 e)) comment
 
 -- ---- a number
-digit-plain : (b : ℕ) → isDigit b ≡ true → (isBlank b ≡ false) × (eqb b 35 ≡ false)
+digit-plain : (b : ℕ) → is_digit b ≡ true → (is_blank b ≡ false) × (eqb b 35 ≡ false)
 digit-plain b e =
     let h = (digit-bounds b e).0 in
     (rw (ne_eqb b 32 (λ z. omega (arith, z)), ne_eqb b 9 (λ z. omega (arith, z)), ne_eqb b 13 (λ z. omega (arith, z))), ne_eqb b 35 (λ z. omega (arith, z)))
 
 -- no blank is passed before a digit, and the line is not over
-digit-stays : (l : List ℕ) → digitFirst l ≡ true → (pastBlanks l ≡ l) × (is_over l ≡ false)
-unfolding pastBlanks
+digit-stays : (l : List ℕ) → digit_first l ≡ true → (past_blanks l ≡ l) × (is_over l ≡ false)
+unfolding past_blanks
 digit-stays [] e = absurd (never (sym e))
 digit-stays (b ∷ l) e = let p = digit-plain b e in (rw p.0, p.1)
 
 record Taken (d l : List ℕ) (n : ℕ) : Type 0 where
-  first : digitFirst (d ++ l) ≡ true
+  first : digit_first (d ++ l) ≡ true
   number : is_number (d ++ l) ≡ true
   value : value_of (leading (d ++ l)) ≡ n
   rest : drop (span (d ++ l)) (d ++ l) ≡ l
 
-taken : {d : List ℕ} {n : ℕ} (l : List ℕ) → Numeral d n → digitFirst l ≡ false → Taken d l n
+taken : {d : List ℕ} {n : ℕ} (l : List ℕ) → Numeral d n → digit_first l ≡ false → Taken d l n
 taken {d} l (numeral f h) e =
     let run = leading-run d l f.digits e in
     record {
@@ -104,10 +104,10 @@ number-told l e =
     nonzero : span l ≡ 0 → not (eqb (span l) 0) ≡ true → ⊥
     nonzero z t = let y : not (eqb 0 0) ≡ true = ap (λ k. not (eqb k 0)) (sym z) ∙ t in never (sym y)
 
-number-first : (l : List ℕ) → is_number l ≡ true → digitFirst l ≡ true
-number-first l e = by (digitFirst l) refl
+number-first : (l : List ℕ) → is_number l ≡ true → digit_first l ≡ true
+number-first l e = by (digit_first l) refl
   where
-    by : (t : Bool) → digitFirst l ≡ t → digitFirst l ≡ true
+    by : (t : Bool) → digit_first l ≡ t → digit_first l ≡ true
     by true p = p
     by false p =
         let q = (and-eq-true_iff (not (eqb (span l) 0)) (ltb (value_of (leading l)) 9223372036854775808)).0 e in
@@ -116,50 +116,50 @@ number-first l e = by (digitFirst l) refl
 
 -- ---- a line that says nothing
 skipped : {line : List ℕ} → SaysNothing line → entry_of line ≡ Skipped
-unfolding entry_of entryIn
+unfolding entry_of entry_in
 skipped (says_nothing {a} {t} k o) = let p = over-is o in rw (past t k, p.1, p.0)
 
-second-not : (first : ℕ) (l : List ℕ) → secondIn first l ≡ Skipped → ⊥
-unfolding secondIn endedBy
-second-not first l = by (is_number l) (is_over (pastBlanks (drop (span l) l)))
+second-not : (first : ℕ) (l : List ℕ) → second_in first l ≡ Skipped → ⊥
+unfolding second_in ended_by
+second-not first l = by (is_number l) (is_over (past_blanks (drop (span l) l)))
   where
     by : (x y : Bool) → cond x (cond y (Numbers first (value_of (leading l))) Bad) Bad ≡ Skipped → ⊥
     by true true e = let z : ◌≡◌ {A = ℕ} 0 1 = cc in omega arith
     by true false e = let z : ◌≡◌ {A = ℕ} 0 1 = cc in omega arith
     by false y e = let z : ◌≡◌ {A = ℕ} 0 1 = cc in omega arith
 
-entry-skipped : (l : List ℕ) → entryIn l ≡ Skipped → is_over l ≡ true
-unfolding entryIn
+entry-skipped : (l : List ℕ) → entry_in l ≡ Skipped → is_over l ≡ true
+unfolding entry_in
 entry-skipped l e = by (is_over l) refl (is_number l) e
   where
     by : (x : Bool) → is_over l ≡ x → (y : Bool)
-        → cond x Skipped (cond y (secondIn (value_of (leading l)) (pastBlanks (drop (span l) l))) Bad) ≡ Skipped → is_over l ≡ true
+        → cond x Skipped (cond y (second_in (value_of (leading l)) (past_blanks (drop (span l) l))) Bad) ≡ Skipped → is_over l ≡ true
     by true p y f = p
-    by false p true f = absurd (second-not (value_of (leading l)) (pastBlanks (drop (span l) l)) f)
+    by false p true f = absurd (second-not (value_of (leading l)) (past_blanks (drop (span l) l)) f)
     by false p false f = let z : ◌≡◌ {A = ℕ} 0 1 = cc in absurd (omega arith)
 
 skipped-only : (line : List ℕ) → entry_of line ≡ Skipped → SaysNothing line
 unfolding entry_of
 skipped-only line e =
     let p = passed line in
-    subst SaysNothing (sym p.is) (says_nothing p.blanks (over-told (pastBlanks line) (entry-skipped (pastBlanks line) e)))
+    subst SaysNothing (sym p.is) (says_nothing p.blanks (over-told (past_blanks line) (entry-skipped (past_blanks line) e)))
 
-pub line-skipped : LineSkipped
-line-skipped line = (skipped, skipped-only line)
+pub line_skipped : LineSkipped
+line_skipped line = (skipped, skipped-only line)
 
 -- ---- a line of two numbers
-blank-no-digit : {b : ℕ} → Blank b → isDigit b ≡ false
+blank-no-digit : {b : ℕ} → Blank b → is_digit b ≡ false
 blank-no-digit space = refl
 blank-no-digit tab = refl
-blank-no-digit carriage-return = refl
+blank-no-digit carriage_return = refl
 
-rest-no-digit : {c t : List ℕ} → Blanks c → Over t → digitFirst (c ++ t) ≡ false
+rest-no-digit : {c t : List ℕ} → Blanks c → Over t → digit_first (c ++ t) ≡ false
 rest-no-digit none nothing = refl
 rest-no-digit none comment = refl
 rest-no-digit (more b k) o = blank-no-digit b
 
 two : {line : List ℕ} {m n : ℕ} → SaysTwo line m n → entry_of line ≡ Numbers m n
-unfolding entry_of entryIn secondIn endedBy
+unfolding entry_of entry_in second_in ended_by
 two (says_two {a} {d} {b} {e} {c} {t} {blank} {m} {n} ka nd kb kbs ne kc o) =
     let behind = blank ∷ b ++ (e ++ (c ++ t)) in
     let one = taken behind nd (blank-no-digit kb) in
@@ -167,22 +167,22 @@ two (says_two {a} {d} {b} {e} {c} {t} {blank} {m} {n} ka nd kb kbs ne kc o) =
     let stays = digit-stays (d ++ behind) one.first in
     let stays2 = digit-stays (e ++ (c ++ t)) next.first in
     let over = over-is o in
-    let between : pastBlanks behind ≡ e ++ (c ++ t) = past (e ++ (c ++ t)) (more kb kbs) ∙ stays2.0 in
-    let last : pastBlanks (c ++ t) ≡ t = past t kc ∙ over.1 in
+    let between : past_blanks behind ≡ e ++ (c ++ t) = past (e ++ (c ++ t)) (more kb kbs) ∙ stays2.0 in
+    let last : past_blanks (c ++ t) ≡ t = past t kc ∙ over.1 in
     rw (past (d ++ behind) ka, stays.0, stays.1, one.number, one.value, one.rest, between, next.number, next.value, next.rest, last, over.0)
 
 -- what it tells that two numbers were read
 record Second (first : ℕ) (l : List ℕ) (m n : ℕ) : Type 0 where
   number : is_number l ≡ true
-  over : is_over (pastBlanks (drop (span l) l)) ≡ true
+  over : is_over (past_blanks (drop (span l) l)) ≡ true
   first-is : m ≡ first
   second_is : n ≡ value_of (leading l)
 
-second-told : (first : ℕ) (l : List ℕ) (m n : ℕ) → secondIn first l ≡ Numbers m n → Second first l m n
-unfolding secondIn endedBy
-second-told first l m n e = by (is_number l) (is_over (pastBlanks (drop (span l) l))) refl refl e
+second-told : (first : ℕ) (l : List ℕ) (m n : ℕ) → second_in first l ≡ Numbers m n → Second first l m n
+unfolding second_in ended_by
+second-told first l m n e = by (is_number l) (is_over (past_blanks (drop (span l) l))) refl refl e
   where
-    by : (x y : Bool) → is_number l ≡ x → is_over (pastBlanks (drop (span l) l)) ≡ y
+    by : (x y : Bool) → is_number l ≡ x → is_over (past_blanks (drop (span l) l)) ≡ y
         → cond x (cond y (Numbers first (value_of (leading l))) Bad) Bad ≡ Numbers m n → Second first l m n
     by true true p q f = record { number = p; over = q; first-is = cc; second_is = cc }
     by true false p q f = let z : ◌≡◌ {A = ℕ} 0 1 = cc in absurd (omega arith)
@@ -190,24 +190,24 @@ second-told first l m n e = by (is_number l) (is_over (pastBlanks (drop (span l)
 
 record First (l : List ℕ) (m n : ℕ) : Type 0 where
   number : is_number l ≡ true
-  second : Second (value_of (leading l)) (pastBlanks (drop (span l) l)) m n
+  second : Second (value_of (leading l)) (past_blanks (drop (span l) l)) m n
 
-first-told : (l : List ℕ) (m n : ℕ) → entryIn l ≡ Numbers m n → First l m n
-unfolding entryIn
+first-told : (l : List ℕ) (m n : ℕ) → entry_in l ≡ Numbers m n → First l m n
+unfolding entry_in
 first-told l m n e = by (is_over l) (is_number l) refl e
   where
     by : (x y : Bool) → is_number l ≡ y
-        → cond x Skipped (cond y (secondIn (value_of (leading l)) (pastBlanks (drop (span l) l))) Bad) ≡ Numbers m n → First l m n
+        → cond x Skipped (cond y (second_in (value_of (leading l)) (past_blanks (drop (span l) l))) Bad) ≡ Numbers m n → First l m n
     by true y p f = let z : ◌≡◌ {A = ℕ} 0 1 = cc in absurd (omega arith)
     by false true p f = record { number = p; second = second-told _ _ m n f }
     by false false p f = let z : ◌≡◌ {A = ℕ} 0 1 = cc in absurd (omega arith)
 
-numeral-first : {d : List ℕ} {n : ℕ} (l : List ℕ) → Numeral d n → digitFirst (d ++ l) ≡ true
+numeral-first : {d : List ℕ} {n : ℕ} (l : List ℕ) → Numeral d n → digit_first (d ++ l) ≡ true
 numeral-first {d} l (numeral f h) = field-first d l f
 
 -- a blank stands between them: what is left behind the first number does not begin with a digit
-says : (a d g e r : List ℕ) (m n : ℕ) → Blanks a → Numeral d m → Blanks g → Numeral e n → Passed r → Over (pastBlanks r)
-    → digitFirst (g ++ (e ++ r)) ≡ false → SaysTwo (a ++ (d ++ (g ++ (e ++ r)))) m n
+says : (a d g e r : List ℕ) (m n : ℕ) → Blanks a → Numeral d m → Blanks g → Numeral e n → Passed r → Over (past_blanks r)
+    → digit_first (g ++ (e ++ r)) ≡ false → SaysTwo (a ++ (d ++ (g ++ (e ++ r)))) m n
 says a d [] e r m n ka nd none ne p o f = absurd (never (sym (numeral-first r ne) ∙ f))
 says a d (b ∷ g) e r m n ka nd (more kb kg) ne p o f =
     subst (λ z. SaysTwo (a ++ (d ++ (b ∷ g ++ (e ++ z)))) m n) (sym p.is) (says_two ka nd kb kg ne p.blanks o)
@@ -218,10 +218,10 @@ numbers-same {l} {m} {m'} {n} {n'} p q k = subst (λ z. SaysTwo l z n) (sym p) (
 two-only : (line : List ℕ) (m n : ℕ) → entry_of line ≡ Numbers m n → SaysTwo line m n
 unfolding entry_of
 two-only line m n f =
-    let l = pastBlanks line in
+    let l = past_blanks line in
     let one = first-told l m n f in
     let r = drop (span l) l in
-    let k = pastBlanks r in
+    let k = past_blanks r in
     let s = one.second in
     let rr = drop (span k) k in
     let start = passed line in
@@ -230,8 +230,8 @@ two-only line m n f =
     let inner : r ≡ between.front ++ (leading k ++ rr) = between.is ∙ ap (λ z. between.front ++ z) (sym (leading-rest k)) in
     let whole : line ≡ start.front ++ (leading l ++ (between.front ++ (leading k ++ rr))) =
     start.is ∙ ap (λ z. start.front ++ z) (sym (leading-rest l) ∙ ap (λ z. leading l ++ z) inner) in
-    let stops : digitFirst (between.front ++ (leading k ++ rr)) ≡ false = ap digitFirst (sym inner) ∙ span-stops l in
-    let made = says start.front (leading l) between.front (leading k) rr _ _ start.blanks (number-told l one.number) between.blanks (number-told k s.number) end (over-told (pastBlanks rr) s.over) stops in
+    let stops : digit_first (between.front ++ (leading k ++ rr)) ≡ false = ap digit_first (sym inner) ∙ span-stops l in
+    let made = says start.front (leading l) between.front (leading k) rr _ _ start.blanks (number-told l one.number) between.blanks (number-told k s.number) end (over-told (past_blanks rr) s.over) stops in
     subst (λ z. SaysTwo z m n) (sym whole) (numbers-same s.first-is s.second_is made)
 
 pub line_taken : LineTaken

@@ -10,29 +10,29 @@ use lib.IntN.{ℤ}
 use lib.ListN.{length, drop, length-append}
 use borrow.Author.Tests.{le-leb, lt-leb, eq-eqb, ne_eqb}
 use Rattle.laws.specs.Spelt.{spelt}
-use Rattle.asking.specs.Numbers.{signedAt, digitsAt, signedWord}
-use Rattle.digits.specs.Digits.{span, valueFrom, decimal, digitsOf, width, width_by}
-use Rattle.digits.proofs.Width.{decimal-length, width-at-most}
+use Rattle.asking.specs.Numbers.{signed_at, digits_at, signed_word}
+use Rattle.digits.specs.Digits.{span, value_from, decimal, digits_of, width, width_by}
+use Rattle.digits.proofs.Width.{decimal_length, width-at-most}
 use Rattle.answers.specs.declared.Refusal.{Refusal}
-use Rattle.written.specs.Parts.{signedText}
-use Rattle.phrases.specs.Phrases.{phrases, phraseOf}
+use Rattle.written.specs.Parts.{signed_text}
+use Rattle.phrases.specs.Phrases.{phrases, phrase_of}
 use Rattle.phrases.proofs.Room.{phrase-most}
 use Rattle.streams.specs.Parting.{together}
 use Rattle.streams.proofs.Pieces.{pieces-stand, together-append}
 use Rattle.router.specs.declared.Routed.{Routed}
 use Rattle.router.specs.declared.Routed.TheVariants.{Shards, Refused}
-use Rattle.router.specs.Route.{routeOf}
-use Rattle.router.specs.Tested.{directoryOf, routedIn}
-use Rattle.router.proofs.Statements.{tested-once}
+use Rattle.router.specs.Route.{route_of}
+use Rattle.router.specs.Tested.{directory_of, routed_in}
+use Rattle.router.proofs.Statements.{tested_once}
 use Rattle.routing.specs.declared.queries.Query.{Query}
 use Rattle.routing.specs.declared.queries.Query.TheVariants.{Asked, NotUnderstood}
 use Rattle.routing.specs.Grammar.{Asks}
-use Rattle.routing.specs.Entries.{pastBlanks, found_at, endedBy, secondIn, entryIn, entry_of}
-use Rattle.routing.specs.Loading.{withOne, behindOne, loadedFrom}
-use Rattle.routing.specs.Queries.{askedAt, queryOf}
-use Rattle.routing.specs.Flaws.{flawPieces}
-use Rattle.routing.specs.Told.{onePieces, somePieces, whichPieces, foundPieces, reasonPieces, routedPieces, otherPieces, askedPieces, answerPieces}
-use Rattle.routing.specs.Statements.{LineSkipped, LineTaken, HeadLoaded, ShardLoaded, NothingLoaded, StatesAre, LineBad, LinesInTurn, FileLoaded, LoadedPasses, QueryUnderstood, AnswerStands, FlawStands, answerText, SomeTold, OneTold, NoneTold, RefusedTold, OtherTold, LongTold, AnswerShort, AnswersRead, FlawsRead, EntriesRead, QueriesRead}
+use Rattle.routing.specs.Entries.{past_blanks, found_at, ended_by, second_in, entry_in, entry_of}
+use Rattle.routing.specs.Loading.{with_one, behind_one, loaded_from}
+use Rattle.routing.specs.Queries.{asked_at, query_of}
+use Rattle.routing.specs.Flaws.{flaw_pieces}
+use Rattle.routing.specs.Told.{one_pieces, some_pieces, which_pieces, found_pieces, reason_pieces, routed_pieces, other_pieces, asked_pieces, answer_pieces}
+use Rattle.routing.specs.Statements.{LineSkipped, LineTaken, HeadLoaded, ShardLoaded, NothingLoaded, StatesAre, LineBad, LinesInTurn, FileLoaded, LoadedPasses, QueryUnderstood, AnswerStands, FlawStands, answer_text, SomeTold, OneTold, NoneTold, RefusedTold, OtherTold, LongTold, AnswerShort, AnswersRead, FlawsRead, EntriesRead, QueriesRead}
 use Rattle.routing.proofs.Spelt as lines
 use Rattle.routing.proofs.Taking as taking
 use Rattle.routing.proofs.Flawed as flawed
@@ -41,145 +41,145 @@ use Rattle.routing.proofs.Asking as asking
 use Rattle.routing.proofs.Putting.{which-none, which-one, which-some}
 
 -- ---- what is read
-pub line-skipped : LineSkipped
-line-skipped = lines.line-skipped
+pub line_skipped : LineSkipped
+line_skipped = lines.line_skipped
 
 pub line_taken : LineTaken
 line_taken = lines.line_taken
 
-pub head-loaded : HeadLoaded
-head-loaded = taking.head-loaded
+pub head_loaded : HeadLoaded
+head_loaded = taking.head_loaded
 
-pub shard-loaded : ShardLoaded
-shard-loaded = taking.shard-loaded
+pub shard_loaded : ShardLoaded
+shard_loaded = taking.shard_loaded
 
-pub nothing-loaded : NothingLoaded
-nothing-loaded = flawed.nothing-loaded
+pub nothing_loaded : NothingLoaded
+nothing_loaded = flawed.nothing_loaded
 
-pub states-are : StatesAre
-states-are = record { none = refl; head = λ rate reel. refl; shard = λ s end. refl }
+pub states_are : StatesAre
+states_are = record { none = refl; head = λ rate reel. refl; shard = λ s end. refl }
 
-pub line-bad : LineBad
-line-bad = flawed.line-bad
+pub line_bad : LineBad
+line_bad = flawed.line_bad
 
-pub lines-in-turn : LinesInTurn
-unfolding loadedFrom
-lines-in-turn = record {
+pub lines_in_turn : LinesInTurn
+unfolding loaded_from
+lines_in_turn = record {
   start = λ lines. refl;
   over = λ n s. refl;
-  skipped = λ n s k lines e. ap (behindOne n s (λ t. loadedFrom (n + 1) t lines)) e;
-  head = λ n s t k lines e. ap (behindOne n s (λ t. loadedFrom (n + 1) t lines)) e;
-  shard = λ n s t u k lines first end firsts ends e f. ap (behindOne n s (λ t. loadedFrom (n + 1) t lines)) e ∙ ap (withOne first end) f;
-  bad = λ n s k lines flaw e. ap (behindOne n s (λ t. loadedFrom (n + 1) t lines)) e;
-  bad-later = λ n m s t k lines first end flaw e f. ap (behindOne n s (λ t. loadedFrom (n + 1) t lines)) e ∙ ap (withOne first end) f;
+  skipped = λ n s k lines e. ap (behind_one n s (λ t. loaded_from (n + 1) t lines)) e;
+  head = λ n s t k lines e. ap (behind_one n s (λ t. loaded_from (n + 1) t lines)) e;
+  shard = λ n s t u k lines first end firsts ends e f. ap (behind_one n s (λ t. loaded_from (n + 1) t lines)) e ∙ ap (with_one first end) f;
+  bad = λ n s k lines flaw e. ap (behind_one n s (λ t. loaded_from (n + 1) t lines)) e;
+  bad_later = λ n m s t k lines first end flaw e f. ap (behind_one n s (λ t. loaded_from (n + 1) t lines)) e ∙ ap (with_one first end) f;
 }
 
-pub file-loaded : FileLoaded
-file-loaded = files.file-loaded
+pub file_loaded : FileLoaded
+file_loaded = files.file_loaded
 
-pub loaded-passes : LoadedPasses
-loaded-passes = files.loaded-passes
+pub loaded_passes : LoadedPasses
+loaded_passes = files.loaded_passes
 
-pub query-understood : QueryUnderstood
-query-understood = asking.query-understood
+pub query_understood : QueryUnderstood
+query_understood = asking.query_understood
 
 -- ---- what is put
-pub answer-stands : AnswerStands
-answer-stands s d reel line over = pieces-stand s (answerPieces d reel line over)
+pub answer_stands : AnswerStands
+answer_stands s d reel line over = pieces-stand s (answer_pieces d reel line over)
 
-pub flaw-stands : FlawStands
-flaw-stands s line flaw = pieces-stand s (flawPieces line flaw)
+pub flaw_stands : FlawStands
+flaw_stands s line flaw = pieces-stand s (flaw_pieces line flaw)
 
 -- ---- what is told of a query
 told : (rate : ℕ) (firsts ends : List ℕ) (reel : ℕ) (line : List ℕ) (z : ℤ) (label : List ℕ) (r : Routed) → Asks line z label
-    → routeOf rate firsts ends z label ≡ r → answerText rate firsts ends reel line ≡ together (routedPieces reel r)
-unfolding answerPieces
+    → route_of rate firsts ends z label ≡ r → answer_text rate firsts ends reel line ≡ together (routed_pieces reel r)
+unfolding answer_pieces
 told rate firsts ends reel line z label r a e =
-    let u = (asking.query-understood line z label).0 a in
-    let d = directoryOf rate firsts ends in
-    ap (λ q. together (askedPieces d reel line q)) u.asked
-    ∙ ap (λ t. together (routedPieces reel (routedIn d z t))) u.rest
-    ∙ ap (λ x. together (routedPieces reel x)) (tested-once rate firsts ends z label ∙ e)
+    let u = (asking.query_understood line z label).0 a in
+    let d = directory_of rate firsts ends in
+    ap (λ q. together (asked_pieces d reel line q)) u.asked
+    ∙ ap (λ t. together (routed_pieces reel (routed_in d z t))) u.rest
+    ∙ ap (λ x. together (routed_pieces reel x)) (tested_once rate firsts ends z label ∙ e)
 
 -- which of them, and the reel behind it
-found-text : (reel first after : ℕ) (which : List (List ℕ)) → which ≡ whichPieces first after
-    → together (foundPieces reel first after) ≡ together (which ++ (spelt " of reel " ∷ signedText false reel ∷ (10 ∷ []) ∷ []))
-unfolding foundPieces
+found-text : (reel first after : ℕ) (which : List (List ℕ)) → which ≡ which_pieces first after
+    → together (found_pieces reel first after) ≡ together (which ++ (spelt " of reel " ∷ signed_text false reel ∷ (10 ∷ []) ∷ []))
+unfolding found_pieces
 found-text reel first after which e = rw e
 
-pub some-told : SomeTold
+pub some_told : SomeTold
 unfolding together
-some-told rate firsts ends reel line z label first after a e h =
+some_told rate firsts ends reel line z label first after a e h =
     told rate firsts ends reel line z label (Shards first after) a e
-    ∙ found-text reel first after (somePieces first (after - 1)) (which-some first after (omega arith) (after - 1) (λ y. omega (arith, y)) refl)
+    ∙ found-text reel first after (some_pieces first (after - 1)) (which-some first after (omega arith) (after - 1) (λ y. omega (arith, y)) refl)
 
 pub one_told : OneTold
 unfolding together
 one_told rate firsts ends reel line z label first a e =
     told rate firsts ends reel line z label (Shards first (first + 1)) a e
-    ∙ found-text reel first (first + 1) (onePieces first) (which-one first (first + 1) (omega arith) (omega arith))
+    ∙ found-text reel first (first + 1) (one_pieces first) (which-one first (first + 1) (omega arith) (omega arith))
 
 pub none_told : NoneTold
 unfolding together
 none_told rate firsts ends reel line z label first after a e h =
     told rate firsts ends reel line z label (Shards first after) a e ∙ found-text reel first after (spelt "no shard" ∷ []) (which-none first after h)
 
-pub refused-told : RefusedTold
-unfolding together reasonPieces
-refused-told rate firsts ends reel line z label x a e = told rate firsts ends reel line z label (Refused x) a e
+pub refused_told : RefusedTold
+unfolding together reason_pieces
+refused_told rate firsts ends reel line z label x a e = told rate firsts ends reel line z label (Refused x) a e
 
-pub other-told : OtherTold
-unfolding together answerPieces
-other-told rate firsts ends reel line n = by (queryOf line) refl
+pub other_told : OtherTold
+unfolding together answer_pieces
+other_told rate firsts ends reel line n = by (query_of line) refl
   where
-    by : (q : Query) → queryOf line ≡ q
-        → together (askedPieces (directoryOf rate firsts ends) reel line q) ≡ spelt "not understood: a query is LENGTH LABEL" ++ (10 ∷ [])
-    by (Asked z at) e = absurd (n z (drop at line) ((asking.query-understood line z (drop at line)).1 (record { at = at; asked = e; rest = refl })))
+    by : (q : Query) → query_of line ≡ q
+        → together (asked_pieces (directory_of rate firsts ends) reel line q) ≡ spelt "not understood: a query is LENGTH LABEL" ++ (10 ∷ [])
+    by (Asked z at) e = absurd (n z (drop at line) ((asking.query_understood line z (drop at line)).1 (record { at = at; asked = e; rest = refl })))
     by NotUnderstood e = refl
 
-pub long-told : LongTold
-unfolding together answerPieces
-long-told d reel line = refl
+pub long_told : LongTold
+unfolding together answer_pieces
+long_told d reel line = refl
 
 -- ---- how long it is
-number-most : (n : ℕ) → n < 2 ^ 64 → length (signedText false n) ≤ 20
-number-most n h = omega (arith, decimal-length 1 n, width-at-most n 20 (omega arith) (omega arith))
+number-most : (n : ℕ) → n < 2 ^ 64 → length (signed_text false n) ≤ 20
+number-most n h = omega (arith, decimal_length 1 n, width-at-most n 20 (omega arith) (omega arith))
 
 module _ (reel : ℕ) (h : reel < 2 ^ 64) where
-  reel-most : length (together (spelt " of reel " ∷ signedText false reel ∷ (10 ∷ []) ∷ [])) ≤ 30
+  reel-most : length (together (spelt " of reel " ∷ signed_text false reel ∷ (10 ∷ []) ∷ [])) ≤ 30
   unfolding together
   reel-most = simp length-append (omega (arith, number-most reel h))
 
-  found-most : (first after : ℕ) → first < 2 ^ 64 → after < 2 ^ 64 → length (together (foundPieces reel first after)) ≤ 256
-  unfolding foundPieces whichPieces together
+  found-most : (first after : ℕ) → first < 2 ^ 64 → after < 2 ^ 64 → length (together (found_pieces reel first after)) ≤ 256
+  unfolding found_pieces which_pieces together
   found-most first after p q = by (leb after first) (eqb (after - first) 1)
     where
       by : (x y : Bool)
-          → length (together (cond x (spelt "no shard" ∷ []) (cond y (onePieces first) (somePieces first (after - 1)))
-          ++ (spelt " of reel " ∷ signedText false reel ∷ (10 ∷ []) ∷ []))) ≤ 256
+          → length (together (cond x (spelt "no shard" ∷ []) (cond y (one_pieces first) (some_pieces first (after - 1)))
+          ++ (spelt " of reel " ∷ signed_text false reel ∷ (10 ∷ []) ∷ []))) ≤ 256
       by true y = omega (arith, reel-most)
       by false true = simp length-append (omega (arith, reel-most, number-most first p, number-most reel h))
       by false false =
           simp length-append (omega (arith, reel-most, number-most first p, number-most (after - 1) (omega arith), number-most reel h))
 
-pub answer-short : AnswerShort
-unfolding together reasonPieces
-answer-short reel (Shards first after) h w = found-most reel h first after w.0 w.1
-answer-short reel (Refused e) h w =
+pub answer_short : AnswerShort
+unfolding together reason_pieces
+answer_short reel (Shards first after) h w = found-most reel h first after w.0 w.1
+answer_short reel (Refused e) h w =
     simp length-append (omega (arith, number-most e.number w.0, number-most e.place w.1, phrase-most e.number))
 
 -- ---- by computation
-pub answers-read : AnswersRead
-unfolding together foundPieces whichPieces reasonPieces phraseOf phrases decimal digitsOf width width_by
-answers-read = record { some = refl; two = refl; one = refl; none = refl; refused = refl; past = refl }
+pub answers_read : AnswersRead
+unfolding together found_pieces which_pieces reason_pieces phrase_of phrases decimal digits_of width width_by
+answers_read = record { some = refl; two = refl; one = refl; none = refl; refused = refl; past = refl }
 
-pub flaws-read : FlawsRead
-unfolding together flawPieces decimal digitsOf width width_by
-flaws-read = record { long = refl; numbers = refl; rate = refl; reel = refl; many = refl; empty = refl; early = refl; past = refl }
+pub flaws_read : FlawsRead
+unfolding together flaw_pieces decimal digits_of width width_by
+flaws_read = record { long = refl; numbers = refl; rate = refl; reel = refl; many = refl; empty = refl; early = refl; past = refl }
 
-pub entries-read : EntriesRead
-unfolding pastBlanks found_at endedBy secondIn entryIn entry_of signedAt digitsAt signedWord span valueFrom
-entries-read = record {
+pub entries_read : EntriesRead
+unfolding past_blanks found_at ended_by second_in entry_in entry_of signed_at digits_at signed_word span value_from
+entries_read = record {
   head = refl;
   blanks = refl;
   glued = refl;
@@ -193,13 +193,13 @@ entries-read = record {
   wide = refl;
 }
 
-pub queries-read : QueriesRead
-unfolding askedAt queryOf signedAt digitsAt signedWord span valueFrom
-queries-read = record {
+pub queries_read : QueriesRead
+unfolding asked_at query_of signed_at digits_at signed_word span value_from
+queries_read = record {
   query = refl;
   below = refl;
   no_label = refl;
-  no-space = refl;
+  no_space = refl;
   no_length = refl;
   blank = refl;
   wide = refl;

@@ -7,8 +7,8 @@ use mathlib.Core.Bool.{Bool, true, false, cond, not}
 use native.Mathlib.Omega.{arith}
 use lib.Dec.{leb, ltb}
 use borrow.Author.Tests.{le-leb, lt-leb, lt-ltb, le-ltb, leb-false, ltb-false}
-use Rattle.rates.specs.Rates.{isRate}
-use Rattle.rates.specs.Day.{dayFrames}
+use Rattle.rates.specs.Rates.{is_rate}
+use Rattle.rates.specs.Day.{day_frames}
 use Rattle.routing.specs.declared.entries.Entry.{Entry}
 use Rattle.routing.specs.declared.entries.Entry.TheVariants as entry
 use Rattle.routing.specs.declared.loading.Loading.{Loading}
@@ -17,17 +17,17 @@ use Rattle.routing.specs.declared.loading.Loaded.{Loaded}
 use Rattle.routing.specs.declared.loading.Loaded.TheVariants.{Skipped, Head, Shard, Bad}
 use Rattle.routing.specs.Entries.{entry_of}
 use Rattle.routing.specs.Grammar.{SaysNothing, SaysTwo}
-use Rattle.routing.specs.Loading.{with_head, withShard, head_of, shardOf, numbersOf, loadedBy, load_of}
+use Rattle.routing.specs.Loading.{with_head, with_shard, head_of, shard_of, numbers_of, loaded_by, load_of}
 use Rattle.routing.specs.Statements.{IsHead, IsShard, HeadLoaded, ShardLoaded}
-use Rattle.routing.proofs.Spelt.{line-skipped, line_taken}
+use Rattle.routing.proofs.Spelt.{line_skipped, line_taken}
 
 -- ---- rate and reel
 module _ (rate reel : ℕ) where
-  pub head-no-rate : isRate rate ≡ false → Bad NoSuchRate ≡ head_of rate reel
+  pub head-no-rate : is_rate rate ≡ false → Bad NoSuchRate ≡ head_of rate reel
   unfolding head_of
   head-no-rate e = rw e
 
-  module _ (e : isRate rate ≡ true) where
+  module _ (e : is_rate rate ≡ true) where
     pub head-no-reel : 4294967295 < reel → Bad NoSuchReel ≡ head_of rate reel
     unfolding head_of
     head-no-reel h = rw (e, lt-ltb 4294967295 reel h)
@@ -38,50 +38,50 @@ module _ (rate reel : ℕ) where
 
 -- ---- a shard
 module _ (s : Loading) (first end : ℕ) where
-  pub shard-many : 256 ≤ s.shards → Bad ManyShards ≡ shardOf s first end
-  unfolding shardOf
+  pub shard-many : 256 ≤ s.shards → Bad ManyShards ≡ shard_of s first end
+  unfolding shard_of
   shard-many h = rw (le-leb 256 s.shards h)
 
   module _ (few : s.shards < 256) where
-    pub shard-empty : end ≤ first → Bad EmptyShard ≡ shardOf s first end
-    unfolding shardOf
+    pub shard-empty : end ≤ first → Bad EmptyShard ≡ shard_of s first end
+    unfolding shard_of
     shard-empty h = rw (lt-leb 256 s.shards few, le-leb end first h)
 
     module _ (some : first < end) where
-      pub shard-early : first < s.last → Bad EarlyShard ≡ shardOf s first end
-      unfolding shardOf
+      pub shard-early : first < s.last → Bad EarlyShard ≡ shard_of s first end
+      unfolding shard_of
       shard-early h = rw (lt-leb 256 s.shards few, lt-leb end first some, lt-ltb first s.last h)
 
       module _ (after : s.last ≤ first) where
-        pub shard-past : dayFrames s.rate < end → Bad PastDay ≡ shardOf s first end
-        unfolding shardOf
+        pub shard-past : day_frames s.rate < end → Bad PastDay ≡ shard_of s first end
+        unfolding shard_of
         shard-past h =
-            rw (lt-leb 256 s.shards few, lt-leb end first some, le-ltb first s.last after, lt-ltb (dayFrames s.rate) end h)
+            rw (lt-leb 256 s.shards few, lt-leb end first some, le-ltb first s.last after, lt-ltb (day_frames s.rate) end h)
 
-        pub shard-some : end ≤ dayFrames s.rate → Shard first end (withShard s end) ≡ shardOf s first end
-        unfolding shardOf
+        pub shard-some : end ≤ day_frames s.rate → Shard first end (with_shard s end) ≡ shard_of s first end
+        unfolding shard_of
         shard-some h =
-            rw (lt-leb 256 s.shards few, lt-leb end first some, le-ltb first s.last after, le-ltb (dayFrames s.rate) end h)
+            rw (lt-leb 256 s.shards few, lt-leb end first some, le-ltb first s.last after, le-ltb (day_frames s.rate) end h)
 
 -- ---- a line
 pub line-over : (s : Loading) (line : List ℕ) (over : Bool) → over ≡ true → Bad TooLong ≡ load_of s line over
 unfolding load_of
 line-over s line over e = rw e
 
-pub line-by : (s : Loading) (line : List ℕ) (over : Bool) (e : Entry) → over ≡ false → e ≡ entry_of line → loadedBy s e ≡ load_of s line over
+pub line-by : (s : Loading) (line : List ℕ) (over : Bool) (e : Entry) → over ≡ false → e ≡ entry_of line → loaded_by s e ≡ load_of s line over
 unfolding load_of
 line-by s line over e f p = rw (f, p)
 
 -- ---- what it tells that a line was taken
 data HeadBy (rate reel : ℕ) : Loaded → Type 0 where
-  head : isRate rate ≡ true → reel ≤ 4294967295 → HeadBy rate reel (Head (with_head rate reel))
+  head : is_rate rate ≡ true → reel ≤ 4294967295 → HeadBy rate reel (Head (with_head rate reel))
   other : {f : _} → HeadBy rate reel (Bad f)
 
 head-by : (rate reel : ℕ) → HeadBy rate reel (head_of rate reel)
 unfolding head_of
-head-by rate reel = by (isRate rate) (ltb 4294967295 reel) refl refl
+head-by rate reel = by (is_rate rate) (ltb 4294967295 reel) refl refl
   where
-    by : (x y : Bool) → isRate rate ≡ x → ltb 4294967295 reel ≡ y
+    by : (x y : Bool) → is_rate rate ≡ x → ltb 4294967295 reel ≡ y
         → HeadBy rate reel (cond (not x) (Bad NoSuchRate) (cond y (Bad NoSuchReel) (Head (with_head rate reel))))
     by false y p q = other
     by true true p q = other
@@ -91,19 +91,19 @@ pub record Fits (s : Loading) (first end : ℕ) : Type 0 where
   pub few : s.shards < 256
   pub some : first < end
   pub after : s.last ≤ first
-  pub within : end ≤ dayFrames s.rate
+  pub within : end ≤ day_frames s.rate
 
 data ShardBy (s : Loading) (first end : ℕ) : Loaded → Type 0 where
-  shard : Fits s first end → ShardBy s first end (Shard first end (withShard s end))
+  shard : Fits s first end → ShardBy s first end (Shard first end (with_shard s end))
   other : {f : _} → ShardBy s first end (Bad f)
 
-shard-by : (s : Loading) (first end : ℕ) → ShardBy s first end (shardOf s first end)
-unfolding shardOf
-shard-by s first end = by (leb 256 s.shards) (leb end first) (ltb first s.last) (ltb (dayFrames s.rate) end) refl refl refl refl
+shard-by : (s : Loading) (first end : ℕ) → ShardBy s first end (shard_of s first end)
+unfolding shard_of
+shard-by s first end = by (leb 256 s.shards) (leb end first) (ltb first s.last) (ltb (day_frames s.rate) end) refl refl refl refl
   where
-    by : (w x y z : Bool) → leb 256 s.shards ≡ w → leb end first ≡ x → ltb first s.last ≡ y → ltb (dayFrames s.rate) end ≡ z
+    by : (w x y z : Bool) → leb 256 s.shards ≡ w → leb end first ≡ x → ltb first s.last ≡ y → ltb (day_frames s.rate) end ≡ z
         → ShardBy s first end
-        (cond w (Bad ManyShards) (cond x (Bad EmptyShard) (cond y (Bad EarlyShard) (cond z (Bad PastDay) (Shard first end (withShard s end))))))
+        (cond w (Bad ManyShards) (cond x (Bad EmptyShard) (cond y (Bad EarlyShard) (cond z (Bad PastDay) (Shard first end (with_shard s end))))))
     by true x y z a b c d = other
     by false true y z a b c d = other
     by false false true z a b c d = other
@@ -113,18 +113,18 @@ shard-by s first end = by (leb 256 s.shards) (leb end first) (ltb first s.last) 
           few = leb-false 256 s.shards a;
           some = leb-false end first b;
           after = ltb-false first s.last c;
-          within = ltb-false (dayFrames s.rate) end d;
+          within = ltb-false (day_frames s.rate) end d;
         })
 
 -- a line of two numbers
-pub two-load : (s : Loading) (line : List ℕ) (m n : ℕ) → SaysTwo line m n → load_of s line false ≡ numbersOf s m n
+pub two-load : (s : Loading) (line : List ℕ) (m n : ℕ) → SaysTwo line m n → load_of s line false ≡ numbers_of s m n
 unfolding load_of
-two-load s line m n k = ap (loadedBy s) ((line_taken line m n).0 k)
+two-load s line m n k = ap (loaded_by s) ((line_taken line m n).0 k)
 
 -- what a line told that was taken
 pub data Told (s : Loading) (line : List ℕ) : Loaded → Type 0 where
-  head : {rate reel : ℕ} → SaysTwo line rate reel → s.headed ≡ false → isRate rate ≡ true → reel ≤ 4294967295 → Told s line (Head (with_head rate reel))
-  shard : {first end : ℕ} → SaysTwo line first end → s.headed ≡ true → Fits s first end → Told s line (Shard first end (withShard s end))
+  head : {rate reel : ℕ} → SaysTwo line rate reel → s.headed ≡ false → is_rate rate ≡ true → reel ≤ 4294967295 → Told s line (Head (with_head rate reel))
+  shard : {first end : ℕ} → SaysTwo line first end → s.headed ≡ true → Fits s first end → Told s line (Shard first end (with_shard s end))
   skipped : SaysNothing line → Told s line Skipped
   bad : {f : _} → Told s line (Bad f)
 
@@ -140,12 +140,12 @@ told s line = by (entry_of line) refl
     sharded m n k e (shard f) = shard k e f
     sharded m n k e other = bad
 
-    numbers : (m n : ℕ) → SaysTwo line m n → (t : Bool) → s.headed ≡ t → Told s line (cond t (shardOf s m n) (head_of m n))
+    numbers : (m n : ℕ) → SaysTwo line m n → (t : Bool) → s.headed ≡ t → Told s line (cond t (shard_of s m n) (head_of m n))
     numbers m n k true e = sharded m n k e (shard-by s m n)
     numbers m n k false e = headed m n k e (head-by m n)
 
-    by : (e : Entry) → entry_of line ≡ e → Told s line (loadedBy s e)
-    by entry.Skipped p = skipped ((line-skipped line).1 p)
+    by : (e : Entry) → entry_of line ≡ e → Told s line (loaded_by s e)
+    by entry.Skipped p = skipped ((line_skipped line).1 p)
     by (entry.Numbers m n) p = numbers m n ((line_taken line m n).1 p) s.headed refl
     by entry.Bad p = bad
 
@@ -156,13 +156,13 @@ head-is s line t (shard k e p) f = let z : ◌≡◌ {A = ℕ} 0 1 = cc in absur
 head-is s line t (skipped n) f = let z : ◌≡◌ {A = ℕ} 0 1 = cc in absurd (omega arith)
 head-is s line t bad f = let z : ◌≡◌ {A = ℕ} 0 1 = cc in absurd (omega arith)
 
-pub head-loaded : HeadLoaded
-head-loaded s line t = (to, head-is s line t (told s line))
+pub head_loaded : HeadLoaded
+head_loaded s line t = (to, head-is s line t (told s line))
   where
     to : IsHead s line t → load_of s line false ≡ Head t
     to h =
         two-load s line h.rate h.reel h.says
-        ∙ ap (λ b. cond b (shardOf s h.rate h.reel) (head_of h.rate h.reel)) h.none
+        ∙ ap (λ b. cond b (shard_of s h.rate h.reel) (head_of h.rate h.reel)) h.none
         ∙ sym (head-some h.rate h.reel h.rated h.most)
         ∙ ap Head (sym h.is)
 
@@ -170,7 +170,7 @@ shard-is : (s : Loading) (line : List ℕ) (first end : ℕ) (t : Loading) {r : 
 shard-is s line first end t (shard {first = m} {end = n} k e p) f =
     let a : m ≡ first = cc in
     let b : n ≡ end = cc in
-    let u : withShard s n ≡ t = cc in
+    let u : with_shard s n ≡ t = cc in
     record {
       says = subst (λ z. SaysTwo line z end) a (subst (λ z. SaysTwo line m z) b k);
       headed = e;
@@ -178,18 +178,18 @@ shard-is s line first end t (shard {first = m} {end = n} k e p) f =
       some = omega (arith, p.some, a, b);
       after = omega (arith, p.after, a);
       within = omega (arith, p.within, b);
-      is = sym u ∙ ap (withShard s) b;
+      is = sym u ∙ ap (with_shard s) b;
     }
 shard-is s line first end t (head k e p q) f = let z : ◌≡◌ {A = ℕ} 0 1 = cc in absurd (omega arith)
 shard-is s line first end t (skipped n) f = let z : ◌≡◌ {A = ℕ} 0 1 = cc in absurd (omega arith)
 shard-is s line first end t bad f = let z : ◌≡◌ {A = ℕ} 0 1 = cc in absurd (omega arith)
 
-pub shard-loaded : ShardLoaded
-shard-loaded s line first end t = (to, shard-is s line first end t (told s line))
+pub shard_loaded : ShardLoaded
+shard_loaded s line first end t = (to, shard-is s line first end t (told s line))
   where
     to : IsShard s line first end t → load_of s line false ≡ Shard first end t
     to h =
         two-load s line first end h.says
-        ∙ ap (λ b. cond b (shardOf s first end) (head_of first end)) h.headed
+        ∙ ap (λ b. cond b (shard_of s first end) (head_of first end)) h.headed
         ∙ sym (shard-some s first end h.few h.some h.after h.within)
         ∙ ap (Shard first end) (sym h.is)

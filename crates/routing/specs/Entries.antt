@@ -9,13 +9,13 @@ use Rattle.routing.specs.declared.entries.Found.TheVariants.{Number, Nothing}
 
 -- ---- blanks and comments
 -- a space, a tab, a carriage return
-abbrev pub isBlank : ℕ → Bool
-isBlank b = eqb b 32 || (eqb b 9 || eqb b 13)
+abbrev pub is_blank : ℕ → Bool
+is_blank b = eqb b 32 || (eqb b 9 || eqb b 13)
 
 -- what is left behind the blanks in front
-unfoldable pub pastBlanks : List ℕ → List ℕ
-pastBlanks [] = []
-pastBlanks (b ∷ l) = cond (isBlank b) (pastBlanks l) (b ∷ l)
+unfoldable pub past_blanks : List ℕ → List ℕ
+past_blanks [] = []
+past_blanks (b ∷ l) = cond (is_blank b) (past_blanks l) (b ∷ l)
 
 -- nothing is left, or a comment
 abbrev pub is_over : List ℕ → Bool
@@ -32,16 +32,16 @@ unfoldable pub found_at : (at : ℕ) → List ℕ → Found
 found_at at l = cond (is_number l) (Number (value_of (leading l)) (at + span l)) Nothing
 
 -- ---- two of them
-unfoldable pub endedBy : (first second : ℕ) → List ℕ → Entry
-endedBy first second l = cond (is_over l) (Numbers first second) Bad
+unfoldable pub ended_by : (first second : ℕ) → List ℕ → Entry
+ended_by first second l = cond (is_over l) (Numbers first second) Bad
 
-unfoldable pub secondIn : (first : ℕ) → List ℕ → Entry
-secondIn first l = cond (is_number l) (endedBy first (value_of (leading l)) (pastBlanks (drop (span l) l))) Bad
+unfoldable pub second_in : (first : ℕ) → List ℕ → Entry
+second_in first l = cond (is_number l) (ended_by first (value_of (leading l)) (past_blanks (drop (span l) l))) Bad
 
-unfoldable pub entryIn : List ℕ → Entry
-entryIn l =
+unfoldable pub entry_in : List ℕ → Entry
+entry_in l =
     cond (is_over l) Skipped
-    (cond (is_number l) (secondIn (value_of (leading l)) (pastBlanks (drop (span l) l))) Bad)
+    (cond (is_number l) (second_in (value_of (leading l)) (past_blanks (drop (span l) l))) Bad)
 
 unfoldable pub entry_of : (line : List ℕ) → Entry
-entry_of line = entryIn (pastBlanks line)
+entry_of line = entry_in (past_blanks line)

@@ -10,7 +10,7 @@ use Rattle.asking.specs.Grammar as asking
 pub data Blank : ℕ → Type 0 where
   space : Blank 32
   tab : Blank 9
-  carriage-return : Blank 13
+  carriage_return : Blank 13
 
 -- any number of them
 pub data Blanks : List ℕ → Type 0 where
@@ -44,15 +44,15 @@ pub data Asks : (line : List ℕ) → (length : ℤ) → (label : List ℕ) → 
 -- ---- a whole directory file, line by line, each kept whole
 -- behind the rate and the reel a shard a line, or nothing
 pub data SpellsShards : (lines : List Kept) → (firsts ends : List ℕ) → Type 0 where
-  no-shard : SpellsShards [] [] []
-  empty-line : {k : Kept} {lines : List Kept} {firsts ends : List ℕ}
+  no_shard : SpellsShards [] [] []
+  empty_line : {k : Kept} {lines : List Kept} {firsts ends : List ℕ}
       → k.over ≡ false → SaysNothing k.bytes → SpellsShards lines firsts ends → SpellsShards (k ∷ lines) firsts ends
-  shard-line : {k : Kept} {lines : List Kept} {first end : ℕ} {firsts ends : List ℕ}
+  shard_line : {k : Kept} {lines : List Kept} {first end : ℕ} {firsts ends : List ℕ}
       → k.over ≡ false → SaysTwo k.bytes first end → SpellsShards lines firsts ends → SpellsShards (k ∷ lines) (first ∷ firsts) (end ∷ ends)
 
 -- the first two numbers are the rate and the reel
 pub data Spells : (lines : List Kept) → (rate reel : ℕ) → (firsts ends : List ℕ) → Type 0 where
-  front-line : {k : Kept} {lines : List Kept} {rate reel : ℕ} {firsts ends : List ℕ}
+  front_line : {k : Kept} {lines : List Kept} {rate reel : ℕ} {firsts ends : List ℕ}
       → k.over ≡ false → SaysNothing k.bytes → Spells lines rate reel firsts ends → Spells (k ∷ lines) rate reel firsts ends
-  head-line : {k : Kept} {lines : List Kept} {rate reel : ℕ} {firsts ends : List ℕ}
+  head_line : {k : Kept} {lines : List Kept} {rate reel : ℕ} {firsts ends : List ℕ}
       → k.over ≡ false → SaysTwo k.bytes rate reel → SpellsShards lines firsts ends → Spells (k ∷ lines) rate reel firsts ends

@@ -2,22 +2,22 @@
 -- Assumes nothing.
 use Rattle.std.specs.Prelude.{ℕ, ◌+◌, ◌-◌, ◌^◌, ◌≤◌, ◌<◌, ◌≡◌, ◌↔◌, Bool, true, false, List, [], ◌∷◌, ◌++◌, ℤ, pos, negsuc, length, drop}
 use Rattle.laws.specs.Spelt.{spelt}
-use Rattle.rates.specs.Rates.{isRate}
-use Rattle.rates.specs.Day.{dayFrames}
-use Rattle.written.specs.Parts.{signedText}
-use Rattle.phrases.specs.Phrases.{phraseOf}
+use Rattle.rates.specs.Rates.{is_rate}
+use Rattle.rates.specs.Day.{day_frames}
+use Rattle.written.specs.Parts.{signed_text}
+use Rattle.phrases.specs.Phrases.{phrase_of}
 use Rattle.streams.specs.Gathering.{Kept}
 use Rattle.streams.specs.Parting.{together}
-use Rattle.streams.specs.Sheet.{Sheet, textOn}
-use Rattle.streams.specs.Pieces.{allOn}
+use Rattle.streams.specs.Sheet.{Sheet, text_on}
+use Rattle.streams.specs.Pieces.{all_on}
 use Rattle.answers.specs.declared.Refusal.{Refusal}
 use Rattle.answers.specs.declared.Verdict.TheVariants.{Passed}
 use Rattle.router.specs.declared.many.Directory.{Directory}
 use Rattle.router.specs.declared.Routed.{Routed}
 use Rattle.router.specs.declared.Routed.TheVariants.{Shards, Refused}
-use Rattle.router.specs.Route.{routeOf}
+use Rattle.router.specs.Route.{route_of}
 use Rattle.router.specs.Directory.{Rules}
-use Rattle.router.specs.Tested.{directoryOf}
+use Rattle.router.specs.Tested.{directory_of}
 use Rattle.routing.specs.declared.entries.Entry.TheVariants as entry
 use Rattle.routing.specs.declared.loading.Loading.{Loading}
 use Rattle.routing.specs.declared.loading.Loaded.TheVariants as loaded
@@ -26,10 +26,10 @@ use Rattle.routing.specs.declared.loading.Flaw.TheVariants.{TooLong, NotTwoNumbe
 use Rattle.routing.specs.declared.queries.Query.TheVariants.{Asked, NotUnderstood}
 use Rattle.routing.specs.Entries.{entry_of}
 use Rattle.routing.specs.Grammar.{SaysNothing, SaysTwo, Spells, Asks}
-use Rattle.routing.specs.Loading.{noLine, with_head, withShard, load_of, whole, broken, loadedFrom, loadedOf}
-use Rattle.routing.specs.Queries.{queryOf}
-use Rattle.routing.specs.Flaws.{flawPieces}
-use Rattle.routing.specs.Told.{routedPieces, answerPieces}
+use Rattle.routing.specs.Loading.{no_line, with_head, with_shard, load_of, whole, broken, loaded_from, loaded_of}
+use Rattle.routing.specs.Queries.{query_of}
+use Rattle.routing.specs.Flaws.{flaw_pieces}
+use Rattle.routing.specs.Told.{routed_pieces, answer_pieces}
 
 -- ---- a line of a directory file
 -- a line is skipped exactly when the grammar has nothing in it
@@ -47,7 +47,7 @@ pub record IsHead (s : Loading) (line : List ℕ) (t : Loading) : Type 0 where
   pub reel : ℕ
   pub says : SaysTwo line rate reel
   pub none : s.headed ≡ false
-  pub rated : isRate rate ≡ true
+  pub rated : is_rate rate ≡ true
   pub most : reel ≤ 4294967295
   pub is : t ≡ with_head rate reel
 
@@ -59,8 +59,8 @@ pub record IsShard (s : Loading) (line : List ℕ) (first end : ℕ) (t : Loadin
   pub few : s.shards < 256
   pub some : first < end
   pub after : s.last ≤ first
-  pub within : end ≤ dayFrames s.rate
-  pub is : t ≡ withShard s end
+  pub within : end ≤ day_frames s.rate
+  pub is : t ≡ with_shard s end
 
 -- a line is taken as rate and reel exactly when all that is right of it
 abbrev pub HeadLoaded : Type 0
@@ -78,24 +78,24 @@ NothingLoaded = (s : Loading) (line : List ℕ) (over : Bool) → ((over ≡ fal
 
 -- what has come, in plain fields: before any line, behind rate and reel, and behind a shard
 pub record StatesAre : Type 0 where
-  pub none : noLine ≡ record { headed = false; rate = 0; reel = 0; shards = 0; last = 0 }
+  pub none : no_line ≡ record { headed = false; rate = 0; reel = 0; shards = 0; last = 0 }
   pub head : (rate reel : ℕ) → with_head rate reel ≡ record { headed = true; rate = rate; reel = reel; shards = 0; last = 0 }
   pub shard : (s : Loading) (end : ℕ)
-      → withShard s end ≡ record { headed = s.headed; rate = s.rate; reel = s.reel; shards = s.shards + 1; last = end }
+      → with_shard s end ≡ record { headed = s.headed; rate = s.rate; reel = s.reel; shards = s.shards + 1; last = end }
 
 -- what is wrong with a line, in the order in which it is looked for: it is too long; it is neither nothing nor two numbers; of rate and reel
 -- there is no such rate, or no such reel; of a shard 256 have come, it is empty, it begins before the one before it ends, it ends past the day
 pub data Wrong (s : Loading) (line : List ℕ) : (over : Bool) → Flaw → Type 0 where
   too_long : Wrong s line true TooLong
-  not-two : (SaysNothing line → ⊥) → ((m n : ℕ) → SaysTwo line m n → ⊥) → Wrong s line false NotTwoNumbers
-  no-rate : (rate reel : ℕ) → SaysTwo line rate reel → s.headed ≡ false → isRate rate ≡ false → Wrong s line false NoSuchRate
-  no-reel : (rate reel : ℕ) → SaysTwo line rate reel → s.headed ≡ false → isRate rate ≡ true → 4294967295 < reel → Wrong s line false NoSuchReel
+  not_two : (SaysNothing line → ⊥) → ((m n : ℕ) → SaysTwo line m n → ⊥) → Wrong s line false NotTwoNumbers
+  no_rate : (rate reel : ℕ) → SaysTwo line rate reel → s.headed ≡ false → is_rate rate ≡ false → Wrong s line false NoSuchRate
+  no_reel : (rate reel : ℕ) → SaysTwo line rate reel → s.headed ≡ false → is_rate rate ≡ true → 4294967295 < reel → Wrong s line false NoSuchReel
   many : (first end : ℕ) → SaysTwo line first end → s.headed ≡ true → 256 ≤ s.shards → Wrong s line false ManyShards
   empty : (first end : ℕ) → SaysTwo line first end → s.headed ≡ true → s.shards < 256 → end ≤ first → Wrong s line false EmptyShard
   early : (first end : ℕ) → SaysTwo line first end → s.headed ≡ true → s.shards < 256 → first < end → first < s.last
       → Wrong s line false EarlyShard
   past : (first end : ℕ) → SaysTwo line first end → s.headed ≡ true → s.shards < 256 → first < end → s.last ≤ first
-      → dayFrames s.rate < end → Wrong s line false PastDay
+      → day_frames s.rate < end → Wrong s line false PastDay
 
 -- a line is bad exactly when that is wrong with it
 abbrev pub LineBad : Type 0
@@ -103,36 +103,36 @@ LineBad = (s : Loading) (line : List ℕ) (over : Bool) (flaw : Flaw) → Wrong 
 
 -- a file is its lines in turn, each loaded behind those before it: the shards in order, up to the first bad line, before which so many stand
 pub record LinesInTurn : Type 0 where
-  pub start : (lines : List Kept) → loadedOf lines ≡ loadedFrom 0 noLine lines
-  pub over : (n : ℕ) (s : Loading) → loadedFrom n s [] ≡ whole s [] []
+  pub start : (lines : List Kept) → loaded_of lines ≡ loaded_from 0 no_line lines
+  pub over : (n : ℕ) (s : Loading) → loaded_from n s [] ≡ whole s [] []
   pub skipped : (n : ℕ) (s : Loading) (k : Kept) (lines : List Kept) → load_of s k.bytes k.over ≡ loaded.Skipped
-      → loadedFrom n s (k ∷ lines) ≡ loadedFrom (n + 1) s lines
+      → loaded_from n s (k ∷ lines) ≡ loaded_from (n + 1) s lines
   pub head : (n : ℕ) (s t : Loading) (k : Kept) (lines : List Kept) → load_of s k.bytes k.over ≡ loaded.Head t
-      → loadedFrom n s (k ∷ lines) ≡ loadedFrom (n + 1) t lines
+      → loaded_from n s (k ∷ lines) ≡ loaded_from (n + 1) t lines
   pub shard : (n : ℕ) (s t u : Loading) (k : Kept) (lines : List Kept) (first end : ℕ) (firsts ends : List ℕ)
-      → load_of s k.bytes k.over ≡ loaded.Shard first end t → loadedFrom (n + 1) t lines ≡ whole u firsts ends
-      → loadedFrom n s (k ∷ lines) ≡ whole u (first ∷ firsts) (end ∷ ends)
+      → load_of s k.bytes k.over ≡ loaded.Shard first end t → loaded_from (n + 1) t lines ≡ whole u firsts ends
+      → loaded_from n s (k ∷ lines) ≡ whole u (first ∷ firsts) (end ∷ ends)
   pub bad : (n : ℕ) (s : Loading) (k : Kept) (lines : List Kept) (flaw : Flaw) → load_of s k.bytes k.over ≡ loaded.Bad flaw
-      → loadedFrom n s (k ∷ lines) ≡ broken n flaw
-  pub bad-later : (n m : ℕ) (s t : Loading) (k : Kept) (lines : List Kept) (first end : ℕ) (flaw : Flaw)
-      → load_of s k.bytes k.over ≡ loaded.Shard first end t → loadedFrom (n + 1) t lines ≡ broken m flaw
-      → loadedFrom n s (k ∷ lines) ≡ broken m flaw
+      → loaded_from n s (k ∷ lines) ≡ broken n flaw
+  pub bad_later : (n m : ℕ) (s t : Loading) (k : Kept) (lines : List Kept) (first end : ℕ) (flaw : Flaw)
+      → load_of s k.bytes k.over ≡ loaded.Shard first end t → loaded_from (n + 1) t lines ≡ broken m flaw
+      → loaded_from n s (k ∷ lines) ≡ broken m flaw
 
 -- what the lines of a file made: its rate, its reel and its shards, in order
 pub record Loads (lines : List Kept) (rate reel : ℕ) (firsts ends : List ℕ) : Type 0 where
   pub state : Loading
-  pub is : loadedOf lines ≡ whole state firsts ends
+  pub is : loaded_of lines ≡ whole state firsts ends
   pub headed : state.headed ≡ true
-  pub rate-is : state.rate ≡ rate
-  pub reel-is : state.reel ≡ reel
+  pub rate_is : state.rate ≡ rate
+  pub reel_is : state.reel ≡ reel
   pub count : state.shards ≡ length firsts
 
 -- what is right of a file: its lines spell a directory, there is such a rate and such a reel, and the router's rules are kept
 pub record Right (lines : List Kept) (rate reel : ℕ) (firsts ends : List ℕ) : Type 0 where
   pub spells : Spells lines rate reel firsts ends
-  pub rated : isRate rate ≡ true
+  pub rated : is_rate rate ≡ true
   pub most : reel ≤ 4294967295
-  pub rules : Rules (dayFrames rate) firsts ends
+  pub rules : Rules (day_frames rate) firsts ends
 
 -- a file is loaded exactly when all that is right of it: no line of it is bad, and the shards are those that it spells
 abbrev pub FileLoaded : Type 0
@@ -143,13 +143,13 @@ FileLoaded =
 abbrev pub LoadedPasses : Type 0
 LoadedPasses =
     (lines : List Kept) (rate reel : ℕ) (firsts ends : List ℕ) → Loads lines rate reel firsts ends
-    → (directoryOf rate firsts ends).verdict ≡ Passed
+    → (directory_of rate firsts ends).verdict ≡ Passed
 
 -- ---- a query
 -- it is understood, and the label is what stands from its place on
 pub record Understood (line : List ℕ) (length : ℤ) (label : List ℕ) : Type 0 where
   pub at : ℕ
-  pub asked : queryOf line ≡ Asked length at
+  pub asked : query_of line ≡ Asked length at
   pub rest : drop at line ≡ label
 
 -- a line is understood as a query exactly when the grammar has it so
@@ -161,64 +161,64 @@ QueryUnderstood = (line : List ℕ) (length : ℤ) (label : List ℕ) → Asks l
 abbrev pub AnswerStands : Type 0
 AnswerStands =
     (s : Sheet) (d : Directory) (reel : ℕ) (line : List ℕ) (over : Bool)
-    → s.used + length (together (answerPieces d reel line over)) ≤ length s.bytes
-    → textOn (allOn s (answerPieces d reel line over)) ≡ textOn s ++ together (answerPieces d reel line over)
+    → s.used + length (together (answer_pieces d reel line over)) ≤ length s.bytes
+    → text_on (all_on s (answer_pieces d reel line over)) ≡ text_on s ++ together (answer_pieces d reel line over)
 
 -- so it is with what is told of a bad line
 abbrev pub FlawStands : Type 0
 FlawStands =
-    (s : Sheet) (line : ℕ) (flaw : Flaw) → s.used + length (together (flawPieces line flaw)) ≤ length s.bytes
-    → textOn (allOn s (flawPieces line flaw)) ≡ textOn s ++ together (flawPieces line flaw)
+    (s : Sheet) (line : ℕ) (flaw : Flaw) → s.used + length (together (flaw_pieces line flaw)) ≤ length s.bytes
+    → text_on (all_on s (flaw_pieces line flaw)) ≡ text_on s ++ together (flaw_pieces line flaw)
 
 -- the answer to a line, asked of the directory of a file
-abbrev pub answerText : (rate : ℕ) (firsts ends : List ℕ) (reel : ℕ) (line : List ℕ) → List ℕ
-answerText rate firsts ends reel line = together (answerPieces (directoryOf rate firsts ends) reel line false)
+abbrev pub answer_text : (rate : ℕ) (firsts ends : List ℕ) (reel : ℕ) (line : List ℕ) → List ℕ
+answer_text rate firsts ends reel line = together (answer_pieces (directory_of rate firsts ends) reel line false)
 
 -- of several shards the first and the last that the router gives are told, both of them asked, and the reel
 abbrev pub SomeTold : Type 0
 SomeTold =
     (rate : ℕ) (firsts ends : List ℕ) (reel : ℕ) (line : List ℕ) (z : ℤ) (label : List ℕ) (first after : ℕ) → Asks line z label
-    → routeOf rate firsts ends z label ≡ Shards first after → first + 1 < after
-    → answerText rate firsts ends reel line
+    → route_of rate firsts ends z label ≡ Shards first after → first + 1 < after
+    → answer_text rate firsts ends reel line
     ≡ spelt "shards "
-    ++ (signedText false first
-    ++ (spelt " to " ++ (signedText false (after - 1) ++ (spelt " of reel " ++ (signedText false reel ++ (10 ∷ []))))))
+    ++ (signed_text false first
+    ++ (spelt " to " ++ (signed_text false (after - 1) ++ (spelt " of reel " ++ (signed_text false reel ++ (10 ∷ []))))))
 
 -- of one alone it is told
 abbrev pub OneTold : Type 0
 OneTold =
     (rate : ℕ) (firsts ends : List ℕ) (reel : ℕ) (line : List ℕ) (z : ℤ) (label : List ℕ) (first : ℕ) → Asks line z label
-    → routeOf rate firsts ends z label ≡ Shards first (first + 1)
-    → answerText rate firsts ends reel line
-    ≡ spelt "shard " ++ (signedText false first ++ (spelt " of reel " ++ (signedText false reel ++ (10 ∷ []))))
+    → route_of rate firsts ends z label ≡ Shards first (first + 1)
+    → answer_text rate firsts ends reel line
+    ≡ spelt "shard " ++ (signed_text false first ++ (spelt " of reel " ++ (signed_text false reel ++ (10 ∷ []))))
 
 -- and where the router gives none, that there is none
 abbrev pub NoneTold : Type 0
 NoneTold =
     (rate : ℕ) (firsts ends : List ℕ) (reel : ℕ) (line : List ℕ) (z : ℤ) (label : List ℕ) (first after : ℕ) → Asks line z label
-    → routeOf rate firsts ends z label ≡ Shards first after → after ≤ first
-    → answerText rate firsts ends reel line ≡ spelt "no shard of reel " ++ (signedText false reel ++ (10 ∷ []))
+    → route_of rate firsts ends z label ≡ Shards first after → after ≤ first
+    → answer_text rate firsts ends reel line ≡ spelt "no shard of reel " ++ (signed_text false reel ++ (10 ∷ []))
 
 -- of a refusal the router's number, its place, and the phrase of the number
 abbrev pub RefusedTold : Type 0
 RefusedTold =
     (rate : ℕ) (firsts ends : List ℕ) (reel : ℕ) (line : List ℕ) (z : ℤ) (label : List ℕ) (e : Refusal) → Asks line z label
-    → routeOf rate firsts ends z label ≡ Refused e
-    → answerText rate firsts ends reel line
+    → route_of rate firsts ends z label ≡ Refused e
+    → answer_text rate firsts ends reel line
     ≡ spelt "refused "
-    ++ (signedText false e.number ++ (32 ∷ signedText false e.place ++ (spelt ": " ++ (phraseOf e.number ++ (10 ∷ [])))))
+    ++ (signed_text false e.number ++ (32 ∷ signed_text false e.place ++ (spelt ": " ++ (phrase_of e.number ++ (10 ∷ [])))))
 
 -- a line that the grammar does not have is not understood
 abbrev pub OtherTold : Type 0
 OtherTold =
     (rate : ℕ) (firsts ends : List ℕ) (reel : ℕ) (line : List ℕ) → ((z : ℤ) (label : List ℕ) → Asks line z label → ⊥)
-    → answerText rate firsts ends reel line ≡ spelt "not understood: a query is LENGTH LABEL" ++ (10 ∷ [])
+    → answer_text rate firsts ends reel line ≡ spelt "not understood: a query is LENGTH LABEL" ++ (10 ∷ [])
 
 -- nor is one that has more bytes than are kept
 abbrev pub LongTold : Type 0
 LongTold =
     (d : Directory) (reel : ℕ) (line : List ℕ)
-    → together (answerPieces d reel line true) ≡ spelt "not understood: a query is LENGTH LABEL" ++ (10 ∷ [])
+    → together (answer_pieces d reel line true) ≡ spelt "not understood: a query is LENGTH LABEL" ++ (10 ∷ [])
 
 -- numbers of an answer that have room in 64 bits, as all that are computed have
 abbrev pub Wide : Routed → Type 0
@@ -227,27 +227,27 @@ Wide (Refused e) = (e.number < 2 ^ 64) × (e.place < 2 ^ 64)
 
 -- so no answer of the router's has over 256 bytes
 abbrev pub AnswerShort : Type 0
-AnswerShort = (reel : ℕ) (r : Routed) → reel < 2 ^ 64 → Wide r → length (together (routedPieces reel r)) ≤ 256
+AnswerShort = (reel : ℕ) (r : Routed) → reel < 2 ^ 64 → Wide r → length (together (routed_pieces reel r)) ≤ 256
 
 -- the answers read so in plain words, one case of each
 pub record AnswersRead : Type 0 where
-  pub some : together (routedPieces 12 (Shards 3 8)) ≡ spelt "shards 3 to 7 of reel 12" ++ (10 ∷ [])
-  pub two : together (routedPieces 0 (Shards 0 2)) ≡ spelt "shards 0 to 1 of reel 0" ++ (10 ∷ [])
-  pub one : together (routedPieces 12 (Shards 3 4)) ≡ spelt "shard 3 of reel 12" ++ (10 ∷ [])
-  pub none : together (routedPieces 4294967295 (Shards 0 0)) ≡ spelt "no shard of reel 4294967295" ++ (10 ∷ [])
-  pub refused : together (routedPieces 12 (Refused (record { number = 1; place = 10 }))) ≡ spelt "refused 1 10: not in a form that can be read" ++ (10 ∷ [])
-  pub past : together (routedPieces 12 (Refused (record { number = 17; place = 0 }))) ≡ spelt "refused 17 0: a query that ends past the day" ++ (10 ∷ [])
+  pub some : together (routed_pieces 12 (Shards 3 8)) ≡ spelt "shards 3 to 7 of reel 12" ++ (10 ∷ [])
+  pub two : together (routed_pieces 0 (Shards 0 2)) ≡ spelt "shards 0 to 1 of reel 0" ++ (10 ∷ [])
+  pub one : together (routed_pieces 12 (Shards 3 4)) ≡ spelt "shard 3 of reel 12" ++ (10 ∷ [])
+  pub none : together (routed_pieces 4294967295 (Shards 0 0)) ≡ spelt "no shard of reel 4294967295" ++ (10 ∷ [])
+  pub refused : together (routed_pieces 12 (Refused (record { number = 1; place = 10 }))) ≡ spelt "refused 1 10: not in a form that can be read" ++ (10 ∷ [])
+  pub past : together (routed_pieces 12 (Refused (record { number = 17; place = 0 }))) ≡ spelt "refused 17 0: a query that ends past the day" ++ (10 ∷ [])
 
 -- and what is told of a bad line
 pub record FlawsRead : Type 0 where
-  pub long : together (flawPieces 1 TooLong) ≡ spelt "line 1: too long" ++ (10 ∷ [])
-  pub numbers : together (flawPieces 2 NotTwoNumbers) ≡ spelt "line 2: not two numbers" ++ (10 ∷ [])
-  pub rate : together (flawPieces 3 NoSuchRate) ≡ spelt "line 3: no such rate (refused 6)" ++ (10 ∷ [])
-  pub reel : together (flawPieces 3 NoSuchReel) ≡ spelt "line 3: no such reel" ++ (10 ∷ [])
-  pub many : together (flawPieces 259 ManyShards) ≡ spelt "line 259: more than 256 shards (refused 16)" ++ (10 ∷ [])
-  pub empty : together (flawPieces 4 EmptyShard) ≡ spelt "line 4: the shard's end is not after its first frame (refused 16)" ++ (10 ∷ [])
-  pub early : together (flawPieces 4 EarlyShard) ≡ spelt "line 4: the shard begins before the one before it ends (refused 16)" ++ (10 ∷ [])
-  pub past : together (flawPieces 10 PastDay) ≡ spelt "line 10: the shard ends past the day (refused 16)" ++ (10 ∷ [])
+  pub long : together (flaw_pieces 1 TooLong) ≡ spelt "line 1: too long" ++ (10 ∷ [])
+  pub numbers : together (flaw_pieces 2 NotTwoNumbers) ≡ spelt "line 2: not two numbers" ++ (10 ∷ [])
+  pub rate : together (flaw_pieces 3 NoSuchRate) ≡ spelt "line 3: no such rate (refused 6)" ++ (10 ∷ [])
+  pub reel : together (flaw_pieces 3 NoSuchReel) ≡ spelt "line 3: no such reel" ++ (10 ∷ [])
+  pub many : together (flaw_pieces 259 ManyShards) ≡ spelt "line 259: more than 256 shards (refused 16)" ++ (10 ∷ [])
+  pub empty : together (flaw_pieces 4 EmptyShard) ≡ spelt "line 4: the shard's end is not after its first frame (refused 16)" ++ (10 ∷ [])
+  pub early : together (flaw_pieces 4 EarlyShard) ≡ spelt "line 4: the shard begins before the one before it ends (refused 16)" ++ (10 ∷ [])
+  pub past : together (flaw_pieces 10 PastDay) ≡ spelt "line 10: the shard ends past the day (refused 16)" ++ (10 ∷ [])
 
 -- and what is read, in plain bytes: lines of a directory file
 pub record EntriesRead : Type 0 where
@@ -265,10 +265,10 @@ pub record EntriesRead : Type 0 where
 
 -- and queries
 pub record QueriesRead : Type 0 where
-  pub query : queryOf (spelt "25 01:00") ≡ Asked (pos 25) 3
-  pub below : queryOf (spelt "-9 01:00") ≡ Asked (negsuc 8) 3
-  pub no_label : queryOf (spelt "10 ") ≡ Asked (pos 10) 3
-  pub no-space : queryOf (spelt "10") ≡ NotUnderstood
-  pub no_length : queryOf (spelt "01:00 25") ≡ NotUnderstood
-  pub blank : queryOf (spelt " 25 01:00") ≡ NotUnderstood
-  pub wide : queryOf (spelt "9223372036854775808 1") ≡ NotUnderstood
+  pub query : query_of (spelt "25 01:00") ≡ Asked (pos 25) 3
+  pub below : query_of (spelt "-9 01:00") ≡ Asked (negsuc 8) 3
+  pub no_label : query_of (spelt "10 ") ≡ Asked (pos 10) 3
+  pub no_space : query_of (spelt "10") ≡ NotUnderstood
+  pub no_length : query_of (spelt "01:00 25") ≡ NotUnderstood
+  pub blank : query_of (spelt " 25 01:00") ≡ NotUnderstood
+  pub wide : query_of (spelt "9223372036854775808 1") ≡ NotUnderstood

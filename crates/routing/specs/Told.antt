@@ -3,55 +3,55 @@
 use Rattle.std.specs.Prelude.{ℕ, ◌-◌, List, [], ◌∷◌, ◌++◌, Bool, false, cond, leb, eqb, drop}
 use Rattle.laws.specs.Spelt.{spelt}
 use Rattle.answers.specs.declared.Refusal.{Refusal}
-use Rattle.written.specs.Parts.{signedText}
-use Rattle.phrases.specs.Phrases.{phraseOf}
-use Rattle.streams.specs.Pieces.{lineEnd}
+use Rattle.written.specs.Parts.{signed_text}
+use Rattle.phrases.specs.Phrases.{phrase_of}
+use Rattle.streams.specs.Pieces.{line_end}
 use Rattle.router.specs.declared.many.Directory.{Directory}
 use Rattle.router.specs.declared.Routed.{Routed}
 use Rattle.router.specs.declared.Routed.TheVariants.{Shards, Refused}
-use Rattle.router.specs.Tested.{routedIn}
+use Rattle.router.specs.Tested.{routed_in}
 use Rattle.routing.specs.declared.queries.Query.{Query}
 use Rattle.routing.specs.declared.queries.Query.TheVariants.{Asked, NotUnderstood}
-use Rattle.routing.specs.Queries.{queryOf}
+use Rattle.routing.specs.Queries.{query_of}
 
 -- ---- the shards
-abbrev pub onePieces : (first : ℕ) → List (List ℕ)
-onePieces first = spelt "shard " ∷ signedText false first ∷ []
+abbrev pub one_pieces : (first : ℕ) → List (List ℕ)
+one_pieces first = spelt "shard " ∷ signed_text false first ∷ []
 
-abbrev pub somePieces : (first last : ℕ) → List (List ℕ)
-somePieces first last = spelt "shards " ∷ signedText false first ∷ spelt " to " ∷ signedText false last ∷ []
+abbrev pub some_pieces : (first last : ℕ) → List (List ℕ)
+some_pieces first last = spelt "shards " ∷ signed_text false first ∷ spelt " to " ∷ signed_text false last ∷ []
 
 -- from the first up to the one after the last: none, one alone, or the first and the last
-unfoldable pub whichPieces : (first after : ℕ) → List (List ℕ)
-whichPieces first after =
+unfoldable pub which_pieces : (first after : ℕ) → List (List ℕ)
+which_pieces first after =
     cond (leb after first) (spelt "no shard" ∷ [])
-    (cond (eqb (after - first) 1) (onePieces first) (somePieces first (after - 1)))
+    (cond (eqb (after - first) 1) (one_pieces first) (some_pieces first (after - 1)))
 
-unfoldable pub foundPieces : (reel first after : ℕ) → List (List ℕ)
-foundPieces reel first after = whichPieces first after ++ (spelt " of reel " ∷ signedText false reel ∷ lineEnd ∷ [])
+unfoldable pub found_pieces : (reel first after : ℕ) → List (List ℕ)
+found_pieces reel first after = which_pieces first after ++ (spelt " of reel " ∷ signed_text false reel ∷ line_end ∷ [])
 
 -- ---- a refusal: its number, its place in the label, and the phrase of the number
-unfoldable pub reasonPieces : Refusal → (phrase : List ℕ) → List (List ℕ)
-reasonPieces e phrase =
-    spelt "refused " ∷ signedText false e.number ∷ spelt " " ∷ signedText false e.place ∷ spelt ": " ∷ phrase ∷ lineEnd ∷ []
+unfoldable pub reason_pieces : Refusal → (phrase : List ℕ) → List (List ℕ)
+reason_pieces e phrase =
+    spelt "refused " ∷ signed_text false e.number ∷ spelt " " ∷ signed_text false e.place ∷ spelt ": " ∷ phrase ∷ line_end ∷ []
 
-abbrev pub refusedPieces : Refusal → List (List ℕ)
-refusedPieces e = reasonPieces e (phraseOf e.number)
+abbrev pub refused_pieces : Refusal → List (List ℕ)
+refused_pieces e = reason_pieces e (phrase_of e.number)
 
 -- ---- an answer
-abbrev pub routedPieces : (reel : ℕ) → Routed → List (List ℕ)
-routedPieces reel (Shards first after) = foundPieces reel first after
-routedPieces reel (Refused e) = refusedPieces e
+abbrev pub routed_pieces : (reel : ℕ) → Routed → List (List ℕ)
+routed_pieces reel (Shards first after) = found_pieces reel first after
+routed_pieces reel (Refused e) = refused_pieces e
 
 -- a line that is no query
-abbrev pub otherPieces : List (List ℕ)
-otherPieces = (spelt "not understood: a query is LENGTH LABEL" ++ lineEnd) ∷ []
+abbrev pub other_pieces : List (List ℕ)
+other_pieces = (spelt "not understood: a query is LENGTH LABEL" ++ line_end) ∷ []
 
 -- a line: what the router answers to the length and the label
-abbrev pub askedPieces : Directory → (reel : ℕ) (line : List ℕ) → Query → List (List ℕ)
-askedPieces d reel line (Asked length at) = routedPieces reel (routedIn d length (drop at line))
-askedPieces d reel line NotUnderstood = otherPieces
+abbrev pub asked_pieces : Directory → (reel : ℕ) (line : List ℕ) → Query → List (List ℕ)
+asked_pieces d reel line (Asked length at) = routed_pieces reel (routed_in d length (drop at line))
+asked_pieces d reel line NotUnderstood = other_pieces
 
 -- a line; one that has more bytes than are kept is no query
-unfoldable pub answerPieces : Directory → (reel : ℕ) (line : List ℕ) (over : Bool) → List (List ℕ)
-answerPieces d reel line over = cond over otherPieces (askedPieces d reel line (queryOf line))
+unfoldable pub answer_pieces : Directory → (reel : ℕ) (line : List ℕ) (over : Bool) → List (List ℕ)
+answer_pieces d reel line over = cond over other_pieces (asked_pieces d reel line (query_of line))

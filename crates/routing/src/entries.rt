@@ -1,6 +1,6 @@
 // A line of a directory file: nothing, or two numbers; blanks around them and between them, and a comment behind them.
 ghost use Rattle.std.specs.Prelude.{◌≡◌, drop};
-ghost use Rattle.routing.specs.Entries.{isBlank, is_over, pastBlanks, found_at, endedBy, secondIn, entry_of};
+ghost use Rattle.routing.specs.Entries.{is_blank, is_over, past_blanks, found_at, ended_by, second_in, entry_of};
 
 use asking::Word;
 
@@ -21,7 +21,7 @@ enum Found {
 
 // Is this byte a space, a tab or a carriage return?
 fn is_blank(b: u8) -> bool
-    ensures answer { result ≡ isBlank b }
+    ensures { result ≡ is_blank b }
 {
     if b == b' ' {
         return true;
@@ -34,7 +34,7 @@ fn is_blank(b: u8) -> bool
 
 // The place past the blanks that stand at a place.
 fn past_blanks(line: &[u8], at: usize) -> usize
-    ensures answer { drop result line.now ≡ pastBlanks (drop at line.now) }
+    ensures { drop result line.now ≡ past_blanks (drop at line.now) }
 {
     let mut i = at;
     while i < line.len() {
@@ -48,7 +48,7 @@ fn past_blanks(line: &[u8], at: usize) -> usize
 
 // Is the line over at a place? It ends there, or a comment begins.
 fn is_over(line: &[u8], at: usize) -> bool
-    ensures answer { result ≡ is_over (drop at line.now) }
+    ensures { result ≡ is_over (drop at line.now) }
 {
     if at < line.len() {
         return line[at] == b'#';
@@ -58,7 +58,7 @@ fn is_over(line: &[u8], at: usize) -> bool
 
 // The number that stands at a place: digits, with no sign.
 fn number_at(line: &[u8], at: usize) -> Found
-    ensures answer { result ≡ found_at at (drop at line.now) }
+    ensures { result ≡ found_at at (drop at line.now) }
 {
     if asking::stands(line, at, b'-') {
         return Found::Nothing;
@@ -71,7 +71,7 @@ fn number_at(line: &[u8], at: usize) -> Found
 
 // Behind two numbers the line is over.
 fn ended(line: &[u8], at: usize, first: u64, second: u64) -> Entry
-    ensures answer { result ≡ endedBy first second (pastBlanks (drop at line.now)) }
+    ensures { result ≡ ended_by first second (past_blanks (drop at line.now)) }
 {
     if is_over(line, past_blanks(line, at)) {
         return Entry::Numbers(first, second);
@@ -81,7 +81,7 @@ fn ended(line: &[u8], at: usize, first: u64, second: u64) -> Entry
 
 // Behind the first number and blanks the second.
 fn behind_first(line: &[u8], at: usize, first: u64) -> Entry
-    ensures answer { result ≡ secondIn first (pastBlanks (drop at line.now)) }
+    ensures { result ≡ second_in first (past_blanks (drop at line.now)) }
 {
     match number_at(line, past_blanks(line, at)) {
         Found::Number(second, next) => ended(line, next, first, second),
@@ -91,7 +91,7 @@ fn behind_first(line: &[u8], at: usize, first: u64) -> Entry
 
 // What a line of a directory file says.
 pub fn entry_of(line: &[u8]) -> Entry
-    ensures answer { result ≡ entry_of line.now }
+    ensures { result ≡ entry_of line.now }
 {
     let at = past_blanks(line, 0);
     if is_over(line, at) {

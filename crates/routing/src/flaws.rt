@@ -1,15 +1,15 @@
 // What is wrong with a line of a directory file, in words. The answer: how many bytes of the sheet are used then.
 ghost use Rattle.std.specs.Prelude.{◌≡◌};
-ghost use Rattle.streams.specs.Sheet.{sheet, putOn};
-ghost use Rattle.streams.specs.Pieces.{allOn};
-ghost use Rattle.routing.specs.Flaws.{flawText, flawPieces};
+ghost use Rattle.streams.specs.Sheet.{sheet, put_on};
+ghost use Rattle.streams.specs.Pieces.{all_on};
+ghost use Rattle.routing.specs.Flaws.{flaw_text, flaw_pieces};
 
 use crate::loading::Flaw;
 
 // The words of a flaw; with the number that the router refuses such a directory.
 fn put_flaw(out: &mut [u8], used: usize, flaw: Flaw) -> usize
-    ensures answer { result ≡ (putOn (sheet out.old used) (flawText flaw)).used }
-    ensures sheet { out.new ≡ (putOn (sheet out.old used) (flawText flaw)).bytes }
+    ensures answer { result ≡ (put_on (sheet out.old used) (flaw_text flaw)).used }
+    ensures sheet { out.new ≡ (put_on (sheet out.old used) (flaw_text flaw)).bytes }
 {
     match flaw {
         Flaw::TooLong => streams::put_text(out, used, b"too long"),
@@ -33,8 +33,8 @@ fn put_flaw(out: &mut [u8], used: usize, flaw: Flaw) -> usize
 
 // A line of the file by its number, and what is wrong with it.
 pub fn tell_flaw(out: &mut [u8], used: usize, line: u64, flaw: Flaw) -> usize
-    ensures answer { result ≡ (allOn (sheet out.old used) (flawPieces line flaw)).used }
-    ensures sheet { out.new ≡ (allOn (sheet out.old used) (flawPieces line flaw)).bytes }
+    ensures answer { result ≡ (all_on (sheet out.old used) (flaw_pieces line flaw)).used }
+    ensures sheet { out.new ≡ (all_on (sheet out.old used) (flaw_pieces line flaw)).bytes }
 {
     let a = streams::put_text(out, used, b"line ");
     let b = streams::put_signed(out, a, false, line);

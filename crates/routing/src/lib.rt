@@ -1,5 +1,7 @@
 // What the program `route` reads and tells (docs/ROUTING.md): a line of a directory file, the directory that its lines make, a line that is
 // a query, and the shards that are told. Refuses nothing itself: what the router refuses is told with its number.
+#![tactic(auto)]
+
 mod entries;
 mod flaws;
 mod loading;

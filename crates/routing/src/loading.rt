@@ -1,6 +1,6 @@
 // A directory as the lines of its file come: first the rate and the reel, then a shard a line. The shards' frames are the caller's to keep.
 ghost use Rattle.std.specs.Prelude.{◌≡◌};
-ghost use Rattle.routing.specs.Loading.{noLine, head_of, shardOf, numbersOf, load_of};
+ghost use Rattle.routing.specs.Loading.{no_line, head_of, shard_of, numbers_of, load_of};
 
 use crate::entries;
 use crate::entries::Entry;
@@ -40,7 +40,7 @@ pub enum Loaded {
 impl Loading {
     // No line yet.
     pub fn new() -> Loading
-        ensures answer { result ≡ noLine }
+        ensures { result ≡ no_line }
     {
         Loading {
             headed: false,
@@ -54,7 +54,7 @@ impl Loading {
 
 // The line of rate and reel.
 fn head(rate: u64, reel: u64) -> Loaded
-    ensures answer { result ≡ head_of rate reel }
+    ensures { result ≡ head_of rate reel }
 {
     if !rates::is_rate(rate) {
         return Loaded::Bad(Flaw::NoSuchRate);
@@ -73,7 +73,7 @@ fn head(rate: u64, reel: u64) -> Loaded
 
 // The line of a shard.
 fn shard(state: Loading, first: u64, end: u64) -> Loaded
-    ensures answer { result ≡ shardOf state first end }
+    ensures { result ≡ shard_of state first end }
 {
     if state.shards >= 256 {
         return Loaded::Bad(Flaw::ManyShards);
@@ -102,7 +102,7 @@ fn shard(state: Loading, first: u64, end: u64) -> Loaded
 
 // The two numbers of a line: rate and reel where they have not come yet, else a shard's first frame and end.
 fn two_numbers(state: Loading, first: u64, second: u64) -> Loaded
-    ensures answer { result ≡ numbersOf state first second }
+    ensures { result ≡ numbers_of state first second }
 {
     if state.headed {
         return shard(state, first, second);
@@ -112,7 +112,7 @@ fn two_numbers(state: Loading, first: u64, second: u64) -> Loaded
 
 // What comes of a line; `over` where it has more bytes than are kept.
 pub fn load(state: Loading, line: &[u8], over: bool) -> Loaded
-    ensures answer { result ≡ load_of state line.now over }
+    ensures { result ≡ load_of state line.now over }
 {
     if over {
         return Loaded::Bad(Flaw::TooLong);

@@ -1,6 +1,6 @@
 // A line that is a query: a length in frames, one space, and the label.
 ghost use Rattle.std.specs.Prelude.{◌≡◌, drop};
-ghost use Rattle.routing.specs.Queries.{askedAt, queryOf};
+ghost use Rattle.routing.specs.Queries.{asked_at, query_of};
 
 use asking::Word;
 
@@ -13,7 +13,7 @@ pub enum Query {
 
 // Behind the length a space, and the label.
 fn asked_at(line: &[u8], length: i64, next: usize) -> Query
-    ensures answer { result ≡ askedAt length next (drop next line.now) }
+    ensures { result ≡ asked_at length next (drop next line.now) }
 {
     if asking::stands(line, next, b' ') {
         return Query::Asked(length, next + 1);
@@ -23,7 +23,7 @@ fn asked_at(line: &[u8], length: i64, next: usize) -> Query
 
 // What a line asks.
 pub fn query_of(line: &[u8]) -> Query
-    ensures answer { result ≡ queryOf line.now }
+    ensures { result ≡ query_of line.now }
 {
     match asking::signed_at(line, 0) {
         Word::Number(length, next) => asked_at(line, length, next),

@@ -6,9 +6,9 @@ use mathlib.Core.Path.{◌≡◌, refl, sym, subst}
 use mathlib.Core.List.{List}
 use mathlib.Core.Bool.{Bool, true, false}
 use lib.IntN.{ℤ}
-use Rattle.answers.specs.Refusals.{isCount, held}
+use Rattle.answers.specs.Refusals.{is_count, held}
 use Rattle.answers.specs.Laws.{held_in, held_out}
-use Rattle.rates.specs.Rates.{isRate}
+use Rattle.rates.specs.Rates.{is_rate}
 use Rattle.timecodes.specs.declared.Answer.{Answer}
 use Rattle.timecodes.specs.declared.Answer.TheVariants.{At, Refused}
 use Rattle.timecodes.specs.Timecode.{placed, number_of}
@@ -16,10 +16,10 @@ use Rattle.scanner.specs.declared.text.Fit.{Fit}
 use Rattle.scanner.specs.declared.text.Fit.TheVariants.{Fits, TooLong, NoShape}
 use Rattle.scanner.specs.Shapes.{TextParts}
 use Rattle.runtime_scan.specs.Shape.{RuntimeShape, HasRuntimeShape}
-use Rattle.runtime_scan.specs.Runtime.{runtimeScan}
-use Rattle.runtime_scan.proofs.Statements.{runtime-fits, runtime-fit-long, runtime-fit-none, runtime-place-long}
-use Rattle.runtime_reading.specs.Reading.{readRuntime}
-use Rattle.runtime_reading.specs.ReadingLaws.{no-rate}
+use Rattle.runtime_scan.specs.Runtime.{runtime_scan}
+use Rattle.runtime_scan.proofs.Statements.{runtime_fits, runtime-fit-long, runtime-fit-none, runtime-place-long}
+use Rattle.runtime_reading.specs.Reading.{read_runtime}
+use Rattle.runtime_reading.specs.ReadingLaws.{no_rate}
 use Rattle.runtime_reading.specs.Statements.{RuntimeCount, CountOut}
 use Rattle.runtime_reading.proofs.Gives.{frame, counted, gives_none, gives-long, gives-count}
 
@@ -32,37 +32,37 @@ module _ (l : List ℕ) (rate : ℕ) where
   Cause (suc (suc (suc zero))) = ⊥
   Cause (suc (suc (suc (suc zero)))) = ⊥
   Cause (suc (suc (suc (suc (suc zero))))) = CountOut l rate
-  Cause (suc (suc (suc (suc (suc (suc n)))))) = isRate rate ≡ false
+  Cause (suc (suc (suc (suc (suc (suc n)))))) = is_rate rate ≡ false
 
   abbrev pub Told : Answer → Type 0
-  Told (At tc) = (tc.rate ≡ rate) × (RuntimeCount l rate tc.count × (isCount tc.count ≡ true))
+  Told (At tc) = (tc.rate ≡ rate) × (RuntimeCount l rate tc.count × (is_count tc.count ≡ true))
   Told (Refused e) = Cause e.number × (e.place ≡ 0)
 
-  by_count : (z : ℤ) → RuntimeCount l rate z → (t : Bool) → isCount z ≡ t → Told (placed rate (held z))
+  by_count : (z : ℤ) → RuntimeCount l rate z → (t : Bool) → is_count z ≡ t → Told (placed rate (held z))
   by_count z x true e = subst (λ a. Told (placed rate a)) (sym (held_in z e)) (refl, (x, e))
   by_count z x false e = subst (λ a. Told (placed rate a)) (sym (held_out z e)) (record { z = z; count = x; out = e }, refl)
 
-  by-fit : isRate rate ≡ true → (v : Fit) → (runtimeScan l).fit ≡ v → Told (readRuntime l rate)
+  by-fit : is_rate rate ≡ true → (v : Fit) → (runtime_scan l).fit ≡ v → Told (read_runtime l rate)
   by-fit r Fits e =
-      let h = (runtime-fits l).0 e in
+      let h = (runtime_fits l).0 e in
       let x = counted l rate r h.parts h.shape h.digits in
       let z = frame l rate r h.parts in
-      subst Told (sym (gives-count l rate r z x)) (by_count z x (isCount z) refl)
+      subst Told (sym (gives-count l rate r z x)) (by_count z x (is_count z) refl)
   by-fit r (TooLong place) e =
       let h = runtime-place-long l place (runtime-fit-long l place e) in subst Told (sym (gives-long l rate r h)) (h, refl)
   by-fit r (NoShape stop) e = let none = runtime-fit-none l stop e in subst Told (sym (gives_none l rate r none)) (none, refl)
 
-  by-rate : (t : Bool) → isRate rate ≡ t → Told (readRuntime l rate)
-  by-rate true r = by-fit r (runtimeScan l).fit refl
-  by-rate false r = subst Told (sym (no-rate l rate r)) (r, refl)
+  by-rate : (t : Bool) → is_rate rate ≡ t → Told (read_runtime l rate)
+  by-rate true r = by-fit r (runtime_scan l).fit refl
+  by-rate false r = subst Told (sym (no_rate l rate r)) (r, refl)
 
-  pub told : Told (readRuntime l rate)
-  told = by-rate (isRate rate) refl
+  pub told : Told (read_runtime l rate)
+  told = by-rate (is_rate rate) refl
 
   number_by : (a : Answer) (n : ℕ) → Told a → 0 < n → number_of a ≡ n → Cause n
   number_by (At tc) n t h e = absurd (omega arith)
   number_by (Refused f) n t h e = subst Cause e t.0
 
   -- a refusal's number tells its cause
-  pub cause : (n : ℕ) → 0 < n → number_of (readRuntime l rate) ≡ n → Cause n
-  cause n h e = number_by (readRuntime l rate) n told h e
+  pub cause : (n : ℕ) → 0 < n → number_of (read_runtime l rate) ≡ n → Cause n
+  cause n h e = number_by (read_runtime l rate) n told h e

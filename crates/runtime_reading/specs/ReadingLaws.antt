@@ -7,63 +7,63 @@ use Rattle.std.proofs.lemmas.Bool.{lt-leb}
 use Rattle.std.proofs.Math.IntN.{nat_abs}
 use Rattle.numbers.specs.Sign.{signed}
 use Rattle.numbers.specs.SignLaws.{abs-signed}
-use Rattle.numbers.specs.Nearest.{nearestN, nearestZ}
+use Rattle.numbers.specs.Nearest.{nearest_n, nearest_z}
 use Rattle.numbers.specs.NearestLaws.{near-exact, near-mono}
 use Rattle.numbers.specs.NearestSignedLaws.{nearest-abs}
 use Rattle.answers.specs.declared.Counted.TheVariants as counted
-use Rattle.answers.specs.Refusals.{noSuch, outOfBounds, mostCount, held}
+use Rattle.answers.specs.Refusals.{no_such, out_of_bounds, most_count, held}
 use Rattle.answers.specs.Laws.{held_out}
-use Rattle.rates.specs.Rates.{isRate, rateRow}
+use Rattle.rates.specs.Rates.{is_rate, rate_row}
 use Rattle.rates.specs.Rule.{sound}
 use Rattle.timecodes.specs.declared.Answer.TheVariants.{Refused}
 use Rattle.timecodes.specs.Timecode.{placed}
 use Rattle.timecodes.specs.AdmittedLaws.{placed-held}
-use Rattle.runtime_scan.specs.Runtime.{runtimeScan}
+use Rattle.runtime_scan.specs.Runtime.{runtime_scan}
 use Rattle.runtime_scan.specs.Statements.{RuntimeBounds}
-use Rattle.runtime_reading.specs.Reading.{wholeSeconds, timeIn, runtimeFrame, timeRead, readScan, readRuntime}
+use Rattle.runtime_reading.specs.Reading.{whole_seconds, time_in, runtime_frame, time_read, read_scan, read_runtime}
 
 -- ---- a text
 module _ (text : List ℕ) (rate : ℕ) where
-  pub no-rate : isRate rate ≡ false → readRuntime text rate ≡ Refused noSuch
-  unfolding readRuntime
-  no-rate e = simp e
+  pub no_rate : is_rate rate ≡ false → read_runtime text rate ≡ Refused no_such
+  unfolding read_runtime
+  no_rate e = simp e
 
-  pub read-scanned : isRate rate ≡ true → readRuntime text rate ≡ readScan rate (runtimeScan text)
-  unfolding readRuntime
+  pub read-scanned : is_rate rate ≡ true → read_runtime text rate ≡ read_scan rate (runtime_scan text)
+  unfolding read_runtime
   read-scanned e = simp e
 
 -- a time is its frame, held to the bounds
-pub timeRead-held : (rate : ℕ) (minus : Bool) (time : ℕ) → timeRead rate minus time ≡ placed rate (held (runtimeFrame rate minus time))
-unfolding timeRead
-timeRead-held rate minus time = sym (placed-held rate (runtimeFrame rate minus time))
+pub time_read-held : (rate : ℕ) (minus : Bool) (time : ℕ) → time_read rate minus time ≡ placed rate (held (runtime_frame rate minus time))
+unfolding time_read
+time_read-held rate minus time = sym (placed-held rate (runtime_frame rate minus time))
 
 -- ---- a time that is read: fields of at most 9 digits, and a short one times the frames of a second, wrap nowhere
 module _ (fields : List ℕ) (millionths : ℕ) (b : RuntimeBounds fields millionths) where
-  pub seconds-small : wholeSeconds fields < 4_000_000_000_000
+  pub seconds-small : whole_seconds fields < 4_000_000_000_000
   seconds-small = omega (arith, b.below 1, b.below 2, b.below 3)
 
   pub product_small :
-      (rate : ℕ) → isRate rate ≡ true → wholeSeconds fields ≤ 20_000_000
-      → timeIn fields millionths * (rateRow rate).numerator < 2_000_000_000_000_000_000
+      (rate : ℕ) → is_rate rate ≡ true → whole_seconds fields ≤ 20_000_000
+      → time_in fields millionths * (rate_row rate).numerator < 2_000_000_000_000_000_000
   product_small rate rated short =
-      let most : timeIn fields millionths ≤ 20_000_001_000_000 = omega (arith, b.fraction) in
-      omega (arith, mul-le-mul most (sound rate rated).numerator-most)
+      let most : time_in fields millionths ≤ 20_000_001_000_000 = omega (arith, b.fraction) in
+      omega (arith, mul-le-mul most (sound rate rated).numerator_most)
 
 -- ---- a long time: a second has at least 23 frames
-module _ (rate : ℕ) (minus : Bool) (seconds time : ℕ) (rated : isRate rate ≡ true) (whole : 1_000_000 * seconds ≤ time) where
-  frames-least : 23 * seconds ≤ nearestN (time * (rateRow rate).numerator) (1_000_000 * (rateRow rate).denominator)
+module _ (rate : ℕ) (minus : Bool) (seconds time : ℕ) (rated : is_rate rate ≡ true) (whole : 1_000_000 * seconds ≤ time) where
+  frames-least : 23 * seconds ≤ nearest_n (time * (rate_row rate).numerator) (1_000_000 * (rate_row rate).denominator)
   frames-least =
       let row = sound rate rated in
-      let n = 1_000_000 * (rateRow rate).denominator in
-      let step : 0 < n = omega (arith, row.denominator-pos) in
-      let less : 23 * seconds * n ≤ time * (rateRow rate).numerator = omega (arith, mul-le-mul whole row.slowest) in
-      omega (arith, near-exact (23 * seconds) n step, near-mono (23 * seconds * n) (time * (rateRow rate).numerator) n step less)
+      let n = 1_000_000 * (rate_row rate).denominator in
+      let step : 0 < n = omega (arith, row.denominator_pos) in
+      let less : 23 * seconds * n ≤ time * (rate_row rate).numerator = omega (arith, mul-le-mul whole row.slowest) in
+      omega (arith, near-exact (23 * seconds) n step, near-mono (23 * seconds * n) (time * (rate_row rate).numerator) n step less)
 
-  pub held-beyond : 20_000_000 < seconds → held (runtimeFrame rate minus time) ≡ counted.Refused outOfBounds
-  unfolding runtimeFrame
+  pub held-beyond : 20_000_000 < seconds → held (runtime_frame rate minus time) ≡ counted.Refused out_of_bounds
+  unfolding runtime_frame
   held-beyond long =
-      let a = time * (rateRow rate).numerator in
-      let n = 1_000_000 * (rateRow rate).denominator in
-      let z = nearestZ (signed minus a) n in
-      let size : nat_abs z ≡ nearestN a n = nearest-abs (signed minus a) n ∙ ap (λ (x : ℕ). nearestN x n) (abs-signed minus a) in
-      held_out z (lt-leb (nat_abs z) mostCount (omega (arith, size, frames-least)))
+      let a = time * (rate_row rate).numerator in
+      let n = 1_000_000 * (rate_row rate).denominator in
+      let z = nearest_z (signed minus a) n in
+      let size : nat_abs z ≡ nearest_n a n = nearest-abs (signed minus a) n ∙ ap (λ (x : ℕ). nearest_n x n) (abs-signed minus a) in
+      held_out z (lt-leb (nat_abs z) most_count (omega (arith, size, frames-least)))

@@ -1,12 +1,14 @@
 // A runtime's text read as a timecode of a kind at a rate: the frame nearest to its time, halves away from zero; a position is then reduced.
 // Refuses 6: no such rate; 1: no shape; 2: a field of over 9 digits or a fraction of over 6; 5: the count is out of a length's bounds; in
 // this order, each without a place.
+#![tactic(auto)]
+
 ghost use Rattle.std.specs.Prelude.{◌≡◌, true};
 ghost use Rattle.answers.specs.Refusals.{held};
-ghost use Rattle.rates.specs.Rates.{isRate};
+ghost use Rattle.rates.specs.Rates.{is_rate};
 ghost use Rattle.timecodes.specs.Made.{settled};
 ghost use Rattle.runtime_scan.specs.Statements.{RuntimeBounds};
-ghost use Rattle.runtime_reading.specs.Reading.{timeIn, runtimeFrame, readRuntime};
+ghost use Rattle.runtime_reading.specs.Reading.{time_in, runtime_frame, read_runtime};
 
 use answers::Counted;
 use scanner::Fit;
@@ -18,9 +20,9 @@ const MOST_RUNTIME: u64 = 20_000_000;
 // The frame nearest to a time of three fields, behind one that is 0, and millionths of a second. Refuses 5: it is out of bounds. Asks a
 // rate, and what a runtime's scan gives.
 fn nearest_frame(rate: u64, minus: bool, fields: [u64; 4], millionths: u64) -> Counted
-    requires rate { isRate rate ≡ true }
+    requires rate { is_rate rate ≡ true }
     requires time { RuntimeBounds fields millionths }
-    ensures answer { result ≡ held (runtimeFrame rate minus (timeIn fields millionths)) }
+    ensures { result ≡ held (runtime_frame rate minus (time_in fields millionths)) }
 {
     let seconds = 3600 * fields[1] + 60 * fields[2] + fields[3];
     if seconds > MOST_RUNTIME {
@@ -34,7 +36,7 @@ fn nearest_frame(rate: u64, minus: bool, fields: [u64; 4], millionths: u64) -> C
 
 // The length that a runtime's text reads as at a rate.
 fn read_length(text: &[u8], rate: u64) -> Answer
-    ensures answer { result ≡ readRuntime text.now rate }
+    ensures { result ≡ read_runtime text.now rate }
 {
     if !rates::is_rate(rate) {
         return Answer::Refused(answers::NO_SUCH);
@@ -56,7 +58,7 @@ fn read_length(text: &[u8], rate: u64) -> Answer
 
 // What a runtime's text reads as at a rate, as a timecode of a kind (vtc's `parse_runtime_str`).
 pub fn read_runtime(text: &[u8], rate: u64, kind: Kind) -> Answer
-    ensures answer { result ≡ settled kind (readRuntime text.now rate) }
+    ensures { result ≡ settled kind (read_runtime text.now rate) }
 {
     timecodes::settled(read_length(text, rate), kind)
 }

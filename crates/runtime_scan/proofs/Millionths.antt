@@ -7,10 +7,10 @@ use native.Mathlib.Omega.{arith}
 use native.Mathlib.Nat.{add-zero, add-suc, mul_assoc, pow-suc, pow-le-pow_right, mul-le-mul, mul-lt-mul_of_pos_right}
 use lib.ListN.{length}
 use mathlib.Core.Bool.{true}
-use Rattle.digits.specs.Digits.{allDigits, value_of, fieldValue}
+use Rattle.digits.specs.Digits.{all_digits, value_of, field_value}
 use Rattle.digits.proofs.Values.{value-below}
 use Rattle.digits.proofs.Runs.{field-value}
-use Rattle.runtime_scan.specs.Shape.{inMillionths}
+use Rattle.runtime_scan.specs.Shape.{in_millionths}
 
 -- at most by 10^6
 pub scale-most : (n : ℕ) → 10 ^ (6 - n) ≤ 10 ^ 6
@@ -30,7 +30,7 @@ below-scaled v n (suc k) h =
     (mul-lt-mul_of_pos_right (below-scaled v n k h) (omega arith))
 
 -- so there are fewer than 10^6 millionths
-pub fraction-below : (d : List ℕ) → allDigits d ≡ true → length d ≤ 6 → inMillionths (fieldValue d) (length d) < 10 ^ 6
+pub fraction-below : (d : List ℕ) → all_digits d ≡ true → length d ≤ 6 → in_millionths (field_value d) (length d) < 10 ^ 6
 fraction-below d a h =
     let e : length d + (6 - length d) ≡ 6 = omega arith in
     let b = below-scaled (value_of d) (length d) (6 - length d) (value-below d a) in

@@ -5,21 +5,21 @@ use Rattle.scanner.specs.declared.text.Fit.{Fit}
 use Rattle.scanner.specs.declared.text.Fit.TheVariants.{Fits}
 use Rattle.scanner.specs.declared.text.TextScan.{TextScan}
 use Rattle.scanner.specs.Justified.{zeros}
-use Rattle.scanner.specs.Text.{textScan}
+use Rattle.scanner.specs.Text.{text_scan}
 use Rattle.runtime_scan.specs.declared.RuntimeScan.{RuntimeScan}
-use Rattle.runtime_scan.specs.Shape.{runtimeGrammar, inMillionths}
+use Rattle.runtime_scan.specs.Shape.{runtime_grammar, in_millionths}
 
 -- a runtime, with its sign, its fields and its fraction
-abbrev pub fittingRuntime : (minus : Bool) (fields : List ℕ) (millionths : ℕ) → RuntimeScan
-fittingRuntime minus fields millionths = record { fit = Fits; minus = minus; fields = fields; millionths = millionths }
+abbrev pub fitting_runtime : (minus : Bool) (fields : List ℕ) (millionths : ℕ) → RuntimeScan
+fitting_runtime minus fields millionths = record { fit = Fits; minus = minus; fields = fields; millionths = millionths }
 
 -- no runtime: no sign, and all 0
-abbrev pub misfitRuntime : Fit → RuntimeScan
-misfitRuntime fit = record { fit = fit; minus = false; fields = zeros 4; millionths = 0 }
+abbrev pub misfit_runtime : Fit → RuntimeScan
+misfit_runtime fit = record { fit = fit; minus = false; fields = zeros 4; millionths = 0 }
 
 -- the last field is seconds, then leftward minutes, hours; the first of the four places stays 0
-abbrev pub runtimeFrom : TextScan → RuntimeScan
-runtimeFrom scan = record { fit = scan.fit; minus = scan.minus; fields = scan.fields; millionths = inMillionths scan.tail scan.digits }
+abbrev pub runtime_from : TextScan → RuntimeScan
+runtime_from scan = record { fit = scan.fit; minus = scan.minus; fields = scan.fields; millionths = in_millionths scan.tail scan.digits }
 
-unfoldable pub runtimeScan : List ℕ → RuntimeScan
-runtimeScan l = runtimeFrom (textScan runtimeGrammar l)
+unfoldable pub runtime_scan : List ℕ → RuntimeScan
+runtime_scan l = runtime_from (text_scan runtime_grammar l)

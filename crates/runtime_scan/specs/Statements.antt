@@ -6,29 +6,29 @@ use Rattle.digits.specs.Digits.{value_of}
 use Rattle.scanner.specs.declared.text.Fit.TheVariants.{Fits, TooLong, NoShape}
 use Rattle.scanner.specs.Justified.{justified, Below}
 use Rattle.scanner.specs.Shapes.{TextParts}
-use Rattle.runtime_scan.specs.Shape.{RuntimeShape, millionthsOf, runtimeLong, HasRuntimeShape, IsRuntime, LongRuntime}
-use Rattle.runtime_scan.specs.Runtime.{fittingRuntime, misfitRuntime, runtimeScan}
+use Rattle.runtime_scan.specs.Shape.{RuntimeShape, millionths_of, runtime_long, HasRuntimeShape, IsRuntime, LongRuntime}
+use Rattle.runtime_scan.specs.Runtime.{fitting_runtime, misfit_runtime, runtime_scan}
 
 -- a text of the shape, no field of over 9 digits and no fraction of over 6, reads as its sign, the values of its fields, right-justified,
 -- absent ones zero, and its fraction in millionths
 abbrev pub RuntimeReads : Type 0
 RuntimeReads =
-    (l : List ℕ) (p : TextParts) → RuntimeShape l p → runtimeLong p ≡ false
-    → runtimeScan l ≡ fittingRuntime p.minus (justified (map value_of p.fields)) (millionthsOf p.tail)
+    (l : List ℕ) (p : TextParts) → RuntimeShape l p → runtime_long p ≡ false
+    → runtime_scan l ≡ fitting_runtime p.minus (justified (map value_of p.fields)) (millionths_of p.tail)
 
 -- a text fits exactly when it has the shape, and no field has over 9 digits and no fraction over 6
 abbrev pub RuntimeFits : Type 0
-RuntimeFits = (l : List ℕ) → ((runtimeScan l).fit ≡ Fits) ↔ HasRuntimeShape l false
+RuntimeFits = (l : List ℕ) → ((runtime_scan l).fit ≡ Fits) ↔ HasRuntimeShape l false
 
 -- it is too long exactly when it has the shape, but a field has over 9 digits or the fraction over 6; the first such begins at the place
 abbrev pub RuntimeTooLong : Type 0
-RuntimeTooLong = (l : List ℕ) (place : ℕ) → (runtimeScan l ≡ misfitRuntime (TooLong place)) ↔ LongRuntime l place
+RuntimeTooLong = (l : List ℕ) (place : ℕ) → (runtime_scan l ≡ misfit_runtime (TooLong place)) ↔ LongRuntime l place
 
 -- it has no shape exactly when it has not this one; where the scan stopped is the length of the longest beginning that also begins a runtime
 abbrev pub RuntimeNoShape : Type 0
 RuntimeNoShape =
     (l : List ℕ) (stop : ℕ)
-    → (runtimeScan l ≡ misfitRuntime (NoShape stop)) ↔ (((p : TextParts) → ¬ RuntimeShape l p) × LongestBeginning IsRuntime l stop)
+    → (runtime_scan l ≡ misfit_runtime (NoShape stop)) ↔ (((p : TextParts) → ¬ RuntimeShape l p) × LongestBeginning IsRuntime l stop)
 
 -- a text has the shape in one way only
 abbrev pub OneRuntimeShape : Type 0
@@ -42,4 +42,4 @@ pub record RuntimeBounds (fields : List ℕ) (millionths : ℕ) : Type 0 where
 
 -- so it is with every text
 abbrev pub RuntimeBounded : Type 0
-RuntimeBounded = (l : List ℕ) → RuntimeBounds (runtimeScan l).fields (runtimeScan l).millionths
+RuntimeBounded = (l : List ℕ) → RuntimeBounds (runtime_scan l).fields (runtime_scan l).millionths

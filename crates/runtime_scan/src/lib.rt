@@ -1,6 +1,8 @@
 // A runtime's text taken apart: its sign, its fields, and its fraction in millionths, or why it is none.
+#![tactic(auto)]
+
 ghost use Rattle.std.specs.Prelude.{◌≡◌, ◌-◌, ◌^◌};
-ghost use Rattle.runtime_scan.specs.Runtime.{runtimeScan};
+ghost use Rattle.runtime_scan.specs.Runtime.{runtime_scan};
 
 use scanner::{Dividers, Fit, Grammar};
 
@@ -24,7 +26,7 @@ pub struct RuntimeScan {
 
 // What a fraction of count digits is multiplied by to be in millionths.
 fn scale(count: usize) -> u64
-    ensures answer { result ≡ 10 ^ (6 - count) }
+    ensures { result ≡ 10 ^ (6 - count) }
 {
     let mut k: usize = 6;
     let mut power: u64 = 1;
@@ -37,7 +39,7 @@ fn scale(count: usize) -> u64
 
 // The sign, the fields and the fraction of a runtime; the crate's runtime regex and what it captures.
 pub fn scan_runtime(text: &[u8]) -> RuntimeScan
-    ensures answer { result ≡ runtimeScan text.now }
+    ensures { result ≡ runtime_scan text.now }
 {
     let scan = scanner::scan_text(text, RUNTIME);
     let fit = scan.fit;

@@ -6,7 +6,7 @@ use mathlib.Core.List.{List, [], ◌∷◌}
 use native.Mathlib.Omega.{arith}
 use native.Mathlib.Nat.{pow-suc, one-le-pow, pow-le-pow_right, mul-le-mul}
 use lib.ListN.{get_or}
-use Rattle.answers.specs.Refusals.{mostCount}
+use Rattle.answers.specs.Refusals.{most_count}
 
 -- n numbers from x on, each ten times the one before it
 unfoldable pub tens : (n x : ℕ) → List ℕ
@@ -27,8 +27,8 @@ pub ten-most : (k : ℕ) → k ≤ 6 → 10 ^ k ≤ 1000000
 ten-most k h = pow-le-pow_right {n = 10} (omega arith) {i = k} {j = 6} h
 
 -- a count within its bounds, times a denominator, times a power of ten
-pub frames-most : (f d : ℕ) → f ≤ mostCount → d ≤ 1001 → f * d ≤ 400400000000
+pub frames-most : (f d : ℕ) → f ≤ most_count → d ≤ 1001 → f * d ≤ 400400000000
 frames-most f d h k = mul-le-mul h k
 
-pub units-most : (f d k : ℕ) → f ≤ mostCount → d ≤ 1001 → k ≤ 6 → f * d * 10 ^ k ≤ 400400000000000000
+pub units-most : (f d k : ℕ) → f ≤ most_count → d ≤ 1001 → k ≤ 6 → f * d * 10 ^ k ≤ 400400000000000000
 units-most f d k h e p = mul-le-mul (frames-most f d h e) (ten-most k p)

@@ -10,36 +10,36 @@ use lib.Dec.{leb}
 use lib.ListN.{length, take}
 use lib.Seq.{take-append_seam, take-append-add}
 use borrow.Author.Tests.{leb-true, leb-false, eqb-true}
-use Rattle.digits.specs.Digits.{is_byte, allDigits, IsField, firstIs, digitFirst, span, leading}
+use Rattle.digits.specs.Digits.{is_byte, all_digits, IsField, first_is, digit_first, span, leading}
 use Rattle.digits.proofs.Runs.{leading-field}
 use Rattle.scanner.specs.declared.fields.Dividers.{Dividers}
 use Rattle.scanner.specs.declared.fields.Dividers.TheVariants.{Colon, ColonOrSemicolon, Plus}
-use Rattle.scanner.specs.Scan.{dividerOf, lookedFor}
-use Rattle.scanner.specs.Fields.{no_field, fieldsIn}
+use Rattle.scanner.specs.Scan.{divider_of, looked_for}
+use Rattle.scanner.specs.Fields.{no_field, fields_in}
 use Rattle.scanner.specs.Shapes.{FieldsShape, last, more, pointed}
 use Rattle.scanner.proofs.Then.{passing}
 use Rattle.scanner.proofs.Fronts.{looked-passes}
 use Rattle.scanner.proofs.Bodies.{looked-open, point-some}
-use Rattle.scanner.proofs.Reach.{tailReach, reach, Begun, none, ends, goes, begun, reach-none, reach-last, reach-more}
+use Rattle.scanner.proofs.Reach.{tail_reach, reach, Begun, none, ends, goes, begun, reach-none, reach-last, reach-more}
 
 -- ---- a tail
 -- so far it begins one
 record Tails (most : ℕ) (r : List ℕ) : Type 0 where
   pub behind : List ℕ
   pub tail : List ℕ
-  pub digits : allDigits tail ≡ true
+  pub digits : all_digits tail ≡ true
   pub allowed : 0 < length tail → 0 < most
-  pub all : pointed tail ≡ take (tailReach most r) r ++ behind
+  pub all : pointed tail ≡ take (tail_reach most r) r ++ behind
 
 tail-begins : (most : ℕ) (r : List ℕ) → Tails most r
-unfolding allDigits
+unfolding all_digits
 tail-begins most r =
     ⊎_elim
     (λ e. record { behind = []; tail = []; digits = refl; allowed = λ h. omega arith; all = ap (λ (n : ℕ). take n r ++ []) (sym e) })
     (λ p. by p.byte p.rest p.passes p.all p.gives (span p.rest) refl)
-    (passing (lookedFor most (is_byte 46)) 0 (λ rest. suc (span rest)) r)
+    (passing (looked_for most (is_byte 46)) 0 (λ rest. suc (span rest)) r)
   where
-    by : (c : ℕ) (w : List ℕ) → lookedFor most (is_byte 46) c ≡ true → c ∷ w ≡ r → tailReach most r ≡ suc (span w)
+    by : (c : ℕ) (w : List ℕ) → looked_for most (is_byte 46) c ≡ true → c ∷ w ≡ r → tail_reach most r ≡ suc (span w)
         → (n : ℕ) → span w ≡ n → Tails most r
     by c w passes all gives zero e =
         let first : c ≡ 46 = eqb-true c 46 (looked-passes most (is_byte 46) c passes) in
@@ -66,7 +66,7 @@ tail-begins most r =
               ∙ ap (λ (x : ℕ). x ∷ leading w) (sym first)
               ∙ ap (λ (x : List ℕ). take (suc (span w)) x) all
               ∙ ap (λ (n : ℕ). take n r) (sym gives)
-              ∙ sym (append-nil (take (tailReach most r) r));
+              ∙ sym (append-nil (take (tail_reach most r) r));
         }
 
 module _ (d : Dividers) (tail : ℕ) where
@@ -77,13 +77,13 @@ module _ (d : Dividers) (tail : ℕ) where
   dividing ColonOrSemicolon = 58
   dividing Plus = 43
 
-  divides : (e : Dividers) → dividerOf e (dividing e) ≡ true
+  divides : (e : Dividers) → divider_of e (dividing e) ≡ true
   divides Colon = refl
   divides ColonOrSemicolon = refl
   divides Plus = refl
 
   zero_field : IsField (48 ∷ [])
-  unfolding allDigits
+  unfolding all_digits
   zero_field = record { some = omega arith; digits = refl }
 
   -- as many fields as may come
@@ -112,13 +112,13 @@ module _ (d : Dividers) (tail : ℕ) where
     pub last_digits : List ℕ
     pub shape : FieldsShape d k front fields
     pub enough : least ≤ length fields
-    pub digits : allDigits last_digits ≡ true
+    pub digits : all_digits last_digits ≡ true
     pub allowed : 0 < length last_digits → 0 < tail
     pub all : front ++ pointed last_digits ≡ take (reach d tail least k l) l ++ behind
 
   -- no field stands there
-  complete-none : (least k : ℕ) (l : List ℕ) → least ≤ suc k → fieldsIn d (suc k) l ≡ no_field → Completed least (suc k) l
-  unfolding allDigits
+  complete-none : (least k : ℕ) (l : List ℕ) → least ≤ suc k → fields_in d (suc k) l ≡ no_field → Completed least (suc k) l
+  unfolding all_digits
   complete-none least k l h e =
       let q = fill k in
       record {
@@ -134,11 +134,11 @@ module _ (d : Dividers) (tail : ℕ) where
       }
 
   -- one stands there, and no divider behind it
-  module _ (least k : ℕ) (f r : List ℕ) (i : IsField f) (stops : digitFirst r ≡ false) (other : firstIs (lookedFor k (dividerOf d)) r ≡ false) where
+  module _ (least k : ℕ) (f r : List ℕ) (i : IsField f) (stops : digit_first r ≡ false) (other : first_is (looked_for k (divider_of d)) r ≡ false) where
     complete-last : leb least 1 ≡ true → Completed least (suc k) (f ++ r)
     complete-last e =
         let t = tail-begins tail r in
-        let far = reach-last d tail least k f i r stops other ∙ ap (λ (x : Bool). cond x (length f + tailReach tail r) (length f)) e in
+        let far = reach-last d tail least k f i r stops other ∙ ap (λ (x : Bool). cond x (length f + tail_reach tail r) (length f)) e in
         record {
           behind = t.behind;
           front = f;
@@ -150,16 +150,16 @@ module _ (d : Dividers) (tail : ℕ) where
           allowed = t.allowed;
           all =
               ap (λ (x : List ℕ). f ++ x) t.all
-              ∙ sym (append_assoc f (take (tailReach tail r) r) t.behind)
-              ∙ ap (λ (x : List ℕ). x ++ t.behind) (sym (take-append-add f r (tailReach tail r)) ∙ ap (λ (n : ℕ). take n (f ++ r)) (sym far));
+              ∙ sym (append_assoc f (take (tail_reach tail r) r) t.behind)
+              ∙ ap (λ (x : List ℕ). x ++ t.behind) (sym (take-append-add f r (tail_reach tail r)) ∙ ap (λ (n : ℕ). take n (f ++ r)) (sym far));
         }
 
     complete-short : (j : ℕ) → suc j ≡ k → least ≤ suc k → leb least 1 ≡ false → Completed least (suc k) (f ++ r)
-    unfolding allDigits
+    unfolding all_digits
     complete-short j is h e =
         let q = fill j in
         let c = dividing d in
-        let far = reach-last d tail least k f i r stops other ∙ ap (λ (x : Bool). cond x (length f + tailReach tail r) (length f)) e in
+        let far = reach-last d tail least k f i r stops other ∙ ap (λ (x : Bool). cond x (length f + tail_reach tail r) (length f)) e in
         record {
           behind = c ∷ q.front;
           front = f ++ c ∷ q.front;
@@ -179,7 +179,7 @@ module _ (d : Dividers) (tail : ℕ) where
     complete-ends-by zero is h false e = absurd (omega (arith, leb-false least 1 e))
     complete-ends-by (suc j) is h false e = complete-short j is h e
 
-  complete-goes : (least k : ℕ) (f r : List ℕ) (c : ℕ) → IsField f → dividerOf d c ≡ true → lookedFor k (dividerOf d) c ≡ true
+  complete-goes : (least k : ℕ) (f r : List ℕ) (c : ℕ) → IsField f → divider_of d c ≡ true → looked_for k (divider_of d) c ≡ true
       → Completed (least - 1) k r → Completed least (suc k) (f ++ c ∷ r)
   complete-goes least k f r c i div looked q =
       let n = reach d tail (least - 1) k r in
@@ -205,7 +205,7 @@ module _ (d : Dividers) (tail : ℕ) where
   complete-by least k l h (none e s) lower = complete-none least k l h e
   complete-by least k l h (ends f r i stops other) lower = complete-ends-by least k f r i stops other k refl h (leb least 1) refl
   complete-by least k l h (goes f r c i div looked) lower =
-      complete-goes least k f r c i div looked (lower (least - 1) r (looked-open k c (dividerOf d) looked) (omega arith))
+      complete-goes least k f r c i div looked (lower (least - 1) r (looked-open k c (divider_of d) looked) (omega arith))
 
   pub complete : (k least : ℕ) (l : List ℕ) → 0 < k → least ≤ k → Completed least k l
   complete zero least l some h = absurd (omega arith)

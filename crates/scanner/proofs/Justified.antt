@@ -6,7 +6,7 @@ use mathlib.Core.List.{List, [], ◌∷◌, ◌++◌, map, append_assoc}
 use native.Mathlib.Omega.{arith}
 use lib.ListN.{length, drop, get_or, length-append, length-drop}
 use lib.Seq.{get_or-drop}
-use Rattle.digits.specs.Digits.{fieldValue}
+use Rattle.digits.specs.Digits.{field_value}
 use Rattle.digits.proofs.Runs.{field_below}
 use Rattle.scanner.specs.declared.fields.Dividers.{Dividers}
 use Rattle.scanner.specs.Shapes.{FieldsShape, last, more}
@@ -46,7 +46,7 @@ zeros-below (suc n) l b = below-cons 0 (zeros n ++ l) (omega arith) (zeros-below
 pub justified-below : (values : List ℕ) → Below values → Below (justified values)
 justified-below values b i = rw (get_or-drop (length values) (zeros 4 ++ values) i 0) (zeros-below 4 values b (length values + i))
 
-pub values-below : (d : Dividers) (k : ℕ) (l : List ℕ) (fields : List (List ℕ)) → FieldsShape d k l fields → Below (map fieldValue fields)
-values-below d k l fields (last {f = f} i) = below-cons (fieldValue f) [] (field_below f i.digits) below-nil
+pub values-below : (d : Dividers) (k : ℕ) (l : List ℕ) (fields : List (List ℕ)) → FieldsShape d k l fields → Below (map field_value fields)
+values-below d k l fields (last {f = f} i) = below-cons (field_value f) [] (field_below f i.digits) below-nil
 values-below d k l fields (more {k = j} {f = f} {l = r} {fs = fs} i c e t) =
-    below-cons (fieldValue f) (map fieldValue fs) (field_below f i.digits) (values-below d j r fs t)
+    below-cons (field_value f) (map field_value fs) (field_below f i.digits) (values-below d j r fs t)

@@ -7,15 +7,15 @@ use mathlib.Core.Bool.{Bool, true, false, ◌||◌, cond}
 use native.Mathlib.Omega.{arith}
 use lib.ListN.{length, length-append}
 use borrow.Author.Tests.{le-ltb, lt-ltb, ltb-true, ltb-false}
-use Rattle.digits.specs.Digits.{value_of, fieldValue, decimal}
+use Rattle.digits.specs.Digits.{value_of, field_value, decimal}
 use Rattle.digits.proofs.Runs.{field-value}
-use Rattle.digits.proofs.Width.{width-at-most, decimal-length, decimal-field}
+use Rattle.digits.proofs.Width.{width-at-most, decimal_length, decimal-field}
 use Rattle.scanner.specs.declared.fields.Dividers.{Dividers}
 use Rattle.scanner.specs.declared.fields.LongField.{LongField}
 use Rattle.scanner.specs.declared.fields.LongField.TheVariants.{Nowhere, At}
 use Rattle.scanner.specs.declared.text.Grammar.{Grammar}
-use Rattle.scanner.specs.Long.{is_over, isLong, fieldsLong, ShortField, PlacedField, placed, placedTail, firstLong, orLong}
-use Rattle.scanner.specs.Shapes.{FieldsShape, last, more, TextParts, someLong, fields_of, AllShort, FirstLong}
+use Rattle.scanner.specs.Long.{is_over, is_long, fields_long, ShortField, PlacedField, placed, placed_tail, first_long, or_long}
+use Rattle.scanner.specs.Shapes.{FieldsShape, last, more, TextParts, some_long, fields_of, AllShort, FirstLong}
 
 -- neither of two holds, if not one of them does
 pub neither : (p q : Bool) → (p || q) ≡ false → (p ≡ false) × (q ≡ false)
@@ -23,48 +23,48 @@ neither true q e = (e, cc)
 neither false q e = (refl, e)
 
 -- a field of at most 9 digits is not too long, and is read as its value
-pub not-long : (d : List ℕ) → ShortField d → isLong (length d) ≡ false
+pub not-long : (d : List ℕ) → ShortField d → is_long (length d) ≡ false
 not-long d f = le-ltb 9 (length d) f.short
 
-pub value-short : (d : List ℕ) → isLong (length d) ≡ false → fieldValue d ≡ value_of d
+pub value-short : (d : List ℕ) → is_long (length d) ≡ false → field_value d ≡ value_of d
 value-short d e = field-value d (ltb-false 9 (length d) e)
 
 -- and so are several
-pub values-short : (fields : List (List ℕ)) → fieldsLong fields ≡ false → map fieldValue fields ≡ map value_of fields
-unfolding fieldsLong
+pub values-short : (fields : List (List ℕ)) → fields_long fields ≡ false → map field_value fields ≡ map value_of fields
+unfolding fields_long
 values-short [] e = refl
 values-short (d ∷ ds) e =
-    let s = neither (isLong (length d)) (fieldsLong ds) e in
+    let s = neither (is_long (length d)) (fields_long ds) e in
     ap₂ (λ (x : ℕ) (y : List ℕ). x ∷ y) (value-short d s.0) (values-short ds s.1)
 
 -- a number below 10^9 in k digits at least
 pub written-short : (k n : ℕ) → k ≤ 9 → n < 10 ^ 9 → ShortField (decimal k n)
-written-short k n h l = record { is = decimal-field k n; short = omega (arith, decimal-length k n, width-at-most n 9 (omega arith) l) }
+written-short k n h l = record { is = decimal-field k n; short = omega (arith, decimal_length k n, width-at-most n 9 (omega arith) l) }
 
 -- ---- the first field that is too long
-pub or-nowhere : (x : LongField) → orLong x Nowhere ≡ x
+pub or-nowhere : (x : LongField) → or_long x Nowhere ≡ x
 or-nowhere Nowhere = refl
 or-nowhere (At place) = refl
 
 -- one that comes behind another
 pub or-next : (x : LongField) (t : Bool) (place : ℕ) (y : LongField)
-    → orLong x (cond t (At place) y) ≡ orLong (orLong x (cond t (At place) Nowhere)) y
+    → or_long x (cond t (At place) y) ≡ or_long (or_long x (cond t (At place) Nowhere)) y
 or-next Nowhere true place y = refl
 or-next Nowhere false place y = refl
 or-next (At p) t place y = refl
 
 -- of fields, and of what stands behind them
 pub long-join : (d : Dividers) (k : ℕ) (front : List ℕ) (fs : List (List ℕ)) → FieldsShape d k front fs → (at : ℕ) (behind : ℕ → List PlacedField)
-    → firstLong (placed behind at fs) ≡ orLong (firstLong (placed (λ place. []) at fs)) (firstLong (behind (at + length front + 1)))
-long-join d k front fs (last {f = f} i) at behind = or-next Nowhere (is_over 9 (length f)) at (firstLong (behind (at + length f + 1)))
+    → first_long (placed behind at fs) ≡ or_long (first_long (placed (λ place. []) at fs)) (first_long (behind (at + length front + 1)))
+long-join d k front fs (last {f = f} i) at behind = or-next Nowhere (is_over 9 (length f)) at (first_long (behind (at + length f + 1)))
 long-join d k front fs (more {k = j} {f = f} {l = m} {fs = gs} i c e t) at behind =
     let next = at + length f + 1 in
     let there : next + length m + 1 ≡ at + length front + 1 = omega (arith, length-append f (c ∷ m)) in
     ap (λ (x : LongField). cond (is_over 9 (length f)) (At at) x)
-    (long-join d j m gs t next behind ∙ ap (λ (n : ℕ). orLong (firstLong (placed (λ place. []) next gs)) (firstLong (behind n))) there)
-    ∙ by (is_over 9 (length f)) (firstLong (placed (λ place. []) next gs)) (firstLong (behind (at + length front + 1)))
+    (long-join d j m gs t next behind ∙ ap (λ (n : ℕ). or_long (first_long (placed (λ place. []) next gs)) (first_long (behind n))) there)
+    ∙ by (is_over 9 (length f)) (first_long (placed (λ place. []) next gs)) (first_long (behind (at + length front + 1)))
   where
-    by : (b : Bool) (x y : LongField) → cond b (At at) (orLong x y) ≡ orLong (cond b (At at) x) y
+    by : (b : Bool) (x y : LongField) → cond b (At at) (or_long x y) ≡ or_long (cond b (At at) x) y
     by true x y = refl
     by false x y = refl
 
@@ -73,18 +73,18 @@ abbrev pub is_some : LongField → Bool
 is_some Nowhere = false
 is_some (At place) = true
 
-some-placed : (behind : ℕ → List PlacedField) (b : Bool) → ((place : ℕ) → is_some (firstLong (behind place)) ≡ b)
-    → (place : ℕ) (fs : List (List ℕ)) → is_some (firstLong (placed behind place fs)) ≡ (fieldsLong fs || b)
-unfolding fieldsLong
+some-placed : (behind : ℕ → List PlacedField) (b : Bool) → ((place : ℕ) → is_some (first_long (behind place)) ≡ b)
+    → (place : ℕ) (fs : List (List ℕ)) → is_some (first_long (placed behind place fs)) ≡ (fields_long fs || b)
+unfolding fields_long
 some-placed behind b h place [] = h place
 some-placed behind b h place (d ∷ ds) =
-    by (isLong (length d)) (firstLong (placed behind (place + length d + 1) ds)) (fieldsLong ds) (some-placed behind b h (place + length d + 1) ds)
+    by (is_long (length d)) (first_long (placed behind (place + length d + 1) ds)) (fields_long ds) (some-placed behind b h (place + length d + 1) ds)
   where
     by : (t : Bool) (x : LongField) (y : Bool) → is_some x ≡ (y || b) → is_some (cond t (At place) x) ≡ ((t || y) || b)
     by true x y e = refl
     by false x y e = e
 
-some-tail : (most : ℕ) (tail : List ℕ) (place : ℕ) → is_some (firstLong (placedTail most tail place)) ≡ is_over most (length tail)
+some-tail : (most : ℕ) (tail : List ℕ) (place : ℕ) → is_some (first_long (placed_tail most tail place)) ≡ is_over most (length tail)
 some-tail most [] place = sym (le-ltb most 0 (omega arith))
 some-tail most (b ∷ tail) place = by (is_over most (length (b ∷ tail)))
   where
@@ -98,10 +98,10 @@ or_swap true false = refl
 or_swap false true = refl
 or_swap false false = refl
 
-pub some-long : (g : Grammar) (p : TextParts) → is_some (firstLong (fields_of g p)) ≡ someLong g p
+pub some-long : (g : Grammar) (p : TextParts) → is_some (first_long (fields_of g p)) ≡ some_long g p
 some-long g p =
-    some-placed (placedTail g.tail p.tail) (is_over g.tail (length p.tail)) (some-tail g.tail p.tail) _ p.fields
-    ∙ or_swap (fieldsLong p.fields) (is_over g.tail (length p.tail))
+    some-placed (placed_tail g.tail p.tail) (is_over g.tail (length p.tail)) (some-tail g.tail p.tail) _ p.fields
+    ∙ or_swap (fields_long p.fields) (is_over g.tail (length p.tail))
 
 -- which it is
 pub some-nowhere : (x : LongField) → is_some x ≡ false → x ≡ Nowhere
@@ -113,12 +113,12 @@ some-place Nowhere e = let z : ◌≡◌ {A = ℕ} 0 1 = cc in absurd (omega ari
 some-place (At place) e = (place, refl)
 
 -- which is the first
-pub first-told : (fs : List PlacedField) (place : ℕ) → firstLong fs ≡ At place → FirstLong fs place
+pub first-told : (fs : List PlacedField) (place : ℕ) → first_long fs ≡ At place → FirstLong fs place
 first-told [] place e = let z : ◌≡◌ {A = ℕ} 0 1 = cc in absurd (omega arith)
 first-told (f ∷ fs) place e = by (is_over f.most (length f.digits)) refl (first-told fs place) e
   where
-    by : (t : Bool) → is_over f.most (length f.digits) ≡ t → (firstLong fs ≡ At place → FirstLong fs place)
-        → cond t (At f.place) (firstLong fs) ≡ At place → FirstLong (f ∷ fs) place
+    by : (t : Bool) → is_over f.most (length f.digits) ≡ t → (first_long fs ≡ At place → FirstLong fs place)
+        → cond t (At f.place) (first_long fs) ≡ At place → FirstLong (f ∷ fs) place
     by true over later h = record {
       left = [];
       field = f;
@@ -141,10 +141,10 @@ first-told (f ∷ fs) place e = by (is_over f.most (length f.digits)) refl (firs
         }
 
 first_by : (left : List PlacedField) (field : PlacedField) (right : List PlacedField) → AllShort left → field.most < length field.digits
-    → firstLong (left ++ field ∷ right) ≡ At field.place
+    → first_long (left ++ field ∷ right) ≡ At field.place
 first_by [] field right short long = rw (lt-ltb field.most (length field.digits) long)
 first_by (f ∷ left) field right short long =
     rw (le-ltb f.most (length f.digits) short.0) (first_by left field right short.1 long)
 
-pub first_gives : (fs : List PlacedField) (place : ℕ) → FirstLong fs place → firstLong fs ≡ At place
-first_gives fs place q = ap firstLong (sym q.all) ∙ first_by q.left q.field q.right q.short q.long ∙ ap At q.there
+pub first_gives : (fs : List PlacedField) (place : ℕ) → FirstLong fs place → first_long fs ≡ At place
+first_gives fs place q = ap first_long (sym q.all) ∙ first_by q.left q.field q.right q.short q.long ∙ ap At q.there

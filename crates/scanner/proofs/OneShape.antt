@@ -7,12 +7,12 @@ use mathlib.Core.Bool.{Bool, true, false}
 use native.Mathlib.Omega.{arith}
 use lib.ListN.{length, drop}
 use lib.Seq.{drop-append_seam}
-use Rattle.digits.specs.Digits.{digitFirst}
+use Rattle.digits.specs.Digits.{digit_first}
 use Rattle.scanner.specs.declared.text.Grammar.{Grammar}
-use Rattle.scanner.specs.Fields.{Front, fieldsIn}
-use Rattle.scanner.specs.Shapes.{pointed, BodyShape, textParts, withMinus}
+use Rattle.scanner.specs.Fields.{Front, fields_in}
+use Rattle.scanner.specs.Shapes.{pointed, BodyShape, text_parts, with_minus}
 use Rattle.scanner.specs.Statements.{OneTextShape}
-use Rattle.scanner.proofs.Fronts.{frontOf, fields-complete}
+use Rattle.scanner.proofs.Fronts.{front_of, fields-complete}
 use Rattle.scanner.proofs.Bodies.{tail-stops, tail-ends}
 use Rattle.scanner.proofs.Signed.{body-begins}
 
@@ -24,9 +24,9 @@ point-one (a ∷ w) [] e = cc
 point-one (a ∷ w) (b ∷ v) e = cc
 
 pub body-front : (g : Grammar) (l : List ℕ) (fields : List (List ℕ)) (tail : List ℕ) (s : BodyShape g l fields tail)
-    → fieldsIn g.dividers g.most l ≡ frontOf fields (length s.front)
+    → fields_in g.dividers g.most l ≡ front_of fields (length s.front)
 body-front g l fields tail s =
-    ap (fieldsIn g.dividers g.most) (sym s.all)
+    ap (fields_in g.dividers g.most) (sym s.all)
     ∙ fields-complete g.dividers (pointed tail) (tail-stops tail) (tail-ends g.dividers tail) g.most s.front fields s.shape
 
 pub body-behind : (g : Grammar) (l : List ℕ) (fields : List (List ℕ)) (tail : List ℕ) (s : BodyShape g l fields tail)
@@ -41,15 +41,15 @@ body-one g l fs es w v s t =
     )
 
 -- ---- the sign
-pub sign-one : (m n : Bool) (l k : List ℕ) → digitFirst l ≡ true → digitFirst k ≡ true → withMinus m l ≡ withMinus n k → (m ≡ n) × (l ≡ k)
+pub sign-one : (m n : Bool) (l k : List ℕ) → digit_first l ≡ true → digit_first k ≡ true → with_minus m l ≡ with_minus n k → (m ≡ n) × (l ≡ k)
 sign-one true true l k h i e = (refl, cc)
 sign-one false false l k h i e = (refl, e)
-sign-one true false l k h i e = let z : false ≡ true = ap digitFirst e ∙ i in let y : ◌≡◌ {A = ℕ} 0 1 = cc in absurd (omega arith)
-sign-one false true l k h i e = let z : true ≡ false = sym h ∙ ap digitFirst e in let y : ◌≡◌ {A = ℕ} 0 1 = cc in absurd (omega arith)
+sign-one true false l k h i e = let z : false ≡ true = ap digit_first e ∙ i in let y : ◌≡◌ {A = ℕ} 0 1 = cc in absurd (omega arith)
+sign-one false true l k h i e = let z : true ≡ false = sym h ∙ ap digit_first e in let y : ◌≡◌ {A = ℕ} 0 1 = cc in absurd (omega arith)
 
-pub one-text-shape : OneTextShape
-one-text-shape g l p q s t =
+pub one_text_shape : OneTextShape
+one_text_shape g l p q s t =
     let o = sign-one p.minus q.minus s.body t.body
     (body-begins g s.body p.fields p.tail s.shape) (body-begins g t.body q.fields q.tail t.shape) (s.text ∙ sym t.text) in
     let b = body-one g t.body p.fields q.fields p.tail q.tail (rw o.1 at s.shape) t.shape in
-    ap₂ (λ (m : Bool) (fs : List (List ℕ)). textParts m fs p.tail) o.0 b.0 ∙ ap (textParts q.minus q.fields) b.1
+    ap₂ (λ (m : Bool) (fs : List (List ℕ)). text_parts m fs p.tail) o.0 b.0 ∙ ap (text_parts q.minus q.fields) b.1

@@ -10,28 +10,28 @@ use lib.Dec.{leb}
 use lib.ListN.{length, take, drop, length-append}
 use lib.Seq.{drop-append_seam, drop-append-add}
 use borrow.Author.Tests.{le-leb, lt-leb, leb-true, leb-false}
-use Rattle.digits.specs.Digits.{is_byte, allDigits, IsField, firstIs, digitFirst, span, leading}
+use Rattle.digits.specs.Digits.{is_byte, all_digits, IsField, first_is, digit_first, span, leading}
 use Rattle.digits.proofs.Runs.{span_run, span-stops, span-within, leading-rest, leading-field}
 use Rattle.scanner.specs.declared.fields.Dividers.{Dividers}
-use Rattle.scanner.specs.Scan.{dividerOf, lookedFor}
-use Rattle.scanner.specs.Then.{byteThen}
-use Rattle.scanner.specs.Fields.{Front, no_field, oneField, fieldAnd, fieldsIn}
+use Rattle.scanner.specs.Scan.{divider_of, looked_for}
+use Rattle.scanner.specs.Then.{byte_then}
+use Rattle.scanner.specs.Fields.{Front, no_field, one_field, field_and, fields_in}
 use Rattle.scanner.specs.Shapes.{FieldsShape, last, more, pointed}
 use Rattle.scanner.proofs.Answers.{looked-some}
 use Rattle.scanner.proofs.Then.{field-absent, field-run, byte-first, byte-not, passing}
-use Rattle.scanner.proofs.Fronts.{divider-no-digit, looked-not, looked-passes, looked-shape, goesOn, fields-suc}
+use Rattle.scanner.proofs.Fronts.{divider-no-digit, looked-not, looked-passes, looked-shape, goes_on, fields-suc}
 use Rattle.scanner.proofs.Bodies.{tail-ends}
 use Rattle.scanner.proofs.Past.{go-past, span-least, digits-most}
 
 -- ---- how far
 -- a tail reaches
-abbrev pub tailReach : (most : ℕ) → List ℕ → ℕ
-tailReach most l = byteThen (lookedFor most (is_byte 46)) 0 (λ rest. suc (span rest)) l
+abbrev pub tail_reach : (most : ℕ) → List ℕ → ℕ
+tail_reach most l = byte_then (looked_for most (is_byte 46)) 0 (λ rest. suc (span rest)) l
 
 -- fields that were found, and a tail behind them
-abbrev pub frontReach : (least most : ℕ) → Front → List ℕ → ℕ
-frontReach least most f l =
-    cond (f.found && leb least (length f.fields)) (f.taken + tailReach most (drop f.taken l)) f.taken
+abbrev pub front_reach : (least most : ℕ) → Front → List ℕ → ℕ
+front_reach least most f l =
+    cond (f.found && leb least (length f.fields)) (f.taken + tail_reach most (drop f.taken l)) f.taken
 
 leb-less : (least n : ℕ) → leb least (suc n) ≡ leb (least - 1) n
 leb-less least n = by (leb (least - 1) n) refl
@@ -54,70 +54,70 @@ cond-most false x y n h = omega arith
 
 -- ---- a tail
 -- it stays within the text
-tail_within : (most : ℕ) (l : List ℕ) → tailReach most l ≤ length l
+tail_within : (most : ℕ) (l : List ℕ) → tail_reach most l ≤ length l
 tail_within most l =
     ⊎_elim
     (λ e. omega (arith, e))
     (λ p. omega (arith, p.gives, ap length p.all, span-within p.rest))
-    (passing (lookedFor most (is_byte 46)) 0 (λ rest. suc (span rest)) l)
+    (passing (looked_for most (is_byte 46)) 0 (λ rest. suc (span rest)) l)
 
-tail-point : (most : ℕ) (r : List ℕ) → 0 < most → tailReach most (46 ∷ r) ≡ suc (span r)
+tail-point : (most : ℕ) (r : List ℕ) → 0 < most → tail_reach most (46 ∷ r) ≡ suc (span r)
 tail-point most r h =
-    byte-first (lookedFor most (is_byte 46)) 0 (λ rest. suc (span rest)) 46 r
+    byte-first (looked_for most (is_byte 46)) 0 (λ rest. suc (span rest)) 46 r
     (ap (λ (test : ℕ → Bool). test 46) (looked-some most (is_byte 46) (λ z. omega arith)))
 
 module _ (d : Dividers) (tail : ℕ) where
   -- fields in front of a text, one to k of them
   abbrev pub reach : (least k : ℕ) → List ℕ → ℕ
-  reach least k l = frontReach least tail (fieldsIn d k l) l
+  reach least k l = front_reach least tail (fields_in d k l) l
 
   -- ---- a text's first field: none, the last that stands there, or one with a divider behind it
   pub data Begun (k : ℕ) : List ℕ → Type 0 where
-    none : {l : List ℕ} → fieldsIn d (suc k) l ≡ no_field → span l ≡ 0 → Begun k l
-    ends : (f r : List ℕ) → IsField f → digitFirst r ≡ false → firstIs (lookedFor k (dividerOf d)) r ≡ false → Begun k (f ++ r)
-    goes : (f r : List ℕ) (c : ℕ) → IsField f → dividerOf d c ≡ true → lookedFor k (dividerOf d) c ≡ true → Begun k (f ++ c ∷ r)
+    none : {l : List ℕ} → fields_in d (suc k) l ≡ no_field → span l ≡ 0 → Begun k l
+    ends : (f r : List ℕ) → IsField f → digit_first r ≡ false → first_is (looked_for k (divider_of d)) r ≡ false → Begun k (f ++ r)
+    goes : (f r : List ℕ) (c : ℕ) → IsField f → divider_of d c ≡ true → looked_for k (divider_of d) c ≡ true → Begun k (f ++ c ∷ r)
 
-  begun-on : (k : ℕ) (f r : List ℕ) → IsField f → digitFirst r ≡ false → Begun k (f ++ r)
+  begun-on : (k : ℕ) (f r : List ℕ) → IsField f → digit_first r ≡ false → Begun k (f ++ r)
   begun-on k f [] i e = ends f [] i e refl
-  begun-on k f (c ∷ r) i e = by (lookedFor k (dividerOf d) c) refl
+  begun-on k f (c ∷ r) i e = by (looked_for k (divider_of d) c) refl
     where
-      by : (t : Bool) → lookedFor k (dividerOf d) c ≡ t → Begun k (f ++ c ∷ r)
-      by true h = goes f r c i (looked-passes k (dividerOf d) c h) h
+      by : (t : Bool) → looked_for k (divider_of d) c ≡ t → Begun k (f ++ c ∷ r)
+      by true h = goes f r c i (looked-passes k (divider_of d) c h) h
       by false h = ends f (c ∷ r) i e h
 
   pub begun : (k : ℕ) (l : List ℕ) → Begun k l
   begun k l = by (span l) refl
     where
       by : (n : ℕ) → span l ≡ n → Begun k l
-      by zero e = none (fields-suc d k l ∙ field-absent no_field (goesOn d k) l e) e
+      by zero e = none (fields-suc d k l ∙ field-absent no_field (goes_on d k) l e) e
       by (suc n) e = subst (Begun k) (leading-rest l) (begun-on k (leading l) (drop (span l) l) (leading-field l (λ z. omega arith)) (span-stops l))
 
   -- ---- how far it reaches
-  pub reach-none : (least k : ℕ) (l : List ℕ) → fieldsIn d (suc k) l ≡ no_field → reach least (suc k) l ≡ 0
-  reach-none least k l e = ap (λ (x : Front). frontReach least tail x l) e
+  pub reach-none : (least k : ℕ) (l : List ℕ) → fields_in d (suc k) l ≡ no_field → reach least (suc k) l ≡ 0
+  reach-none least k l e = ap (λ (x : Front). front_reach least tail x l) e
 
   module _ (least k : ℕ) (f : List ℕ) (i : IsField f) where
-    pub reach-last : (r : List ℕ) → digitFirst r ≡ false → firstIs (lookedFor k (dividerOf d)) r ≡ false
-        → reach least (suc k) (f ++ r) ≡ cond (leb least 1) (length f + tailReach tail r) (length f)
+    pub reach-last : (r : List ℕ) → digit_first r ≡ false → first_is (looked_for k (divider_of d)) r ≡ false
+        → reach least (suc k) (f ++ r) ≡ cond (leb least 1) (length f + tail_reach tail r) (length f)
     reach-last r stops other =
-        ap (λ (x : Front). frontReach least tail x (f ++ r))
+        ap (λ (x : Front). front_reach least tail x (f ++ r))
         (fields-suc d k (f ++ r)
-        ∙ field-run no_field (goesOn d k) f r i stops
-        ∙ byte-not (lookedFor k (dividerOf d)) (oneField f) (λ rest. fieldAnd f (fieldsIn d k rest)) r other)
-        ∙ ap (λ (x : List ℕ). cond (leb least 1) (length f + tailReach tail x) (length f)) (drop-append_seam f r)
+        ∙ field-run no_field (goes_on d k) f r i stops
+        ∙ byte-not (looked_for k (divider_of d)) (one_field f) (λ rest. field_and f (fields_in d k rest)) r other)
+        ∙ ap (λ (x : List ℕ). cond (leb least 1) (length f + tail_reach tail x) (length f)) (drop-append_seam f r)
 
-    pub reach-more : (c : ℕ) (r : List ℕ) → dividerOf d c ≡ true → lookedFor k (dividerOf d) c ≡ true
+    pub reach-more : (c : ℕ) (r : List ℕ) → divider_of d c ≡ true → looked_for k (divider_of d) c ≡ true
         → reach least (suc k) (f ++ c ∷ r) ≡ length f + suc (reach (least - 1) k r)
     reach-more c r divides looked =
-        let found = fieldsIn d k r in
+        let found = fields_in d k r in
         let n = length f in
         let enough = found.found && leb (least - 1) (length found.fields) in
-        ap (λ (x : Front). frontReach least tail x (f ++ c ∷ r))
+        ap (λ (x : Front). front_reach least tail x (f ++ c ∷ r))
         (fields-suc d k (f ++ c ∷ r)
-        ∙ field-run no_field (goesOn d k) f (c ∷ r) i (divider-no-digit d c divides)
-        ∙ byte-first (lookedFor k (dividerOf d)) (oneField f) (λ rest. fieldAnd f (fieldsIn d k rest)) c r looked)
+        ∙ field-run no_field (goes_on d k) f (c ∷ r) i (divider-no-digit d c divides)
+        ∙ byte-first (looked_for k (divider_of d)) (one_field f) (λ rest. field_and f (fields_in d k rest)) c r looked)
         ∙ rw (leb-less least (length found.fields), drop-append-add f (c ∷ r) (suc found.taken))
-        (cond-add enough n found.taken (tailReach tail (drop found.taken r)))
+        (cond-add enough n found.taken (tail_reach tail (drop found.taken r)))
 
   -- no farther than the text
   reach-within-by : (least k : ℕ) (l : List ℕ) → Begun k l → ((less : ℕ) (r : List ℕ) → reach less k r ≤ length r) → reach least (suc k) l ≤ length l
@@ -127,13 +127,13 @@ module _ (d : Dividers) (tail : ℕ) where
         arith,
         reach-last least k f i r stops other,
         length-append f r,
-        cond-most (leb least 1) (length f) (tailReach tail r) (length f + length r) (omega (arith, tail_within tail r)),
+        cond-most (leb least 1) (length f) (tail_reach tail r) (length f + length r) (omega (arith, tail_within tail r)),
       )
   reach-within-by least k l (goes f r c i divides looked) lower =
       omega (arith, reach-more least k f i c r divides looked, length-append f (c ∷ r), lower (least - 1) r)
 
   pub reach-within : (k least : ℕ) (l : List ℕ) → reach least k l ≤ length l
-  unfolding fieldsIn
+  unfolding fields_in
   reach-within zero least l = omega arith
   reach-within (suc k) least l = reach-within-by least k l (begun k l) (λ less r. reach-within k less r)
 
@@ -141,7 +141,7 @@ module _ (d : Dividers) (tail : ℕ) where
   span-reach-by : (least k : ℕ) (l : List ℕ) → Begun k l → span l ≤ reach least (suc k) l
   span-reach-by least k l (none e s) = omega (arith, s)
   span-reach-by least k l (ends f r i stops other) =
-      omega (arith, reach-last least k f i r stops other, span_run f r i.digits stops, cond-least (leb least 1) (length f) (tailReach tail r))
+      omega (arith, reach-last least k f i r stops other, span_run f r i.digits stops, cond-least (leb least 1) (length f) (tail_reach tail r))
   span-reach-by least k l (goes f r c i divides looked) =
       omega (arith, reach-more least k f i c r divides looked, span_run f (c ∷ r) i.digits (divider-no-digit d c divides))
 
@@ -149,7 +149,7 @@ module _ (d : Dividers) (tail : ℕ) where
   span-reach least k l = span-reach-by least k l (begun k l)
 
   -- ---- no beginning of a text of the shape goes farther
-  module _ (b w : List ℕ) (digits : allDigits w ≡ true) (allowed : 0 < length w → 0 < tail) where
+  module _ (b w : List ℕ) (digits : all_digits w ≡ true) (allowed : 0 < length w → 0 < tail) where
     -- past the last field comes the tail
     last-past : (least k : ℕ) → least ≤ 1 → (f : List ℕ) → IsField f → (past : ℕ) (rest : List ℕ) → past ≤ length rest
         → (v : List ℕ) → v ≡ w → take past rest ++ b ≡ pointed v → length f + past ≤ reach least (suc k) (f ++ rest)
@@ -159,14 +159,14 @@ module _ (d : Dividers) (tail : ℕ) where
     last-past least k h f i (suc past) (c ∷ r) within (a ∷ v) is e =
         let first : c ≡ 46 = cc in
         let later : take past r ++ b ≡ a ∷ v = cc in
-        let other = looked-not k (dividerOf d) (46 ∷ r) (tail-ends d (46 ∷ r)) in
+        let other = looked-not k (divider_of d) (46 ∷ r) (tail-ends d (46 ∷ r)) in
         let most = allowed (omega (arith, ap length is)) in
         let far = digits-most w digits past r b (omega arith) (later ∙ is) in
-        let reaches = reach-last least k f i (46 ∷ r) refl other ∙ ap (λ (t : Bool). cond t (length f + tailReach tail (46 ∷ r)) (length f)) (le-leb least 1 h) in
+        let reaches = reach-last least k f i (46 ∷ r) refl other ∙ ap (λ (t : Bool). cond t (length f + tail_reach tail (46 ∷ r)) (length f)) (le-leb least 1 h) in
         omega (arith, ap (λ (x : ℕ). reach least (suc k) (f ++ x ∷ r)) first, reaches, tail-point tail r most, far)
 
     -- past another field and its divider come the next ones
-    more-past : (least k : ℕ) (f : List ℕ) → IsField f → (c : ℕ) → dividerOf d c ≡ true → lookedFor k (dividerOf d) c ≡ true → (x : List ℕ)
+    more-past : (least k : ℕ) (f : List ℕ) → IsField f → (c : ℕ) → divider_of d c ≡ true → looked_for k (divider_of d) c ≡ true → (x : List ℕ)
         → ((n : ℕ) (r : List ℕ) → n ≤ length r → take n r ++ b ≡ x → n ≤ reach (least - 1) k r)
         → (past : ℕ) (rest : List ℕ) → past ≤ length rest → take past rest ++ b ≡ c ∷ x → length f + past ≤ reach least (suc k) (f ++ rest)
     more-past least k f i c divides looked x lower zero rest within e =

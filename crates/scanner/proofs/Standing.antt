@@ -7,8 +7,8 @@ use mathlib.Core.Bool.{Bool, true, false}
 use lib.ListN.{length, take, drop}
 use lib.Seq.{drop-drop, take-append_seam, drop-append_seam}
 use Rattle.scanner.specs.declared.fields.Dividers.{Dividers}
-use Rattle.scanner.specs.Long.{PlacedField, placed, placedTail}
-use Rattle.scanner.specs.Shapes.{FieldsShape, last, more, pointed, withMinus, Standing}
+use Rattle.scanner.specs.Long.{PlacedField, placed, placed_tail}
+use Rattle.scanner.specs.Shapes.{FieldsShape, last, more, pointed, with_minus, Standing}
 use Rattle.scanner.specs.Statements.{FieldsStand}
 
 -- a byte behind what stands at a place
@@ -28,18 +28,18 @@ module _ (text : List ℕ) (behind : ℕ → List PlacedField) (r : List ℕ)
       let here = e ∙ append_assoc f (c ∷ m) r in
       (ap (take (length f)) here ∙ take-append_seam f (c ∷ (m ++ r)), fields-stand-by j m gs t (at + length f + 1) (a-byte-on text at f (c ∷ (m ++ r)) here))
 
-tail-stands : (most : ℕ) (text tail : List ℕ) (place : ℕ) → drop place text ≡ drop 1 (pointed tail) → Standing text (placedTail most tail place)
+tail-stands : (most : ℕ) (text tail : List ℕ) (place : ℕ) → drop place text ≡ drop 1 (pointed tail) → Standing text (placed_tail most tail place)
 tail-stands most text [] place e = tt
 tail-stands most text (b ∷ tail) place e =
     (ap (take (length (b ∷ tail))) (e ∙ sym (append-nil (b ∷ tail))) ∙ take-append_seam (b ∷ tail) [], tt)
 
-behind-sign : (minus : Bool) (body : List ℕ) → drop (length (withMinus minus [])) (withMinus minus body) ≡ body
+behind-sign : (minus : Bool) (body : List ℕ) → drop (length (with_minus minus [])) (with_minus minus body) ≡ body
 behind-sign true body = refl
 behind-sign false body = refl
 
-pub fields-stand : FieldsStand
-fields-stand g l p t =
+pub fields_stand : FieldsStand
+fields_stand g l p t =
     let s = t.shape in
-    fields-stand-by l (placedTail g.tail p.tail) (pointed p.tail) (tail-stands g.tail l p.tail) g.dividers
-    g.most s.front p.fields s.shape (length (withMinus p.minus []))
-    (ap (drop (length (withMinus p.minus []))) (sym t.text) ∙ behind-sign p.minus t.body ∙ sym s.all)
+    fields-stand-by l (placed_tail g.tail p.tail) (pointed p.tail) (tail-stands g.tail l p.tail) g.dividers
+    g.most s.front p.fields s.shape (length (with_minus p.minus []))
+    (ap (drop (length (with_minus p.minus []))) (sym t.text) ∙ behind-sign p.minus t.body ∙ sym s.all)

@@ -8,8 +8,8 @@ use mathlib.Core.Bool.{true, false}
 use native.Mathlib.Omega.{arith}
 use lib.ListN.{length}
 use Rattle.beginnings.specs.Beginning.{LongestBeginning}
-use Rattle.beginnings.proofs.Statements.{one-longest}
-use Rattle.digits.specs.Digits.{value_of, fieldValue}
+use Rattle.beginnings.proofs.Statements.{one_longest}
+use Rattle.digits.specs.Digits.{value_of, field_value}
 use Rattle.digits.proofs.Runs.{field_below}
 use Rattle.scanner.specs.declared.fields.Dividers.{Dividers}
 use Rattle.scanner.specs.declared.text.Fit.{Fit}
@@ -18,11 +18,11 @@ use Rattle.scanner.specs.declared.text.Grammar.{Grammar}
 use Rattle.scanner.specs.declared.text.TextScan.{TextScan}
 use Rattle.scanner.specs.declared.fields.LongField.{LongField}
 use Rattle.scanner.specs.declared.fields.LongField.TheVariants.{Nowhere, At}
-use Rattle.scanner.specs.Long.{is_over, fieldsLong, firstLong}
+use Rattle.scanner.specs.Long.{is_over, fields_long, first_long}
 use Rattle.scanner.specs.Justified.{justified}
-use Rattle.scanner.specs.Text.{fitting, misfit, unlessLong, textScan}
-use Rattle.scanner.specs.Shapes.{FieldsShape, last, more, TextParts, TextShape, someLong, HasTextShape, OfGrammar, Possible, fields_of, LongText}
-use Rattle.scanner.specs.Statements.{partsRead, TextReads, FitSays, FitSound, StopLongest, ShapeAscii, FieldsStand, OneTextShape, TextBounds, TextBounded}
+use Rattle.scanner.specs.Text.{fitting, misfit, unless_long, text_scan}
+use Rattle.scanner.specs.Shapes.{FieldsShape, last, more, TextParts, TextShape, some_long, HasTextShape, OfGrammar, Possible, fields_of, LongText}
+use Rattle.scanner.specs.Statements.{parts_read, TextReads, FitSays, FitSound, StopLongest, ShapeAscii, FieldsStand, OneTextShape, TextBounds, TextBounded}
 use Rattle.scanner.proofs.Long.{neither, values-short, is_some, some-long, some-nowhere, some-place, first-told, first_gives}
 use Rattle.scanner.proofs.Justified.{justified-length, below-nil, zeros-below, justified-below, values-below}
 use Rattle.scanner.proofs.Signed as signed
@@ -31,106 +31,106 @@ use Rattle.scanner.proofs.Stops.{longest-stop}
 use Rattle.scanner.proofs.Standing as standing
 use Rattle.scanner.proofs.Ascii as ascii
 
-pub text-reads : TextReads
-text-reads = signed.text-reads
+pub text_reads : TextReads
+text_reads = signed.text_reads
 
-pub one-text-shape : OneTextShape
-one-text-shape = one.one-text-shape
+pub one_text_shape : OneTextShape
+one_text_shape = one.one_text_shape
 
 -- ---- each fit
 module _ (g : Grammar) (l : List ℕ) where
   -- a text of the shape is not without it
-  has-shape : (p : TextParts) (stop : ℕ) (long : LongField) → (unlessLong long (partsRead p)).fit ≡ NoShape stop → ⊥
+  has-shape : (p : TextParts) (stop : ℕ) (long : LongField) → (unless_long long (parts_read p)).fit ≡ NoShape stop → ⊥
   has-shape p stop (At place) e = let z : ◌≡◌ {A = ℕ} 0 1 = cc in omega arith
   has-shape p stop Nowhere e = let z : ◌≡◌ {A = ℕ} 0 1 = cc in omega arith
 
   -- something in it is too long, exactly where the first such field has a place
-  long-is : (p : TextParts) (long : LongField) → firstLong (fields_of g p) ≡ long → someLong g p ≡ is_some long
+  long-is : (p : TextParts) (long : LongField) → first_long (fields_of g p) ≡ long → some_long g p ≡ is_some long
   long-is p long e = sym (some-long g p) ∙ ap is_some e
 
-  shape-says : (p : TextParts) → TextShape g l p → (long : LongField) → firstLong (fields_of g p) ≡ long → FitSays g l (unlessLong long (partsRead p)).fit
+  shape-says : (p : TextParts) → TextShape g l p → (long : LongField) → first_long (fields_of g p) ≡ long → FitSays g l (unless_long long (parts_read p)).fit
   shape-says p shape (At place) e = record { parts = p; shape = shape; first = first-told (fields_of g p) place e }
   shape-says p shape Nowhere e = record { parts = p; shape = shape; digits = long-is p Nowhere e }
 
-  fit-says : FitSays g l (textScan g l).fit
+  fit-says : FitSays g l (text_scan g l).fit
   fit-says =
       ⊎_elim
       (λ e. subst (FitSays g l) (sym (ap (λ (x : TextScan). x.fit) e))
-      (λ p shape. has-shape p (signed.textStop g l) (firstLong (fields_of g p)) (ap (λ (x : TextScan). x.fit) (sym (text-reads g l p shape) ∙ e))))
-      (λ s. subst (FitSays g l) (sym (ap (λ (x : TextScan). x.fit) (text-reads g l s.0 s.1))) (shape-says s.0 s.1 (firstLong (fields_of g s.0)) refl))
+      (λ p shape. has-shape p (signed.text_stop g l) (first_long (fields_of g p)) (ap (λ (x : TextScan). x.fit) (sym (text_reads g l p shape) ∙ e))))
+      (λ s. subst (FitSays g l) (sym (ap (λ (x : TextScan). x.fit) (text_reads g l s.0 s.1))) (shape-says s.0 s.1 (first_long (fields_of g s.0)) refl))
       (signed.text-found g l)
 
-  pub fit-told : (f : Fit) → (textScan g l).fit ≡ f → FitSays g l f
+  pub fit-told : (f : Fit) → (text_scan g l).fit ≡ f → FitSays g l f
   fit-told f e = subst (FitSays g l) e fit-says
 
   -- ---- and what is said gives it
-  pub text-short : (p : TextParts) → TextShape g l p → someLong g p ≡ false
-      → textScan g l ≡ fitting p.minus (justified (map value_of p.fields)) (fieldValue p.tail) (length p.tail)
+  pub text-short : (p : TextParts) → TextShape g l p → some_long g p ≡ false
+      → text_scan g l ≡ fitting p.minus (justified (map value_of p.fields)) (field_value p.tail) (length p.tail)
   text-short p shape e =
-      text-reads g l p shape
-      ∙ ap (λ (long : LongField). unlessLong long (partsRead p)) (some-nowhere (firstLong (fields_of g p)) (some-long g p ∙ e))
-      ∙ ap (λ (values : List ℕ). fitting p.minus (justified values) (fieldValue p.tail) (length p.tail))
-      (values-short p.fields (neither (is_over g.tail (length p.tail)) (fieldsLong p.fields) e).1)
+      text_reads g l p shape
+      ∙ ap (λ (long : LongField). unless_long long (parts_read p)) (some-nowhere (first_long (fields_of g p)) (some-long g p ∙ e))
+      ∙ ap (λ (values : List ℕ). fitting p.minus (justified values) (field_value p.tail) (length p.tail))
+      (values-short p.fields (neither (is_over g.tail (length p.tail)) (fields_long p.fields) e).1)
 
-  pub text-long : (place : ℕ) → LongText g l place → textScan g l ≡ misfit (TooLong place)
+  pub text-long : (place : ℕ) → LongText g l place → text_scan g l ≡ misfit (TooLong place)
   text-long place h =
-      text-reads g l h.parts h.shape
-      ∙ ap (λ (long : LongField). unlessLong long (partsRead h.parts)) (first_gives (fields_of g h.parts) place h.first)
+      text_reads g l h.parts h.shape
+      ∙ ap (λ (long : LongField). unless_long long (parts_read h.parts)) (first_gives (fields_of g h.parts) place h.first)
 
   -- where something is too long, the first such field has a place, and back
   pub long-place : HasTextShape g l true → (place : ℕ) × LongText g l place
   long-place h =
-      let s = some-place (firstLong (fields_of g h.parts)) (some-long g h.parts ∙ h.digits) in
+      let s = some-place (first_long (fields_of g h.parts)) (some-long g h.parts ∙ h.digits) in
       (s.0, record { parts = h.parts; shape = h.shape; first = first-told (fields_of g h.parts) s.0 s.1 })
 
   pub place-long : (place : ℕ) → LongText g l place → HasTextShape g l true
   place-long place h = record { parts = h.parts; shape = h.shape; digits = long-is h.parts (At place) (first_gives (fields_of g h.parts) place h.first) }
 
-  pub text-none : ((p : TextParts) → ¬ TextShape g l p) → textScan g l ≡ misfit (NoShape (signed.textStop g l))
+  pub text-none : ((p : TextParts) → ¬ TextShape g l p) → text_scan g l ≡ misfit (NoShape (signed.text_stop g l))
   text-none h = ⊎_elim (λ e. e) (λ s. absurd (h s.0 s.1)) (signed.text-found g l)
 
-pub fit-sound : FitSound
-fit-sound g l = fit-told g l (textScan g l).fit refl
+pub fit_sound : FitSound
+fit_sound g l = fit-told g l (text_scan g l).fit refl
 
 -- ---- places
-pub stop-longest : StopLongest
-stop-longest g l stop can e =
+pub stop_longest : StopLongest
+stop_longest g l stop can e =
     let none = ap (λ (x : TextScan). x.fit) (text-none g l (fit-told g l (NoShape stop) e)) in
-    let same : signed.textStop g l ≡ stop = cc in
+    let same : signed.text_stop g l ≡ stop = cc in
     subst (LongestBeginning (OfGrammar g) l) same (longest-stop g can l)
 
 -- a text without the shape is scanned up to the length of its longest beginning
 pub text-stops : (g : Grammar) (l : List ℕ) (stop : ℕ) → Possible g → ((p : TextParts) → ¬ TextShape g l p) → LongestBeginning (OfGrammar g) l stop
-    → textScan g l ≡ misfit (NoShape stop)
+    → text_scan g l ≡ misfit (NoShape stop)
 text-stops g l stop can none longest =
-    text-none g l none ∙ ap (λ (n : ℕ). misfit (NoShape n)) (one-longest (OfGrammar g) l (signed.textStop g l) stop (longest-stop g can l) longest)
+    text-none g l none ∙ ap (λ (n : ℕ). misfit (NoShape n)) (one_longest (OfGrammar g) l (signed.text_stop g l) stop (longest-stop g can l) longest)
 
-pub shape-ascii : ShapeAscii
-shape-ascii = ascii.shape-ascii
+pub shape_ascii : ShapeAscii
+shape_ascii = ascii.shape_ascii
 
-pub fields-stand : FieldsStand
-fields-stand = standing.fields-stand
+pub fields_stand : FieldsStand
+fields_stand = standing.fields_stand
 
 -- what holds of each text that does not fit, and of what is read of one that does, holds of any
 module _ (g : Grammar) (l : List ℕ) (P : TextScan → Type 0) (none : (f : Fit) → P (misfit f))
-    (some : (p : TextParts) → TextShape g l p → someLong g p ≡ false → P (partsRead p)) where
-  any-by : (p : TextParts) → TextShape g l p → (long : LongField) → firstLong (fields_of g p) ≡ long → P (unlessLong long (partsRead p))
+    (some : (p : TextParts) → TextShape g l p → some_long g p ≡ false → P (parts_read p)) where
+  any-by : (p : TextParts) → TextShape g l p → (long : LongField) → first_long (fields_of g p) ≡ long → P (unless_long long (parts_read p))
   any-by p shape (At place) e = none (TooLong place)
   any-by p shape Nowhere e = some p shape (long-is g l p Nowhere e)
 
-  pub text-any : P (textScan g l)
+  pub text-any : P (text_scan g l)
   text-any =
       ⊎_elim
-      (λ e. subst P (sym e) (none (NoShape (signed.textStop g l))))
-      (λ s. subst P (sym (text-reads g l s.0 s.1)) (any-by s.0 s.1 (firstLong (fields_of g s.0)) refl))
+      (λ e. subst P (sym e) (none (NoShape (signed.text_stop g l))))
+      (λ s. subst P (sym (text_reads g l s.0 s.1)) (any-by s.0 s.1 (first_long (fields_of g s.0)) refl))
       (signed.text-found g l)
 
 -- ---- bounds
-pub text-bounded : TextBounded
-text-bounded g l =
+pub text_bounded : TextBounded
+text_bounded g l =
     text-any g l TextBounds
     (λ f. record { four = refl; below = zeros-below 4 [] below-nil; tail = omega arith })
-    (λ p t e. let s = t.shape in let values = map fieldValue p.fields in record {
+    (λ p t e. let s = t.shape in let values = map field_value p.fields in record {
       four = justified-length values;
       below = justified-below values (values-below g.dividers g.most s.front p.fields s.shape);
       tail = field_below p.tail s.digits;

@@ -10,13 +10,13 @@ abbrev pub is_over : (most count : ℕ) → Bool
 is_over most count = ltb most count
 
 -- a field of so many digits has over 9
-abbrev pub isLong : (count : ℕ) → Bool
-isLong count = is_over 9 count
+abbrev pub is_long : (count : ℕ) → Bool
+is_long count = is_over 9 count
 
 -- some field has over 9 digits
-unfoldable pub fieldsLong : (fields : List (List ℕ)) → Bool
-fieldsLong [] = false
-fieldsLong (d ∷ ds) = isLong (length d) || fieldsLong ds
+unfoldable pub fields_long : (fields : List (List ℕ)) → Bool
+fields_long [] = false
+fields_long (d ∷ ds) = is_long (length d) || fields_long ds
 
 -- a field of at most 9 digits
 pub record ShortField (d : List ℕ) : Type 0 where
@@ -30,29 +30,29 @@ pub record PlacedField : Type 0 where
   pub digits : List ℕ
   pub most : ℕ
 
-abbrev pub placedField : (place : ℕ) (digits : List ℕ) (most : ℕ) → PlacedField
-placedField place digits most = record { place = place; digits = digits; most = most }
+abbrev pub placed_field : (place : ℕ) (digits : List ℕ) (most : ℕ) → PlacedField
+placed_field place digits most = record { place = place; digits = digits; most = most }
 
 -- divided fields from a place on, each behind the one before it and the byte that divides them; and what stands a byte behind the last
 abbrev pub placed : (behind : ℕ → List PlacedField) (place : ℕ) (fields : List (List ℕ)) → List PlacedField
 placed behind place [] = behind place
-placed behind place (d ∷ ds) = placedField place d 9 ∷ placed behind (place + length d + 1) ds
+placed behind place (d ∷ ds) = placed_field place d 9 ∷ placed behind (place + length d + 1) ds
 
 -- a tail, where there is one
-abbrev pub placedTail : (most : ℕ) (tail : List ℕ) (place : ℕ) → List PlacedField
-placedTail most [] place = []
-placedTail most (b ∷ tail) place = placedField place (b ∷ tail) most ∷ []
+abbrev pub placed_tail : (most : ℕ) (tail : List ℕ) (place : ℕ) → List PlacedField
+placed_tail most [] place = []
+placed_tail most (b ∷ tail) place = placed_field place (b ∷ tail) most ∷ []
 
 -- a field of so many digits at a place: too long, or not
-abbrev pub longField : (place most count : ℕ) → LongField
-longField place most count = cond (is_over most count) (At place) Nowhere
+abbrev pub long_field : (place most count : ℕ) → LongField
+long_field place most count = cond (is_over most count) (At place) Nowhere
 
 -- the first of two
-abbrev pub orLong : LongField → LongField → LongField
-orLong Nowhere other = other
-orLong (At place) other = At place
+abbrev pub or_long : LongField → LongField → LongField
+or_long Nowhere other = other
+or_long (At place) other = At place
 
 -- the first digit of the first field that is too long
-abbrev pub firstLong : List PlacedField → LongField
-firstLong [] = Nowhere
-firstLong (f ∷ fs) = cond (is_over f.most (length f.digits)) (At f.place) (firstLong fs)
+abbrev pub first_long : List PlacedField → LongField
+first_long [] = Nowhere
+first_long (f ∷ fs) = cond (is_over f.most (length f.digits)) (At f.place) (first_long fs)

@@ -1,16 +1,16 @@
 -- The shapes of texts as grammars (BEHAVIOUR: Text shapes): no reader stands in them.
 -- Assumes nothing.
 use Rattle.std.specs.Prelude.{ℕ, suc, ◌≤◌, ◌<◌, ◌≡◌, List, [], ◌∷◌, ◌++◌, Bool, true, false, ◌||◌, length, take, drop}
-use Rattle.digits.specs.Digits.{allDigits, IsField}
+use Rattle.digits.specs.Digits.{all_digits, IsField}
 use Rattle.scanner.specs.declared.fields.Dividers.{Dividers}
 use Rattle.scanner.specs.declared.text.Grammar.{Grammar}
-use Rattle.scanner.specs.Long.{is_over, fieldsLong, PlacedField, placed, placedTail}
-use Rattle.scanner.specs.Scan.{dividerOf}
+use Rattle.scanner.specs.Long.{is_over, fields_long, PlacedField, placed, placed_tail}
+use Rattle.scanner.specs.Scan.{divider_of}
 
 -- one to k fields, each two divided by one of these bytes; with the list of them
 pub data FieldsShape (d : Dividers) : (k : ℕ) → List ℕ → (fields : List (List ℕ)) → Type 0 where
   last : {k : ℕ} {f : List ℕ} → IsField f → FieldsShape d (suc k) f (f ∷ [])
-  more : {k : ℕ} {f l : List ℕ} {fs : List (List ℕ)} → IsField f → (c : ℕ) → dividerOf d c ≡ true → FieldsShape d k l fs
+  more : {k : ℕ} {f l : List ℕ} {fs : List (List ℕ)} → IsField f → (c : ℕ) → divider_of d c ≡ true → FieldsShape d k l fs
       → FieldsShape d (suc k) (f ++ c ∷ l) (f ∷ fs)
 
 -- a tail behind its `.`; where there is none, no `.` stands
@@ -23,7 +23,7 @@ pub record BodyShape (g : Grammar) (l : List ℕ) (fields : List (List ℕ)) (ta
   pub front : List ℕ
   pub shape : FieldsShape g.dividers g.most front fields
   pub enough : g.least ≤ length fields
-  pub digits : allDigits tail ≡ true
+  pub digits : all_digits tail ≡ true
   pub allowed : 0 < length tail → 0 < g.tail
   pub all : front ++ pointed tail ≡ l
 
@@ -33,29 +33,29 @@ pub record TextParts : Type 0 where
   pub fields : List (List ℕ)
   pub tail : List ℕ
 
-abbrev pub textParts : (minus : Bool) (fields : List (List ℕ)) (tail : List ℕ) → TextParts
-textParts minus fields tail = record { minus = minus; fields = fields; tail = tail }
+abbrev pub text_parts : (minus : Bool) (fields : List (List ℕ)) (tail : List ℕ) → TextParts
+text_parts minus fields tail = record { minus = minus; fields = fields; tail = tail }
 
 -- a text with `-` in front, or without
-abbrev pub withMinus : (minus : Bool) → List ℕ → List ℕ
-withMinus true l = 45 ∷ l
-withMinus false l = l
+abbrev pub with_minus : (minus : Bool) → List ℕ → List ℕ
+with_minus true l = 45 ∷ l
+with_minus false l = l
 
 -- a text of a grammar: optional `-`, then fields and a tail
 pub record TextShape (g : Grammar) (l : List ℕ) (p : TextParts) : Type 0 where
   pub body : List ℕ
   pub shape : BodyShape g body p.fields p.tail
-  pub text : withMinus p.minus body ≡ l
+  pub text : with_minus p.minus body ≡ l
 
 -- the tail has more digits than the grammar allows, or a field over 9
-abbrev pub someLong : Grammar → TextParts → Bool
-someLong g p = is_over g.tail (length p.tail) || fieldsLong p.fields
+abbrev pub some_long : Grammar → TextParts → Bool
+some_long g p = is_over g.tail (length p.tail) || fields_long p.fields
 
 -- a text has the shape, and something in it is too long, or nothing is
 pub record HasTextShape (g : Grammar) (l : List ℕ) (long : Bool) : Type 0 where
   pub parts : TextParts
   pub shape : TextShape g l parts
-  pub digits : someLong g parts ≡ long
+  pub digits : some_long g parts ≡ long
 
 -- ---- places
 -- a text of the grammar, fields of any length
@@ -75,7 +75,7 @@ pub record Possible (g : Grammar) : Type 0 where
 
 -- the fields of a text, left to right: behind its sign the divided ones, behind these and `.` the tail
 abbrev pub fields_of : Grammar → TextParts → List PlacedField
-fields_of g p = placed (placedTail g.tail p.tail) (length (withMinus p.minus [])) p.fields
+fields_of g p = placed (placed_tail g.tail p.tail) (length (with_minus p.minus [])) p.fields
 
 -- each of them stands in the text at its place
 abbrev pub Standing : (l : List ℕ) → List PlacedField → Type 0

@@ -2,23 +2,23 @@
 -- Assumes nothing.
 use Rattle.std.specs.Prelude.{ℕ, ◌^◌, ◌<◌, ◌≡◌, List, map, false, length}
 use Rattle.beginnings.specs.Beginning.{LongestBeginning}
-use Rattle.digits.specs.Digits.{fieldValue}
+use Rattle.digits.specs.Digits.{field_value}
 use Rattle.scanner.specs.declared.text.Fit.{Fit}
 use Rattle.scanner.specs.declared.text.Fit.TheVariants.{Fits, TooLong, NoShape}
 use Rattle.scanner.specs.declared.text.Grammar.{Grammar}
 use Rattle.scanner.specs.declared.text.TextScan.{TextScan}
 use Rattle.scanner.specs.Justified.{justified, Below}
-use Rattle.scanner.specs.Long.{firstLong}
+use Rattle.scanner.specs.Long.{first_long}
 use Rattle.scanner.specs.Shapes.{TextParts, TextShape, HasTextShape, OfGrammar, Ascii, Possible, fields_of, Standing, LongText}
-use Rattle.scanner.specs.Text.{fitting, unlessLong, textScan}
+use Rattle.scanner.specs.Text.{fitting, unless_long, text_scan}
 
 -- what is read of a text's parts
-abbrev pub partsRead : TextParts → TextScan
-partsRead p = fitting p.minus (justified (map fieldValue p.fields)) (fieldValue p.tail) (length p.tail)
+abbrev pub parts_read : TextParts → TextScan
+parts_read p = fitting p.minus (justified (map field_value p.fields)) (field_value p.tail) (length p.tail)
 
 -- a text of the shape reads as its parts, unless something is too long
 abbrev pub TextReads : Type 0
-TextReads = (g : Grammar) (l : List ℕ) (p : TextParts) → TextShape g l p → textScan g l ≡ unlessLong (firstLong (fields_of g p)) (partsRead p)
+TextReads = (g : Grammar) (l : List ℕ) (p : TextParts) → TextShape g l p → text_scan g l ≡ unless_long (first_long (fields_of g p)) (parts_read p)
 
 -- what it says of a text that it fits, that it is too long, and that it has no shape
 abbrev pub FitSays : Grammar → List ℕ → Fit → Type 0
@@ -28,12 +28,12 @@ FitSays g l (NoShape stop) = (p : TextParts) → ¬ TextShape g l p
 
 -- what is said of a text is so
 abbrev pub FitSound : Type 0
-FitSound = (g : Grammar) (l : List ℕ) → FitSays g l (textScan g l).fit
+FitSound = (g : Grammar) (l : List ℕ) → FitSays g l (text_scan g l).fit
 
 -- where the scan of a text without the shape stopped is the length of its longest beginning that also begins some text of the shape
 abbrev pub StopLongest : Type 0
 StopLongest =
-    (g : Grammar) (l : List ℕ) (stop : ℕ) → Possible g → (textScan g l).fit ≡ NoShape stop → LongestBeginning (OfGrammar g) l stop
+    (g : Grammar) (l : List ℕ) (stop : ℕ) → Possible g → (text_scan g l).fit ≡ NoShape stop → LongestBeginning (OfGrammar g) l stop
 
 -- a text of the shape is ASCII, and so, being a part of it, is what stands behind a beginning to make it one
 abbrev pub ShapeAscii : Type 0
@@ -55,4 +55,4 @@ pub record TextBounds (scan : TextScan) : Type 0 where
 
 -- so it is with every grammar and every text
 abbrev pub TextBounded : Type 0
-TextBounded = (g : Grammar) (l : List ℕ) → TextBounds (textScan g l)
+TextBounded = (g : Grammar) (l : List ℕ) → TextBounds (text_scan g l)

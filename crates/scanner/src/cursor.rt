@@ -1,7 +1,7 @@
 // A cursor by value, handed on past each byte taken: what stands in a text at its place.
 ghost use Rattle.std.specs.Prelude.{◌≡◌, drop};
 ghost use Rattle.digits.specs.Digits.{is_byte};
-ghost use Rattle.scanner.specs.Scan.{field_of, pastIf, isEnd, sign_of, noTail, tailOf};
+ghost use Rattle.scanner.specs.Scan.{field_of, past_if, is_end, sign_of, no_tail, tail_of};
 
 // A place in a text. The text is handed to each step beside it.
 #[derive(Drop)]
@@ -45,7 +45,7 @@ pub(crate) struct Tail {
 impl Tail {
     // No `.` at this cursor.
     fn none(at: Cursor) -> Tail
-        ensures answer { result ≡ noTail at.at }
+        ensures { result ≡ no_tail at.at }
     {
         Tail {
             found: true,
@@ -60,7 +60,7 @@ impl Tail {
 impl Cursor {
     // Past the byte b, where it stands at the cursor.
     pub(crate) fn past(self, s: &[u8], b: u8) -> Passed
-        ensures answer { result ≡ pastIf (is_byte b) self.at (drop self.at s.now) }
+        ensures { result ≡ past_if (is_byte b) self.at (drop self.at s.now) }
     {
         let at = self.at;
         if s.len() <= at {
@@ -74,7 +74,7 @@ impl Cursor {
 
     // Is nothing left of the text?
     pub(crate) fn at_end(self, s: &[u8]) -> bool
-        ensures answer { result ≡ isEnd (drop self.at s.now) }
+        ensures { result ≡ is_end (drop self.at s.now) }
     {
         let at = self.at;
         s.len() <= at
@@ -82,7 +82,7 @@ impl Cursor {
 
     // The digits at the cursor.
     pub(crate) fn field(self, s: &[u8]) -> Field
-        ensures answer { result ≡ field_of self.at (drop self.at s.now) }
+        ensures { result ≡ field_of self.at (drop self.at s.now) }
     {
         let at = self.at;
         let run = digits::run_at(s, at);
@@ -96,7 +96,7 @@ impl Cursor {
 
     // An optional `-` at the cursor.
     pub(crate) fn sign(self, s: &[u8]) -> Sign
-        ensures answer { result ≡ sign_of self.at (drop self.at s.now) }
+        ensures { result ≡ sign_of self.at (drop self.at s.now) }
     {
         let dash = self.past(s, b'-');
         let Passed::Next(next) = dash else {
@@ -110,7 +110,7 @@ impl Cursor {
 
     // An optional `.` at the cursor and the digits behind it; with 0 digits allowed no `.` is looked for.
     pub(crate) fn tail(self, s: &[u8], most: usize) -> Tail
-        ensures answer { result ≡ tailOf most self.at (drop self.at s.now) }
+        ensures { result ≡ tail_of most self.at (drop self.at s.now) }
     {
         if most == 0 {
             return Tail::none(self);

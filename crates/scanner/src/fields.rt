@@ -1,9 +1,9 @@
 // Divided fields, one after the other from a cursor on: one to so many, their values right-justified in four places.
 ghost use Rattle.std.specs.Prelude.{◌≡◌, ◌-◌, ◌^◌, ◌<◌, drop};
-ghost use Rattle.scanner.specs.Long.{longField, orLong};
-ghost use Rattle.scanner.specs.Scan.{pastIf, dividerOf, lookedFor};
+ghost use Rattle.scanner.specs.Long.{long_field, or_long};
+ghost use Rattle.scanner.specs.Scan.{past_if, divider_of, looked_for};
 ghost use Rattle.scanner.specs.Justified.{shift};
-ghost use Rattle.scanner.specs.Fields.{none_taken, withField, fieldBegun, fieldsFound};
+ghost use Rattle.scanner.specs.Fields.{none_taken, with_field, field_begun, fields_found};
 
 use crate::cursor::{Cursor, Field, Passed};
 
@@ -35,7 +35,7 @@ pub(crate) struct Scanned {
 
 // Does this byte divide two fields?
 fn divides(dividers: Dividers, b: u8) -> bool
-    ensures answer { result ≡ dividerOf dividers b }
+    ensures { result ≡ divider_of dividers b }
 {
     match dividers {
         Dividers::Colon => b == 58,
@@ -51,7 +51,7 @@ fn divides(dividers: Dividers, b: u8) -> bool
 
 // The values moved one place left, with a new last.
 fn shifted(values: [u64; 4], value: u64) -> [u64; 4]
-    ensures answer { result ≡ shift values value }
+    ensures { result ≡ shift values value }
 {
     [values[1], values[2], values[3], value]
 }
@@ -59,7 +59,7 @@ fn shifted(values: [u64; 4], value: u64) -> [u64; 4]
 impl LongField {
     // The one found before, or else a field of so many digits at this place, if these are over the most allowed.
     pub(crate) fn or(self, place: usize, most: usize, count: usize) -> LongField
-        ensures answer { result ≡ orLong self (longField place most count) }
+        ensures { result ≡ or_long self (long_field place most count) }
     {
         let LongField::Nowhere = self else {
             return self;
@@ -74,7 +74,7 @@ impl LongField {
 impl Scanned {
     // No field yet.
     fn new(first: Cursor) -> Scanned
-        ensures answer { result ≡ none_taken first }
+        ensures { result ≡ none_taken first }
     {
         Scanned {
             found: false,
@@ -87,8 +87,8 @@ impl Scanned {
 
     // A field more. Asks that they can be counted.
     fn keep(self, field: Field) -> Scanned
-        requires count { self.count < 2 ^ 64 - 1 }
-        ensures answer { result ≡ withField self field }
+        requires { self.count < 2 ^ 64 - 1 }
+        ensures { result ≡ with_field self field }
     {
         let start = self.next;
         let earlier = self.long;
@@ -107,7 +107,7 @@ impl Scanned {
 
     // A field is begun behind a divider.
     fn begin(self, next: Cursor) -> Scanned
-        ensures answer { result ≡ fieldBegun self next }
+        ensures { result ≡ field_begun self next }
     {
         let values = self.values;
         let long = self.long;
@@ -124,7 +124,7 @@ impl Scanned {
 impl Cursor {
     // Past a divider at the cursor; where no field may come, none is looked for.
     fn divider(self, s: &[u8], dividers: Dividers, left: usize) -> Passed
-        ensures answer { result ≡ pastIf (lookedFor left (dividerOf dividers)) self.at (drop self.at s.now) }
+        ensures { result ≡ past_if (looked_for left (divider_of dividers)) self.at (drop self.at s.now) }
     {
         let at = self.at;
         if left == 0 {
@@ -141,7 +141,7 @@ impl Cursor {
 
     // One to so many fields from the cursor on, each two divided.
     pub(crate) fn fields(self, s: &[u8], dividers: Dividers, most: usize) -> Scanned
-        ensures answer { result ≡ fieldsFound dividers most s.now self.at }
+        ensures { result ≡ fields_found dividers most s.now self.at }
     {
         let mut taken = Scanned::new(self);
         let mut left = most;

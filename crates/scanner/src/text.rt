@@ -1,6 +1,6 @@
 // A whole text taken apart by a grammar: optional `-`, divided fields, an optional tail behind `.`, and nothing else.
 ghost use Rattle.std.specs.Prelude.{◌≡◌};
-ghost use Rattle.scanner.specs.Text.{misfit, isEnough, isWhole, stopOf, weighed, textScan};
+ghost use Rattle.scanner.specs.Text.{misfit, is_enough, is_whole, stop_of, weighed, text_scan};
 
 use crate::cursor::{Cursor, Tail};
 use crate::fields::{Dividers, LongField, Scanned};
@@ -37,7 +37,7 @@ pub struct TextScan {
 
 // The answer to a text that does not fit.
 fn misfit(fit: Fit) -> TextScan
-    ensures answer { result ≡ misfit fit }
+    ensures { result ≡ misfit fit }
 {
     TextScan {
         fit,
@@ -50,7 +50,7 @@ fn misfit(fit: Fit) -> TextScan
 
 // Whether fields are all there, and no fewer than are asked for.
 fn is_enough(least: usize, fields: Scanned) -> bool
-    ensures answer { result ≡ isEnough least fields }
+    ensures { result ≡ is_enough least fields }
 {
     if !fields.found {
         return false;
@@ -60,7 +60,7 @@ fn is_enough(least: usize, fields: Scanned) -> bool
 
 // Whether fields that are enough and a tail are all there, and the text ends behind them.
 fn is_whole(s: &[u8], enough: bool, tail: Tail) -> bool
-    ensures answer { result ≡ isWhole s.now enough tail }
+    ensures { result ≡ is_whole s.now enough tail }
 {
     if !enough {
         return false;
@@ -74,7 +74,7 @@ fn is_whole(s: &[u8], enough: bool, tail: Tail) -> bool
 
 // Where the scan stopped: behind the tail, but behind the fields where these are not enough.
 fn stop(enough: bool, fields: Scanned, tail: Tail) -> usize
-    ensures answer { result ≡ stopOf enough fields tail }
+    ensures { result ≡ stop_of enough fields tail }
 {
     if enough {
         let behind = tail.next;
@@ -86,7 +86,7 @@ fn stop(enough: bool, fields: Scanned, tail: Tail) -> usize
 
 // The answer to a text, whole or not, with a field that is too long or none.
 fn weighed(whole: bool, long: LongField, stop: usize, fits: TextScan) -> TextScan
-    ensures answer { result ≡ weighed whole long stop fits }
+    ensures { result ≡ weighed whole long stop fits }
 {
     if !whole {
         return misfit(Fit::NoShape(stop));
@@ -99,7 +99,7 @@ fn weighed(whole: bool, long: LongField, stop: usize, fits: TextScan) -> TextSca
 
 // A text taken apart by a grammar.
 pub fn scan_text(text: &[u8], grammar: Grammar) -> TextScan
-    ensures answer { result ≡ textScan grammar text.now }
+    ensures { result ≡ text_scan grammar text.now }
 {
     let start = Cursor { at: 0 };
     let sign = start.sign(text);

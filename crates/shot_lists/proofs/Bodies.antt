@@ -11,20 +11,20 @@ use lib.ListN.{length, take, drop, length-append, length-drop}
 use lib.Seq.{take_at, drop_at, take-add, length-take-le}
 use Rattle.low_bytes.specs.LowBytes.{Bytes, worth, signed_of}
 use Rattle.low_bytes.specs.Laws.{bytes_take, bytes_drop}
-use Rattle.low_bytes.proofs.Statements.{unsigned-one, signed-one}
+use Rattle.low_bytes.proofs.Statements.{unsigned_one, signed_one}
 use Rattle.shot_lists.specs.declared.records.Record.{Record}
 use Rattle.shot_lists.specs.declared.records.Record.TheVariants.{Rate, Shot, Reel}
 use Rattle.shot_lists.specs.declared.records.Entry.TheVariants.{Taken}
-use Rattle.shot_lists.specs.Grammar.{kindByte, BodyOf, OneOnDisk}
-use Rattle.shot_lists.specs.Entries.{bodyFixed, ofKind, onDisk, entry_of}
+use Rattle.shot_lists.specs.Grammar.{kind_byte, BodyOf, OneOnDisk}
+use Rattle.shot_lists.specs.Entries.{body_fixed, of_kind, on_disk, entry_of}
 use Rattle.shot_lists.specs.Laws.{Spells, taken-told}
 use Rattle.shot_lists.specs.Statements.{KindFixes}
 
-pub kind-fixes : KindFixes
-unfolding bodyFixed
-kind-fixes (Rate n) body u = u.long
-kind-fixes (Shot first end) body f = omega (arith, ap length f.parts, length-append f.front f.back, f.starts.long, f.ends.long)
-kind-fixes (Reel n) body u = u.long
+pub kind_fixes : KindFixes
+unfolding body_fixed
+kind_fixes (Rate n) body u = u.long
+kind_fixes (Shot first end) body f = omega (arith, ap length f.parts, length-append f.front f.back, f.starts.long, f.ends.long)
+kind_fixes (Reel n) body u = u.long
 
 -- ---- a body of the grammar is read as its record
 
@@ -36,25 +36,25 @@ frames-read low high m e f =
       ap (λ (l : List ℕ). take 4 (drop 4 l)) apart ∙ ap (take 4) (drop_at low (high ++ m) 4 e) ∙ take_at high m 4 f,
     )
 
-pub made-back : (r : Record) (body : List ℕ) → BodyOf r body → (m : List ℕ) → onDisk.made (kindByte r) (body ++ m) ≡ r
-unfolding ofKind
+pub made-back : (r : Record) (body : List ℕ) → BodyOf r body → (m : List ℕ) → on_disk.made (kind_byte r) (body ++ m) ≡ r
+unfolding of_kind
 made-back (Rate n) body u m = ap Rate (ap worth (take_at body m 1 u.long) ∙ u.is)
 made-back (Shot first end) body f m =
     let read = frames-read f.front f.back m f.starts.long f.ends.long in
     rw (f.parts, read.0, read.1) (ap₂ Shot f.starts.is f.ends.is)
 made-back (Reel n) body u m = ap Reel (ap worth (take_at body m 4 u.long) ∙ u.is)
 
-pub body-some : (r : Record) → 0 < onDisk.body (kindByte r)
-unfolding bodyFixed
+pub body-some : (r : Record) → 0 < on_disk.body (kind_byte r)
+unfolding body_fixed
 body-some (Rate n) = omega arith
 body-some (Shot first end) = omega arith
 body-some (Reel n) = omega arith
 
-pub disk-spells : (r : Record) (part : List ℕ) → OneOnDisk r part → Spells onDisk r part
+pub disk-spells : (r : Record) (part : List ℕ) → OneOnDisk r part → Spells on_disk r part
 disk-spells r part one =
-    let long = kind-fixes r one.body one.of in
+    let long = kind_fixes r one.body one.of in
     record {
-      head = kindByte r;
+      head = kind_byte r;
       body = one.body;
       is = one.is;
       fixed = sym long;
@@ -65,20 +65,20 @@ disk-spells r part one =
 -- ---- and has one form
 
 pub body-one : (r : Record) (b c : List ℕ) → BodyOf r b → BodyOf r c → b ≡ c
-body-one (Rate n) b c u v = (unsigned-one 1 n b u).0 ∙ sym (unsigned-one 1 n c v).0
+body-one (Rate n) b c u v = (unsigned_one 1 n b u).0 ∙ sym (unsigned_one 1 n c v).0
 body-one (Shot first end) b c f g =
     f.parts
     ∙ ap₂ ◌++◌
-    ((signed-one 4 first f.front f.starts).0 ∙ sym (signed-one 4 first g.front g.starts).0)
-    ((signed-one 4 end f.back f.ends).0 ∙ sym (signed-one 4 end g.back g.ends).0)
+    ((signed_one 4 first f.front f.starts).0 ∙ sym (signed_one 4 first g.front g.starts).0)
+    ((signed_one 4 end f.back f.ends).0 ∙ sym (signed_one 4 end g.back g.ends).0)
     ∙ sym g.parts
-body-one (Reel n) b c u v = (unsigned-one 4 n b u).0 ∙ sym (unsigned-one 4 n c v).0
+body-one (Reel n) b c u v = (unsigned_one 4 n b u).0 ∙ sym (unsigned_one 4 n c v).0
 
 -- ---- what is read is a body of the grammar
 
 module _ (k : ℕ) (l : List ℕ) (bytes : Bytes l) where
   abbrev there : Record → ℕ → Type 0
-  there r n = (k ≡ kindByte r) × BodyOf r (take n l)
+  there r n = (k ≡ kind_byte r) × BodyOf r (take n l)
 
   there-by : (p q s : Bool) → eqb k 1 ≡ p → eqb k 2 ≡ q → eqb k 3 ≡ s → (◌≡◌ {A = ℕ} (cond p 1 (cond q 8 (cond s 4 0))) 0 → ⊥)
       → cond p 1 (cond q 8 (cond s 4 0)) ≤ length l
@@ -106,16 +106,16 @@ module _ (k : ℕ) (l : List ℕ) (bytes : Bytes l) where
       (eqb-true k 3 g, record { long = length-take-le 4 l room; bytes = bytes_take 4 l bytes; is = refl })
   there-by false false false e f g known room = absurd (known refl)
 
-  body-there : (onDisk.body k ≡ 0 → ⊥) → onDisk.body k ≤ length l → there (onDisk.made k l) (onDisk.body k)
-  unfolding bodyFixed ofKind
+  body-there : (on_disk.body k ≡ 0 → ⊥) → on_disk.body k ≤ length l → there (on_disk.made k l) (on_disk.body k)
+  unfolding body_fixed of_kind
   body-there known room = there-by (eqb k 1) (eqb k 2) (eqb k 3) refl refl refl known room
 
-  pub disk-spelt : (held : ℕ) (r : Record) (after size : ℕ) → entry_of onDisk held (k ∷ l) ≡ Taken r after size → OneOnDisk r (take size (k ∷ l))
+  pub disk-spelt : (held : ℕ) (r : Record) (after size : ℕ) → entry_of on_disk held (k ∷ l) ≡ Taken r after size → OneOnDisk r (take size (k ∷ l))
   disk-spelt held r after size h =
-      let t = taken-told onDisk held k l r after size h in
-      let stands : there r (onDisk.body k) = subst (λ (x : Record). there x (onDisk.body k)) t.made (body-there t.known t.whole) in
+      let t = taken-told on_disk held k l r after size h in
+      let stands : there r (on_disk.body k) = subst (λ (x : Record). there x (on_disk.body k)) t.made (body-there t.known t.whole) in
       record {
-        body = take (onDisk.body k) l;
-        is = ap (λ (n : ℕ). take n (k ∷ l)) t.long ∙ ap (λ (b : ℕ). b ∷ take (onDisk.body k) l) stands.0;
+        body = take (on_disk.body k) l;
+        is = ap (λ (n : ℕ). take n (k ∷ l)) t.long ∙ ap (λ (b : ℕ). b ∷ take (on_disk.body k) l) stands.0;
         of = stands.1;
       }

@@ -11,25 +11,25 @@ use Rattle.answers.specs.declared.Refusal.{Refusal}
 use Rattle.shot_lists.specs.declared.records.Record.{Record}
 use Rattle.shot_lists.specs.declared.records.Entry.{Entry}
 use Rattle.shot_lists.specs.declared.records.Entry.TheVariants.{Taken, Refused, End}
-use Rattle.shot_lists.specs.Records.{heldAfter, Sound, heldBehind}
+use Rattle.shot_lists.specs.Records.{held_after, Sound, held_behind}
 use Rattle.shot_lists.specs.Grammar.{OneByOne, none, more}
 use Rattle.shot_lists.specs.Entries.{Layout, entry_of}
-use Rattle.shot_lists.specs.Reading.{Reading, AllOf, FaultOf, and_then, onward, readFrom, read_of}
+use Rattle.shot_lists.specs.Reading.{Reading, AllOf, FaultOf, and_then, onward, read_from, read_of}
 use Rattle.shot_lists.specs.Laws.{taken-told, taken-size, end-only, Spells}
 use Rattle.shot_lists.specs.Walk.{read-spelled, read-refused, read-end}
 use Rattle.shot_lists.specs.Statements.{Earliest}
 
 -- ---- records, and what is read behind them
 
-abbrev pub allThen : List Record → Reading → Reading
-allThen [] later = later
-allThen (r ∷ rs) later = and_then r (allThen rs later)
+abbrev pub all_then : List Record → Reading → Reading
+all_then [] later = later
+all_then (r ∷ rs) later = and_then r (all_then rs later)
 
-all_none : (rs : List Record) → allThen rs (AllOf []) ≡ AllOf rs
+all_none : (rs : List Record) → all_then rs (AllOf []) ≡ AllOf rs
 all_none [] = refl
 all_none (r ∷ rs) = ap (and_then r) (all_none rs)
 
-all-fault : (rs : List Record) (e : Refusal) → allThen rs (FaultOf e) ≡ FaultOf e
+all-fault : (rs : List Record) (e : Refusal) → all_then rs (FaultOf e) ≡ FaultOf e
 all-fault [] e = refl
 all-fault (r ∷ rs) e = ap (and_then r) (all-fault rs e)
 
@@ -54,7 +54,7 @@ module _ {A : Type 0} (f : Layout A) (Spelt : Record → List A → Type 0) (spe
     parts : l ≡ front ++ rest
     good : OneByOne Spelt before front
     sound : Sound held before
-    fault : entry_of f (heldBehind held before) rest ≡ Refused e
+    fault : entry_of f (held_behind held before) rest ≡ Refused e
 
   abbrev Told : (held : ℕ) → Reading → List A → Type 0
   Told held (AllOf rs) l = OneByOne Spelt rs l × Sound held rs
@@ -88,21 +88,21 @@ module _ {A : Type 0} (f : Layout A) (Spelt : Record → List A → Type 0) (spe
           parts = sym apart ∙ ap (λ (m : List A). part ++ m) told.parts ∙ sym (append_assoc part told.front told.rest);
           good = more r part told.before told.front spelt told.good;
           sound = (t.sound, subst (λ (a : ℕ). Sound a told.before) t.next told.sound);
-          fault = subst (λ (a : ℕ). entry_of f (heldBehind a told.before) told.rest ≡ Refused e) t.next told.fault;
+          fault = subst (λ (a : ℕ). entry_of f (held_behind a told.before) told.rest ≡ Refused e) t.next told.fault;
         }
 
   told-by : (held : ℕ) (x : A) (l : List A) (found : Entry) → entry_of f held (x ∷ l) ≡ found → Ok (x ∷ l)
-      → ((skip after : ℕ) → Told after (readFrom f skip after l) (drop skip l))
-      → Told held (onward found (λ after size. readFrom f (size - 1) after l)) (x ∷ l)
-  told-by held x l (Taken r after size) h ok rest = told_more held x l r after size h ok (readFrom f (size - 1) after l) (rest (size - 1) after)
+      → ((skip after : ℕ) → Told after (read_from f skip after l) (drop skip l))
+      → Told held (onward found (λ after size. read_from f (size - 1) after l)) (x ∷ l)
+  told-by held x l (Taken r after size) h ok rest = told_more held x l r after size h ok (read_from f (size - 1) after l) (rest (size - 1) after)
   told-by held x l (Refused e) h ok rest =
       record { before = []; front = []; rest = x ∷ l; parts = refl; good = none; sound = tt; fault = h }
   told-by held x l End h ok rest =
       let empty = end-only f held (x ∷ l) h in
       let clash : ◌≡◌ {A = ℕ} 0 1 = cc in absurd (omega arith)
 
-  told : (skip held : ℕ) (l : List A) → Ok l → Told held (readFrom f skip held l) (drop skip l)
-  unfolding readFrom
+  told : (skip held : ℕ) (l : List A) → Ok l → Told held (read_from f skip held l) (drop skip l)
+  unfolding read_from
   told zero held [] ok = (none, tt)
   told (suc skip) held [] ok = (none, tt)
   told (suc skip) held (x ∷ l) ok = told skip held l (later x l ok)
@@ -111,12 +111,12 @@ module _ {A : Type 0} (f : Layout A) (Spelt : Record → List A → Type 0) (spe
   -- ---- and back: what is spelt so is read, before whatever comes behind it
 
   read-front : (held : ℕ) (rs : List Record) (l m : List A) → OneByOne Spelt rs l → Sound held rs
-      → readFrom f 0 held (l ++ m) ≡ allThen rs (readFrom f 0 (heldBehind held rs) m)
+      → read_from f 0 held (l ++ m) ≡ all_then rs (read_from f 0 (held_behind held rs) m)
   read-front held rs l m none sound = refl
   read-front held rs l m (more r part rs₂ behind spelt rest) sound =
-      ap (readFrom f 0 held) (append_assoc part behind m)
+      ap (read_from f 0 held) (append_assoc part behind m)
       ∙ read-spelled f held r part (behind ++ m) (spells r part spelt) sound.0
-      ∙ ap (and_then r) (read-front (heldAfter held r) rs₂ behind m rest sound.1)
+      ∙ ap (and_then r) (read-front (held_after held r) rs₂ behind m rest sound.1)
 
   pub exactly : (l : List A) (rs : List Record) → Ok l → (read_of f l ≡ AllOf rs) ↔ (OneByOne Spelt rs l × Sound 0 rs)
   exactly l rs ok = (
@@ -124,7 +124,7 @@ module _ {A : Type 0} (f : Layout A) (Spelt : Record → List A → Type 0) (spe
     λ p.
         ap (read_of f) (sym (append-nil l))
         ∙ read-front 0 rs l [] p.0 p.1
-        ∙ ap (allThen rs) (read-end f 0 (heldBehind 0 rs))
+        ∙ ap (all_then rs) (read-end f 0 (held_behind 0 rs))
         ∙ all_none rs,
   )
 
@@ -136,6 +136,6 @@ module _ {A : Type 0} (f : Layout A) (Spelt : Record → List A → Type 0) (spe
     λ p.
         ap (read_of f) p.parts
         ∙ read-front 0 p.before p.front p.rest p.good p.sound
-        ∙ ap (allThen p.before) (read-refused f (heldBehind 0 p.before) p.rest e p.fault)
+        ∙ ap (all_then p.before) (read-refused f (held_behind 0 p.before) p.rest e p.fault)
         ∙ all-fault p.before e,
   )

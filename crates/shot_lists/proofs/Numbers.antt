@@ -11,16 +11,16 @@ use Rattle.shot_lists.specs.declared.records.Record.{Record}
 use Rattle.shot_lists.specs.declared.records.Record.TheVariants.{Rate, Shot, Reel}
 use Rattle.shot_lists.specs.declared.records.Entry.{Entry}
 use Rattle.shot_lists.specs.declared.records.Entry.TheVariants.{Taken, Refused, End}
-use Rattle.shot_lists.specs.Records.{heldAfter, faults}
+use Rattle.shot_lists.specs.Records.{held_after, faults}
 use Rattle.shot_lists.specs.Entries.{Layout, against, entry_of}
-use Rattle.shot_lists.specs.Reading.{Reading, AllOf, FaultOf, and_then, onward, readFrom, number_in, place_in}
+use Rattle.shot_lists.specs.Reading.{Reading, AllOf, FaultOf, and_then, onward, read_from, number_in, place_in}
 use Rattle.shot_lists.specs.Statements.{EntryWhen, NeverEight}
 
-pub entry-when : EntryWhen
+pub entry_when : EntryWhen
 unfolding entry_of
-entry-when A f held x l =
+entry_when A f held x l =
     let r = f.made (f.kind x) l in
-    unless-number number_in Refused (λ e. refl) (against f held x l) (Taken r (heldAfter held r) (suc (f.body (f.kind x)))) refl
+    unless-number number_in Refused (λ e. refl) (against f held x l) (Taken r (held_after held r) (suc (f.body (f.kind x)))) refl
 
 -- none of the conditions has this number
 abbrev pub AllBut : ℕ → List Condition → Type 0
@@ -59,7 +59,7 @@ entry-nowhere : {A : Type 0} (f : Layout A) (held : ℕ) (x : A) (l : List A) �
 unfolding entry_of
 entry-nowhere f held x l =
     let r = f.made (f.kind x) l in
-    unless-place place_in Refused (λ e. refl) (against f held x l) (against-nowhere f held x l) (Taken r (heldAfter held r) (suc (f.body (f.kind x)))) refl
+    unless-place place_in Refused (λ e. refl) (against f held x l) (against-nowhere f held x l) (Taken r (held_after held r) (suc (f.body (f.kind x)))) refl
 
 -- the refusal that was read, if any, has another number, and place 0
 abbrev Other : Reading → Type 0
@@ -72,22 +72,22 @@ other-more r (FaultOf e) h = h
 
 module _ {A : Type 0} (f : Layout A) where
   other-by : (held : ℕ) (x : A) (l : List A) (found : Entry) → entry_of f held (x ∷ l) ≡ found
-      → ((skip after : ℕ) → Other (readFrom f skip after l)) → Other (onward found (λ after size. readFrom f (size - 1) after l))
-  other-by held x l (Taken r after size) h later = other-more r (readFrom f (size - 1) after l) (later (size - 1) after)
+      → ((skip after : ℕ) → Other (read_from f skip after l)) → Other (onward found (λ after size. read_from f (size - 1) after l))
+  other-by held x l (Taken r after size) h later = other-more r (read_from f (size - 1) after l) (later (size - 1) after)
   other-by held x l (Refused e) h later = (
     λ n.
         first-but 7 (against f held x l) (λ z. omega arith, (λ z. omega arith, no-eight held (f.made (f.kind x) l)))
-        (sym (entry-when A f held x l) ∙ ap number_in h ∙ n),
+        (sym (entry_when A f held x l) ∙ ap number_in h ∙ n),
     sym (ap place_in h) ∙ entry-nowhere f held x l,
   )
   other-by held x l End h later = tt
 
-  other : (skip held : ℕ) (l : List A) → Other (readFrom f skip held l)
-  unfolding readFrom
+  other : (skip held : ℕ) (l : List A) → Other (read_from f skip held l)
+  unfolding read_from
   other zero held [] = tt
   other (suc skip) held [] = tt
   other (suc skip) held (x ∷ l) = other skip held l
   other zero held (x ∷ l) = other-by held x l (entry_of f held (x ∷ l)) refl (λ skip after. other skip after l)
 
-pub never-eight : NeverEight
-never-eight A f l e h = subst Other h (other f 0 0 l)
+pub never_eight : NeverEight
+never_eight A f l e h = subst Other h (other f 0 0 l)

@@ -7,10 +7,10 @@ use native.Mathlib.Omega.{arith}
 use lib.ListN.{length, drop}
 use lib.Seq.{drop_at}
 use Rattle.shot_lists.specs.declared.records.Record.{Record}
-use Rattle.shot_lists.specs.Grammar.{none, more, kindByte, BodyOf, OneOnDisk, OnDisk}
-use Rattle.shot_lists.specs.Entries.{onDisk}
+use Rattle.shot_lists.specs.Grammar.{none, more, kind_byte, BodyOf, OneOnDisk, OnDisk}
+use Rattle.shot_lists.specs.Entries.{on_disk}
 use Rattle.shot_lists.specs.Statements.{OneBytes}
-use Rattle.shot_lists.proofs.Bodies.{kind-fixes, made-back, body-one}
+use Rattle.shot_lists.proofs.Bodies.{kind_fixes, made-back, body-one}
 
 head-same : (a b : ℕ) (l m : List ℕ) → a ∷ l ≡ b ∷ m → a ≡ b
 head-same a b l m e = cc
@@ -19,22 +19,22 @@ tail-same : (a b : ℕ) (l m : List ℕ) → a ∷ l ≡ b ∷ m → l ≡ m
 tail-same a b l m e = cc
 
 -- two records with what stands behind them: the same bytes are the same record, and the same behind it
-module _ (r s : Record) (b c l m : List ℕ) (of : BodyOf r b) (os : BodyOf s c) (e : kindByte r ∷ (b ++ l) ≡ kindByte s ∷ (c ++ m)) where
-  kinds : kindByte r ≡ kindByte s
-  kinds = head-same (kindByte r) (kindByte s) (b ++ l) (c ++ m) e
+module _ (r s : Record) (b c l m : List ℕ) (of : BodyOf r b) (os : BodyOf s c) (e : kind_byte r ∷ (b ++ l) ≡ kind_byte s ∷ (c ++ m)) where
+  kinds : kind_byte r ≡ kind_byte s
+  kinds = head-same (kind_byte r) (kind_byte s) (b ++ l) (c ++ m) e
 
   tails : b ++ l ≡ c ++ m
-  tails = tail-same (kindByte r) (kindByte s) (b ++ l) (c ++ m) e
+  tails = tail-same (kind_byte r) (kind_byte s) (b ++ l) (c ++ m) e
 
   same-record : r ≡ s
   same-record =
       sym (made-back r b of l)
-      ∙ ap₂ (λ (k : ℕ) (t : List ℕ). onDisk.made k t) kinds tails
+      ∙ ap₂ (λ (k : ℕ) (t : List ℕ). on_disk.made k t) kinds tails
       ∙ made-back s c os m
 
   same-behind : l ≡ m
   same-behind =
-      let long : length b ≡ length c = kind-fixes r b of ∙ ap onDisk.body kinds ∙ sym (kind-fixes s c os) in
+      let long : length b ≡ length c = kind_fixes r b of ∙ ap on_disk.body kinds ∙ sym (kind_fixes s c os) in
       sym (drop_at b l (length b) refl)
       ∙ ap (drop (length b)) tails
       ∙ ap (λ (n : ℕ). drop n (c ++ m)) long
@@ -71,7 +71,7 @@ records-same r s rs ss e = cc
 part-one : (r s : Record) (p q : List ℕ) → OneOnDisk r p → OneOnDisk s q → r ≡ s → p ≡ q
 part-one r s p q one two same =
     one.is
-    ∙ ap₂ ◌∷◌ (ap kindByte same) (body-one s one.body two.body (subst (λ (x : Record). BodyOf x one.body) same one.of) two.of)
+    ∙ ap₂ ◌∷◌ (ap kind_byte same) (body-one s one.body two.body (subst (λ (x : Record). BodyOf x one.body) same one.of) two.of)
     ∙ sym two.is
 
 two-forms : (rs ss : List Record) (l m : List ℕ) → OnDisk rs l → OnDisk ss m → rs ≡ ss → l ≡ m
@@ -81,5 +81,5 @@ two-forms rs ss l m (more r p rs₂ behind one later) none e = let z : ◌≡◌
 two-forms rs ss l m (more r p rs₂ behind one later) (more s q ss₂ behind₂ two later₂) e =
     ap₂ ◌++◌ (part-one r s p q one two (record_same r s rs₂ ss₂ e)) (two-forms rs₂ ss₂ behind behind₂ later later₂ (records-same r s rs₂ ss₂ e))
 
-pub one-bytes : OneBytes
-one-bytes rs l m p q = two-forms rs rs l m p q refl
+pub one_bytes : OneBytes
+one_bytes rs l m p q = two-forms rs rs l m p q refl

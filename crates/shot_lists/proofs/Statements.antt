@@ -6,8 +6,8 @@ use lib.IntN.{ℤ}
 use Rattle.low_bytes.specs.LowBytes.{Bytes}
 use Rattle.low_bytes.specs.Laws.{bytes-tail}
 use Rattle.shot_lists.specs.declared.records.Record.{Record}
-use Rattle.shot_lists.specs.Grammar.{OneByOne, OneOnDisk, listNumbers}
-use Rattle.shot_lists.specs.Entries.{onDisk, inNumbers, entry_of}
+use Rattle.shot_lists.specs.Grammar.{OneByOne, OneOnDisk, list_numbers}
+use Rattle.shot_lists.specs.Entries.{on_disk, in_numbers, entry_of}
 use Rattle.shot_lists.specs.Laws.{end-only}
 use Rattle.shot_lists.specs.Walk.{read_taken, read-refused}
 use Rattle.shot_lists.specs.Statements.{ReadExactly, RefusedExactly, OneList, GivenExactly, GivenRefused, RecordByRecord}
@@ -16,33 +16,33 @@ use Rattle.shot_lists.proofs.OwnNumbers.{Own, numbers-spell, numbers-spelt, own-
 use Rattle.shot_lists.proofs.Exactly.{exactly, refused}
 use Rattle.shot_lists.proofs.OneWay.{one_way}
 
-pub read-exactly : ReadExactly
-read-exactly l rs bytes =
-    exactly onDisk OneOnDisk disk-spells Bytes bytes-tail (λ held x m r after size ok h. disk-spelt x m (bytes-tail x m ok) held r after size h) l rs bytes
+pub read_exactly : ReadExactly
+read_exactly l rs bytes =
+    exactly on_disk OneOnDisk disk-spells Bytes bytes-tail (λ held x m r after size ok h. disk-spelt x m (bytes-tail x m ok) held r after size h) l rs bytes
 
-pub refused-exactly : RefusedExactly
-refused-exactly l e bytes =
-    refused onDisk OneOnDisk disk-spells Bytes bytes-tail (λ held x m r after size ok h. disk-spelt x m (bytes-tail x m ok) held r after size h) l e bytes
+pub refused_exactly : RefusedExactly
+refused_exactly l e bytes =
+    refused on_disk OneOnDisk disk-spells Bytes bytes-tail (λ held x m r after size ok h. disk-spelt x m (bytes-tail x m ok) held r after size h) l e bytes
 
 pub one_list : OneList
-one_list = record { bytes = one_way; read = λ l rs ss bytes h on. one_way l rs ss ((read-exactly l rs bytes).0 h).0 on }
+one_list = record { bytes = one_way; read = λ l rs ss bytes h on. one_way l rs ss ((read_exactly l rs bytes).0 h).0 on }
 
 -- ---- numbers, of which nothing is known
 
 abbrev Any : List ℤ → Type 0
 Any l = Unit {0}
 
-list-is : (rs : List Record) (l : List ℤ) → l ≡ listNumbers rs → OneByOne Own rs l
+list-is : (rs : List Record) (l : List ℤ) → l ≡ list_numbers rs → OneByOne Own rs l
 list-is rs l e = subst (OneByOne Own rs) (sym e) (list-own rs)
 
-pub given-exactly : GivenExactly
-given-exactly l rs =
-    let both = exactly inNumbers Own numbers-spell Any (λ x m ok. tt) (λ held x m r after size ok h. numbers-spelt held x m r after size h) l rs tt in
+pub given_exactly : GivenExactly
+given_exactly l rs =
+    let both = exactly in_numbers Own numbers-spell Any (λ x m ok. tt) (λ held x m r after size ok h. numbers-spelt held x m r after size h) l rs tt in
     (λ h. (own-list rs l (both.0 h).0, (both.0 h).1), λ p. both.1 (list-is rs l p.0, p.1))
 
-pub given-refused : GivenRefused
-given-refused l e =
-    let both = refused inNumbers Own numbers-spell Any (λ x m ok. tt) (λ held x m r after size ok h. numbers-spelt held x m r after size h) l e tt in (
+pub given_refused : GivenRefused
+given_refused l e =
+    let both = refused in_numbers Own numbers-spell Any (λ x m ok. tt) (λ held x m r after size ok h. numbers-spelt held x m r after size h) l e tt in (
       λ h.
           let p = both.0 h in
           record {
@@ -69,11 +69,11 @@ given-refused l e =
 
 -- ---- record by record
 
-pub record-by-record : RecordByRecord
+pub record_by_record : RecordByRecord
 unfolding entry_of
-record-by-record =
+record_by_record =
     record {
-      taken = λ held l r after size h. read_taken onDisk held l r after size h;
-      refused = λ held l e h. read-refused onDisk held l e h;
-      over = λ held l. (end-only onDisk held l, λ e. ap (entry_of onDisk held) e);
+      taken = λ held l r after size h. read_taken on_disk held l r after size h;
+      refused = λ held l e h. read-refused on_disk held l e h;
+      over = λ held l. (end-only on_disk held l, λ e. ap (entry_of on_disk held) e);
     }

@@ -2,14 +2,14 @@
 -- Assumes nothing.
 use Rattle.std.specs.Prelude.{ℕ, suc, List, [], ◌∷◌, cond, eqb, ltb, ℤ, pos, length, take, drop, get_or}
 use Rattle.answers.specs.Order.{Condition, when, unless}
-use Rattle.answers.specs.Refusals.{noSuchKind, cutShort}
-use Rattle.numbers.specs.Sign.{upFrom}
+use Rattle.answers.specs.Refusals.{no_such_kind, cut_short}
+use Rattle.numbers.specs.Sign.{up_from}
 use Rattle.low_bytes.specs.LowBytes.{worth, signed_of}
 use Rattle.shot_lists.specs.declared.records.Record.{Record}
 use Rattle.shot_lists.specs.declared.records.Record.TheVariants.{Rate, Shot, Reel}
 use Rattle.shot_lists.specs.declared.records.Entry.{Entry}
 use Rattle.shot_lists.specs.declared.records.Entry.TheVariants.{Taken, Refused, End}
-use Rattle.shot_lists.specs.Records.{heldAfter, faults}
+use Rattle.shot_lists.specs.Records.{held_after, faults}
 
 -- how records stand one after the other: an element that says the kind, and a body whose length the kind fixes
 pub record Layout (A : Type 0) : Type 0 where
@@ -18,41 +18,41 @@ pub record Layout (A : Type 0) : Type 0 where
   pub made : ℕ → List A → Record  -- of a kind, by the body and what stands behind it
 
 -- the length of the body, by kind: of a rate, a shot, a reel
-unfoldable pub bodyFixed : (rate shot reel kind : ℕ) → ℕ
-bodyFixed rate shot reel kind = cond (eqb kind 1) rate (cond (eqb kind 2) shot (cond (eqb kind 3) reel 0))
+unfoldable pub body_fixed : (rate shot reel kind : ℕ) → ℕ
+body_fixed rate shot reel kind = cond (eqb kind 1) rate (cond (eqb kind 2) shot (cond (eqb kind 3) reel 0))
 
 -- the record of a kind
-unfoldable pub ofKind : ℕ → (rate shot reel : Record) → Record
-ofKind kind rate shot reel = cond (eqb kind 1) rate (cond (eqb kind 2) shot reel)
+unfoldable pub of_kind : ℕ → (rate shot reel : Record) → Record
+of_kind kind rate shot reel = cond (eqb kind 1) rate (cond (eqb kind 2) shot reel)
 
 -- on disk: bytes, 1 for a rate, 8 for a shot, 4 for a reel
-abbrev pub onDisk : Layout ℕ
-onDisk = record {
+abbrev pub on_disk : Layout ℕ
+on_disk = record {
   kind = λ b. b;
-  body = bodyFixed 1 8 4;
-  made = λ k l. ofKind k (Rate (worth (take 1 l))) (Shot (signed_of 4 (worth (take 4 l))) (signed_of 4 (worth (take 4 (drop 4 l))))) (Reel (worth (take 4 l)));
+  body = body_fixed 1 8 4;
+  made = λ k l. of_kind k (Rate (worth (take 1 l))) (Shot (signed_of 4 (worth (take 4 l))) (signed_of 4 (worth (take 4 (drop 4 l))))) (Reel (worth (take 4 l)));
 }
 
 -- handed over: numbers, one for a rate, two for a shot, one for a reel
-abbrev pub inNumbers : Layout ℤ
-inNumbers = record {
-  kind = upFrom;
-  body = bodyFixed 1 2 1;
-  made = λ k l. ofKind k (Rate (upFrom (get_or l 0 (pos 0)))) (Shot (get_or l 0 (pos 0)) (get_or l 1 (pos 0))) (Reel (upFrom (get_or l 0 (pos 0))));
+abbrev pub in_numbers : Layout ℤ
+in_numbers = record {
+  kind = up_from;
+  body = body_fixed 1 2 1;
+  made = λ k l. of_kind k (Rate (up_from (get_or l 0 (pos 0)))) (Shot (get_or l 0 (pos 0)) (get_or l 1 (pos 0))) (Reel (up_from (get_or l 0 (pos 0))));
 }
 
 -- all that speaks against the record that begins with this element: 9 unknown kind, 10 body cut short, then what speaks against its numbers
 abbrev pub against : {A : Type 0} → Layout A → (held : ℕ) (x : A) (l : List A) → List Condition
 against f held x l =
     let k = f.kind x in
-    when noSuchKind (eqb (f.body k) 0) ∷ when cutShort (ltb (length l) (f.body k)) ∷ faults held (f.made k l)
+    when no_such_kind (eqb (f.body k) 0) ∷ when cut_short (ltb (length l) (f.body k)) ∷ faults held (f.made k l)
 
 -- a record that is there: taken with the rate that is held behind it and how far it goes, unless something speaks against its numbers
 unfoldable pub ruled : (held : ℕ) → Record → (size : ℕ) → Entry
-ruled held r size = unless Refused (faults held r) (Taken r (heldAfter held r) size)
+ruled held r size = unless Refused (faults held r) (Taken r (held_after held r) size)
 
 -- the record at the front of a list, given the rate held
 unfoldable pub entry_of : {A : Type 0} → Layout A → (held : ℕ) → List A → Entry
 entry_of f held [] = End
 entry_of f held (x ∷ l) =
-    unless Refused (against f held x l) (Taken (f.made (f.kind x) l) (heldAfter held (f.made (f.kind x) l)) (suc (f.body (f.kind x))))
+    unless Refused (against f held x l) (Taken (f.made (f.kind x) l) (held_after held (f.made (f.kind x) l)) (suc (f.body (f.kind x))))

@@ -13,10 +13,10 @@ pub data OneByOne {A : Type 0} (Spelt : Record → List A → Type 0) : List Rec
 -- ---- on disk
 
 -- kind 1, a rate; kind 2, a shot; kind 3, a reel
-abbrev pub kindByte : Record → ℕ
-kindByte (Rate n) = 1
-kindByte (Shot first end) = 2
-kindByte (Reel n) = 3
+abbrev pub kind_byte : Record → ℕ
+kind_byte (Rate n) = 1
+kind_byte (Shot first end) = 2
+kind_byte (Reel n) = 3
 
 -- 8 bytes, first frame and end frame, each signed 32-bit, low byte first
 pub record TwoFrames (first end : ℤ) (body : List ℕ) : Type 0 where
@@ -35,7 +35,7 @@ BodyOf (Reel n) body = Unsigned 4 n body
 -- one byte of kind and then a body
 pub record OneOnDisk (r : Record) (part : List ℕ) : Type 0 where
   pub body : List ℕ
-  pub is : part ≡ kindByte r ∷ body
+  pub is : part ≡ kind_byte r ∷ body
   pub of : BodyOf r body
 
 -- the records of a list, and its bytes
@@ -45,12 +45,12 @@ OnDisk = OneByOne OneOnDisk
 -- ---- handed over to be written
 
 -- the kind, then the record's own numbers
-abbrev pub recordNumbers : Record → List ℤ
-recordNumbers (Rate n) = pos 1 ∷ pos n ∷ []
-recordNumbers (Shot first end) = pos 2 ∷ first ∷ end ∷ []
-recordNumbers (Reel n) = pos 3 ∷ pos n ∷ []
+abbrev pub record_numbers : Record → List ℤ
+record_numbers (Rate n) = pos 1 ∷ pos n ∷ []
+record_numbers (Shot first end) = pos 2 ∷ first ∷ end ∷ []
+record_numbers (Reel n) = pos 3 ∷ pos n ∷ []
 
 -- a list's: one after the other
-unfoldable pub listNumbers : List Record → List ℤ
-listNumbers [] = []
-listNumbers (r ∷ rs) = recordNumbers r ++ listNumbers rs
+unfoldable pub list_numbers : List Record → List ℤ
+list_numbers [] = []
+list_numbers (r ∷ rs) = record_numbers r ++ list_numbers rs

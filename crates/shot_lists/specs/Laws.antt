@@ -11,10 +11,10 @@ use Rattle.std.proofs.Math.ListN.{length, length-append}
 use Rattle.answers.specs.declared.Refusal.{Refusal}
 use Rattle.answers.specs.Order.{Clear}
 use Rattle.answers.specs.OrderLaws.{unless-clear, unless-told}
-use Rattle.answers.specs.Refusals.{noSuchKind, cutShort}
+use Rattle.answers.specs.Refusals.{no_such_kind, cut_short}
 use Rattle.shot_lists.specs.declared.records.Record.{Record}
 use Rattle.shot_lists.specs.declared.records.Entry.TheVariants.{Taken, Refused, End}
-use Rattle.shot_lists.specs.Records.{heldAfter, faults}
+use Rattle.shot_lists.specs.Records.{held_after, faults}
 use Rattle.shot_lists.specs.Entries.{Layout, against, ruled, entry_of}
 
 -- a record that was taken is no refusal, and not the end
@@ -49,9 +49,9 @@ module _ {A : Type 0} (f : Layout A) (held : ℕ) where
   end-only [] h = refl
   end-only (x ∷ l) h =
       let m = f.made (f.kind x) l in
-      let answer = Taken m (heldAfter held m) (suc (f.body (f.kind x))) in
+      let answer = Taken m (held_after held m) (suc (f.body (f.kind x))) in
       let told = unless-told Refused (against f held x l) answer End (λ e p. refused-apart e p) h in
-      absurd (end-apart m (heldAfter held m) (suc (f.body (f.kind x))) (sym told.1))
+      absurd (end-apart m (held_after held m) (suc (f.body (f.kind x))) (sym told.1))
 
   module _ (l : List A) (at : ℕ) (d : A) (inside : at < length l) where
     here : drop at l ≡ get_or l at d ∷ drop (at + 1) l
@@ -60,12 +60,12 @@ module _ {A : Type 0} (f : Layout A) (held : ℕ) where
     behind : length (drop (at + 1) l) ≡ length l - (at + 1)
     behind = length-drop (at + 1) l
 
-    pub entry-unknown : f.body (f.kind (get_or l at d)) ≡ 0 → entry_of f held (drop at l) ≡ Refused noSuchKind
+    pub entry-unknown : f.body (f.kind (get_or l at d)) ≡ 0 → entry_of f held (drop at l) ≡ Refused no_such_kind
     unfolding entry_of
     entry-unknown e = rw (here, eq-eqb (f.body (f.kind (get_or l at d))) 0 e)
 
     pub entry-cut : (f.body (f.kind (get_or l at d)) ≡ 0 → ⊥) → length l - at ≤ f.body (f.kind (get_or l at d))
-        → entry_of f held (drop at l) ≡ Refused cutShort
+        → entry_of f held (drop at l) ≡ Refused cut_short
     unfolding entry_of
     entry-cut h k =
         let n = f.body (f.kind (get_or l at d)) in
@@ -85,14 +85,14 @@ module _ {A : Type 0} (f : Layout A) (held : ℕ) where
     pub whole : f.body (f.kind x) ≤ length l
     pub made : f.made (f.kind x) l ≡ r
     pub sound : Clear (faults held r)
-    pub next : after ≡ heldAfter held r
+    pub next : after ≡ held_after held r
     pub long : size ≡ suc (f.body (f.kind x))
 
   pub taken-told : (x : A) (l : List A) (r : Record) (after size : ℕ) → entry_of f held (x ∷ l) ≡ Taken r after size → TakenAt x l r after size
   unfolding entry_of
   taken-told x l r after size h =
       let m = f.made (f.kind x) l in
-      let answer = Taken m (heldAfter held m) (suc (f.body (f.kind x))) in
+      let answer = Taken m (held_after held m) (suc (f.body (f.kind x))) in
       let told = unless-told Refused (against f held x l) answer (Taken r after size) (taken-apart r after size) h in
       let same : answer ≡ Taken r after size = told.1 in
       let found : m ≡ r = cc in
@@ -114,7 +114,7 @@ module _ {A : Type 0} (f : Layout A) (held : ℕ) where
 
   -- ---- what stands for a record is taken as that record
 
-  pub entry-spelled : (r : Record) (l m : List A) → Spells f r l → Clear (faults held r) → entry_of f held (l ++ m) ≡ Taken r (heldAfter held r) (length l)
+  pub entry-spelled : (r : Record) (l m : List A) → Spells f r l → Clear (faults held r) → entry_of f held (l ++ m) ≡ Taken r (held_after held r) (length l)
   unfolding entry_of
   entry-spelled r l m s clear =
       let x = s.head in
@@ -123,5 +123,5 @@ module _ {A : Type 0} (f : Layout A) (held : ℕ) where
       let fits : n ≤ length (b ++ m) = omega (arith, s.fixed, length-append b m) in
       let size : suc n ≡ length l = omega (arith, s.fixed, ap length s.is) in
       rw (s.is, ne_eqb n 0 (λ e. omega (arith, s.some, s.fixed)), le-ltb (length (b ++ m)) n fits, s.made m)
-      (unless-clear Refused (faults held r) (Taken r (heldAfter held r) (suc n)) clear
-      ∙ ap (Taken r (heldAfter held r)) (omega (arith, s.fixed)))
+      (unless-clear Refused (faults held r) (Taken r (held_after held r) (suc n)) clear
+      ∙ ap (Taken r (held_after held r)) (omega (arith, s.fixed)))

@@ -26,24 +26,24 @@ onward (entry.Refused e) later = FaultOf e
 onward entry.End later = AllOf []
 
 -- the record at the front, and the records behind it; `skip` elements that belong to the record before are passed over
-unfoldable pub readFrom : {A : Type 0} → Layout A → (skip held : ℕ) → List A → Reading
-readFrom f skip held [] = AllOf []
-readFrom f (suc skip) held (x ∷ l) = readFrom f skip held l
-readFrom f zero held (x ∷ l) = onward (entry_of f held (x ∷ l)) (λ after size. readFrom f (size - 1) after l)
+unfoldable pub read_from : {A : Type 0} → Layout A → (skip held : ℕ) → List A → Reading
+read_from f skip held [] = AllOf []
+read_from f (suc skip) held (x ∷ l) = read_from f skip held l
+read_from f zero held (x ∷ l) = onward (entry_of f held (x ∷ l)) (λ after size. read_from f (size - 1) after l)
 
 -- from the first element on; no rate is held yet
 abbrev pub read_of : {A : Type 0} → Layout A → List A → Reading
-read_of f l = readFrom f 0 0 l
+read_of f l = read_from f 0 0 l
 
 -- has the list no record at fault?
-abbrev pub isFaultless : Reading → Bool
-isFaultless (AllOf rs) = true
-isFaultless (FaultOf e) = false
+abbrev pub is_faultless : Reading → Bool
+is_faultless (AllOf rs) = true
+is_faultless (FaultOf e) = false
 
 -- how many records, or the refusal
-abbrev pub checkedOf : Reading → Checked
-checkedOf (AllOf rs) = checked.Records (length rs)
-checkedOf (FaultOf e) = checked.Refused e
+abbrev pub checked_of : Reading → Checked
+checked_of (AllOf rs) = checked.Records (length rs)
+checked_of (FaultOf e) = checked.Refused e
 
 -- the number of an entry's refusal; 0: not refused
 abbrev pub number_in : Entry → ℕ

@@ -1,7 +1,7 @@
 // A shot list on disk: a record's kind is a byte, and its body so many bytes as the kind fixes.
 ghost use Rattle.std.specs.Prelude.{◌≡◌, ◌≤◌, length, drop};
-ghost use Rattle.shot_lists.specs.Entries.{onDisk, entry_of};
-ghost use Rattle.shot_lists.specs.Reading.{checkedOf, read_of};
+ghost use Rattle.shot_lists.specs.Entries.{on_disk, entry_of};
+ghost use Rattle.shot_lists.specs.Reading.{checked_of, read_of};
 
 use crate::records;
 use crate::records::{Entry, Record};
@@ -16,8 +16,8 @@ pub enum Checked {
 
 // The record of a kind, by the bytes of its body from a place on. Asks a place of the list, or its end.
 fn from_bytes(list: &[u8], kind: u64, at: usize) -> Record
-    requires within { at ≤ length list.now }
-    ensures answer { result ≡ onDisk.made kind (drop at list.now) }
+    requires { at ≤ length list.now }
+    ensures { result ≡ on_disk.made kind (drop at list.now) }
 {
     if kind == 1 {
         return Record::Rate(low_bytes::number_at(list, at, 1));
@@ -33,7 +33,7 @@ fn from_bytes(list: &[u8], kind: u64, at: usize) -> Record
 
 // The record at a byte of a list, given the rate held (any number that is no rate: none is).
 pub fn record_at(list: &[u8], at: usize, held: u64) -> Entry
-    ensures answer { result ≡ entry_of onDisk held (drop at list.now) }
+    ensures { result ≡ entry_of on_disk held (drop at list.now) }
 {
     if list.len() <= at {
         return Entry::End;
@@ -51,7 +51,7 @@ pub fn record_at(list: &[u8], at: usize, held: u64) -> Entry
 
 // A whole list, tested record by record.
 pub fn check_list(list: &[u8]) -> Checked
-    ensures answer { result ≡ checkedOf (read_of onDisk list.now) }
+    ensures { result ≡ checked_of (read_of on_disk list.now) }
 {
     let mut at: usize = 0;
     let mut held: u64 = 0;

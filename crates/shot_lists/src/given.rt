@@ -1,14 +1,14 @@
 // A shot list as a caller hands it over to be written: numbers, and for each record its kind and then its own, one for a rate, two for a
 // shot, one for a reel.
 ghost use Rattle.std.specs.Prelude.{◌≡◌, ◌≤◌, length, drop, get_or, pos};
-ghost use Rattle.shot_lists.specs.Entries.{inNumbers, entry_of};
+ghost use Rattle.shot_lists.specs.Entries.{in_numbers, entry_of};
 
 use crate::records;
 use crate::records::{Entry, Record};
 
 // The number at a place; 0 where there is none.
 fn number_in(given: &[i64], at: usize) -> i64
-    ensures answer { result ≡ get_or given.now at (pos 0) }
+    ensures { result ≡ get_or given.now at (pos 0) }
 {
     if at < given.len() {
         return given[at];
@@ -18,8 +18,8 @@ fn number_in(given: &[i64], at: usize) -> i64
 
 // The record of a kind, by the numbers from a place on. Asks a place of the numbers, or their end.
 fn from_numbers(given: &[i64], kind: u64, at: usize) -> Record
-    requires within { at ≤ length given.now }
-    ensures answer { result ≡ inNumbers.made kind (drop at given.now) }
+    requires { at ≤ length given.now }
+    ensures { result ≡ in_numbers.made kind (drop at given.now) }
 {
     let x = number_in(given, at);
     if kind == 1 {
@@ -36,7 +36,7 @@ fn from_numbers(given: &[i64], kind: u64, at: usize) -> Record
 
 // The record at a place of the numbers, given the rate held (any number that is no rate: none is).
 pub fn given_at(given: &[i64], at: usize, held: u64) -> Entry
-    ensures answer { result ≡ entry_of inNumbers held (drop at given.now) }
+    ensures { result ≡ entry_of in_numbers held (drop at given.now) }
 {
     if given.len() <= at {
         return Entry::End;

@@ -1,9 +1,9 @@
 // A record of a shot list, and what speaks against its numbers where a rate is held.
 ghost use Rattle.std.specs.Prelude.{◌≡◌, ◌∷◌, []};
 ghost use Rattle.answers.specs.Order.{judged};
-ghost use Rattle.rates.specs.Rates.{badRate};
-ghost use Rattle.shot_lists.specs.Records.{heldAfter, badReel, shotFaults, faults};
-ghost use Rattle.shot_lists.specs.Entries.{bodyFixed, ruled};
+ghost use Rattle.rates.specs.Rates.{bad_rate};
+ghost use Rattle.shot_lists.specs.Records.{held_after, bad_reel, shot_faults, faults};
+ghost use Rattle.shot_lists.specs.Entries.{body_fixed, ruled};
 
 use answers::{Refusal, Verdict};
 
@@ -29,7 +29,7 @@ pub enum Entry {
 
 // The length of the body by the kind, given those of a rate, a shot and a reel; 0 where there is no such kind.
 pub(crate) fn body_fixed(kind: u64, rate: usize, shot: usize, reel: usize) -> usize
-    ensures answer { result ≡ bodyFixed rate shot reel kind }
+    ensures { result ≡ body_fixed rate shot reel kind }
 {
     if kind == 1 {
         return rate;
@@ -45,7 +45,7 @@ pub(crate) fn body_fixed(kind: u64, rate: usize, shot: usize, reel: usize) -> us
 
 // Refuses 6: no such rate.
 fn rate_fault(n: u64) -> Verdict
-    ensures answer { result ≡ judged (badRate n ∷ []) }
+    ensures { result ≡ judged (bad_rate n ∷ []) }
 {
     if rates::is_rate(n) {
         return Verdict::Passed;
@@ -55,7 +55,7 @@ fn rate_fault(n: u64) -> Verdict
 
 // Refuses 5: a frame out of the counts' bounds; 11: no rate is held; 12: the end lies before the first frame.
 fn shot_fault(held: u64, first: i64, end: i64) -> Verdict
-    ensures answer { result ≡ judged (shotFaults held first end) }
+    ensures { result ≡ judged (shot_faults held first end) }
 {
     if !answers::is_count(first) {
         return Verdict::Refused(answers::OUT_OF_BOUNDS);
@@ -74,7 +74,7 @@ fn shot_fault(held: u64, first: i64, end: i64) -> Verdict
 
 // Refuses 5: no unsigned 32-bit number.
 fn reel_fault(n: u64) -> Verdict
-    ensures answer { result ≡ judged (badReel n ∷ []) }
+    ensures { result ≡ judged (bad_reel n ∷ []) }
 {
     if n < 4_294_967_296 {
         return Verdict::Passed;
@@ -84,7 +84,7 @@ fn reel_fault(n: u64) -> Verdict
 
 // What speaks against a record's numbers where a rate is held.
 fn fault(held: u64, found: Record) -> Verdict
-    ensures answer { result ≡ judged (faults held found) }
+    ensures { result ≡ judged (faults held found) }
 {
     match found {
         Record::Rate(n) => rate_fault(n),
@@ -95,7 +95,7 @@ fn fault(held: u64, found: Record) -> Verdict
 
 // The rate that is held behind a record.
 fn held_after(held: u64, found: Record) -> u64
-    ensures answer { result ≡ heldAfter held found }
+    ensures { result ≡ held_after held found }
 {
     match found {
         Record::Rate(n) => n,
@@ -106,7 +106,7 @@ fn held_after(held: u64, found: Record) -> u64
 
 // The record, where nothing speaks against its numbers.
 pub(crate) fn rule(held: u64, found: Record, size: usize) -> Entry
-    ensures answer { result ≡ ruled held found size }
+    ensures { result ≡ ruled held found size }
 {
     match fault(held, found) {
         Verdict::Passed => Entry::Taken {

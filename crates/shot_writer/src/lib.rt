@@ -1,14 +1,16 @@
 // Shot lists written into the caller's line from a stated place: the records are handed over in numbers, and nothing is written before the
 // whole list is known to be without fault and to have room. Refuses what the earliest record at fault is refused (9, 10, 6, 5, 11, 12),
 // then 8: place plus the list's length exceeds the line's length.
+#![tactic(auto)]
+
 ghost use Rattle.std.specs.Prelude.{◌≡◌, ◌∷◌, true, ◌≤◌, length};
 ghost use Rattle.lent.specs.Line.{laid};
-ghost use Rattle.low_bytes.specs.LowBytes.{lowBytes};
-ghost use Rattle.written.specs.Written.{answerTo, lineTo};
+ghost use Rattle.low_bytes.specs.LowBytes.{low_bytes};
+ghost use Rattle.written.specs.Written.{answer_to, line_to};
 ghost use Rattle.shot_lists.specs.declared.records.Record.TheVariants.{Shot};
-ghost use Rattle.shot_lists.specs.Entries.{inNumbers};
-ghost use Rattle.shot_lists.specs.Reading.{read_of, isFaultless};
-ghost use Rattle.shot_writer.specs.ListText.{recordBytes, listBytes, recordsIn, measuredOf, listDraft};
+ghost use Rattle.shot_lists.specs.Entries.{in_numbers};
+ghost use Rattle.shot_lists.specs.Reading.{read_of, is_faultless};
+ghost use Rattle.shot_writer.specs.ListText.{record_bytes, list_bytes, records_in, measured_of, list_draft};
 
 use answers::Refusal;
 use shot_lists::{Entry, Record};
@@ -23,7 +25,7 @@ enum Measured {
 
 // How many bytes a record has on disk.
 fn record_length(found: Record) -> usize
-    ensures answer { result ≡ length (recordBytes found) }
+    ensures { result ≡ length (record_bytes found) }
 {
     match found {
         Record::Rate(_) => 2,
@@ -34,7 +36,7 @@ fn record_length(found: Record) -> usize
 
 // The whole list that is handed over, tested and measured record by record.
 fn measure(given: &[i64]) -> Measured
-    ensures answer { result ≡ measuredOf (read_of inNumbers given.now) }
+    ensures { result ≡ measured_of (read_of in_numbers given.now) }
 {
     let mut at: usize = 0;
     let mut held: u64 = 0;
@@ -63,7 +65,7 @@ fn measure(given: &[i64]) -> Measured
 
 // A shot's kind and frames at the front of a part; every other byte stays. Where they have no room nothing changes.
 fn put_shot(part: &mut [u8], first: i64, end: i64)
-    ensures line { part.new ≡ laid part.old (recordBytes (Shot first end)) }
+    ensures { part.new ≡ laid part.old (record_bytes (Shot first end)) }
 {
     if part.len() < 9 {
         return;
@@ -75,7 +77,7 @@ fn put_shot(part: &mut [u8], first: i64, end: i64)
 
 // A kind and a number of so many bytes at the front of a part; every other byte stays. Where they have no room nothing changes.
 fn put_kind(part: &mut [u8], kind: u8, width: usize, n: u64)
-    ensures line { part.new ≡ laid part.old (kind ∷ lowBytes width n) }
+    ensures { part.new ≡ laid part.old (kind ∷ low_bytes width n) }
 {
     if width < part.len() {
         lent::put_byte(part, kind);
@@ -85,7 +87,7 @@ fn put_kind(part: &mut [u8], kind: u8, width: usize, n: u64)
 
 // A record's bytes at the front of a part; every other byte stays. Where they have no room nothing changes.
 fn put_record(part: &mut [u8], found: Record)
-    ensures line { part.new ≡ laid part.old (recordBytes found) }
+    ensures { part.new ≡ laid part.old (record_bytes found) }
 {
     match found {
         Record::Rate(n) => put_kind(part, 1, 1, n),
@@ -96,9 +98,9 @@ fn put_record(part: &mut [u8], found: Record)
 
 // The bytes of a list that is handed over, at the front of a part; every other byte stays. Asks a list without fault, and room.
 fn put_list(part: &mut [u8], given: &[i64])
-    requires sound { isFaultless (read_of inNumbers given.now) ≡ true }
-    requires room { length (listBytes (recordsIn (read_of inNumbers given.now))) ≤ length part.old }
-    ensures line { part.new ≡ laid part.old (listBytes (recordsIn (read_of inNumbers given.now))) }
+    requires sound { is_faultless (read_of in_numbers given.now) ≡ true }
+    requires room { length (list_bytes (records_in (read_of in_numbers given.now))) ≤ length part.old }
+    ensures { part.new ≡ laid part.old (list_bytes (records_in (read_of in_numbers given.now))) }
 {
     let mut at: usize = 0;
     let mut held: u64 = 0;
@@ -127,8 +129,8 @@ fn put_list(part: &mut [u8], given: &[i64])
 
 // The list that is handed over, laid down from `place` on.
 pub fn write_list(given: &[i64], line: &mut [u8], place: usize) -> Written
-    ensures answer { result ≡ answerTo line.old place (listDraft given.now) }
-    ensures line { line.new ≡ lineTo line.old place (listDraft given.now) }
+    ensures answer { result ≡ answer_to line.old place (list_draft given.now) }
+    ensures line { line.new ≡ line_to line.old place (list_draft given.now) }
 {
     match measure(given) {
         Measured::Length(need) => {

@@ -3,26 +3,26 @@
 use Rattle.std.specs.Prelude.{ℕ, List, [], ◌∷◌, ◌++◌, false}
 use Rattle.router.specs.declared.Routed.{Routed}
 use Rattle.router.specs.declared.Routed.TheVariants.{Shards, Refused}
-use Rattle.written.specs.Parts.{signedText}
+use Rattle.written.specs.Parts.{signed_text}
 use Rattle.streams.specs.Sheet.{Sheet}
 use Rattle.laws.specs.Spelt.{spelt}
-use Rattle.showing.specs.Why.{joined, putsOn, spacedParts}
+use Rattle.showing.specs.Why.{joined, puts_on, spaced_parts}
 
 -- two numbers from 0 on, and a space between them
-unfoldable pub shardsParts : (first after : ℕ) → List (List ℕ)
-shardsParts first after = signedText false first ∷ spacedParts false after
+unfoldable pub shards_parts : (first after : ℕ) → List (List ℕ)
+shards_parts first after = signed_text false first ∷ spaced_parts false after
 
 -- or the refusal, with its place in the text
-abbrev pub routedParts : Routed → List (List ℕ)
-routedParts (Shards first after) = shardsParts first after
-routedParts (Refused e) = spelt "refused " ∷ signedText false e.number ∷ spacedParts false e.place
+abbrev pub routed_parts : Routed → List (List ℕ)
+routed_parts (Shards first after) = shards_parts first after
+routed_parts (Refused e) = spelt "refused " ∷ signed_text false e.number ∷ spaced_parts false e.place
 
 -- and the line's end
-abbrev pub lineParts : Routed → List (List ℕ)
-lineParts a = routedParts a ++ ((10 ∷ []) ∷ [])
+abbrev pub line_parts : Routed → List (List ℕ)
+line_parts a = routed_parts a ++ ((10 ∷ []) ∷ [])
 
-unfoldable pub routedText : Routed → List ℕ
-routedText a = joined (lineParts a)
+unfoldable pub routed_text : Routed → List ℕ
+routed_text a = joined (line_parts a)
 
-unfoldable pub routedOn : Sheet → Routed → Sheet
-routedOn s a = putsOn s (lineParts a)
+unfoldable pub routed_on : Sheet → Routed → Sheet
+routed_on s a = puts_on s (line_parts a)

@@ -1,36 +1,36 @@
 -- How the calculator shows an answer (docs/ASK.md): its text, and what is put on a sheet.
 -- Assumes nothing.
 use Rattle.std.specs.Prelude.{ℕ, List, [], ◌∷◌, ◌++◌, Bool, true, false, cond, eqb, ℤ, pos, nat_abs}
-use Rattle.numbers.specs.Sign.{isNeg}
+use Rattle.numbers.specs.Sign.{is_neg}
 use Rattle.written.specs.declared.Written.{Written}
 use Rattle.written.specs.declared.Written.TheVariants.{Length, Refused}
-use Rattle.written.specs.Parts.{signedText}
-use Rattle.streams.specs.Sheet.{Sheet, putOn}
-use Rattle.hex.specs.Hex.{hexText}
+use Rattle.written.specs.Parts.{signed_text}
+use Rattle.streams.specs.Sheet.{Sheet, put_on}
+use Rattle.hex.specs.Hex.{hex_text}
 use Rattle.laws.specs.Spelt.{spelt}
 use Rattle.showing.specs.declared.Shown.{Shown}
-use Rattle.showing.specs.Each.{ofRefusal}
+use Rattle.showing.specs.Each.{of_refusal}
 
 -- ---- its text
-abbrev pub countText : ℤ → List ℕ
-countText x = signedText (isNeg x) (nat_abs x)
+abbrev pub count_text : ℤ → List ℕ
+count_text x = signed_text (is_neg x) (nat_abs x)
 
 -- the word before numbers
-unfoldable pub wordText : (word : ℕ) → List ℕ
-wordText word =
+unfoldable pub word_text : (word : ℕ) → List ℕ
+word_text word =
     cond (eqb word 108) (spelt "label ")
     (cond (eqb word 102) (spelt "footage ")
     (cond (eqb word 114) (spelt "refused ")
     []))
 
 -- and behind it the mark of a position, `@`
-abbrev pub frontText : (word : ℕ) (position : Bool) → List ℕ
-frontText word false = wordText word
-frontText word true = wordText word ++ (64 ∷ [])
+abbrev pub front_text : (word : ℕ) (position : Bool) → List ℕ
+front_text word false = word_text word
+front_text word true = word_text word ++ (64 ∷ [])
 
 -- the commands in short, each line but the last with its end
-unfoldable pub helpText : List ℕ
-helpText =
+unfoldable pub help_text : List ℕ
+help_text =
     spelt "read RATE TEXT: label COUNT or footage COUNT FORMAT" ++ (10
     ∷ spelt "read_as FORMAT RATE TEXT: footage COUNT FORMAT" ++ (10
     ∷ spelt "read_runtime RATE TEXT: COUNT" ++ (10
@@ -60,68 +60,68 @@ helpText =
     ∷ spelt "The first RATE of a command other than route, and the second of add, sub and cmp, may have @ before it: a position; a COUNT that is one has it too"))))))))))))))))))))))))))
 
 -- a word alone
-unfoldable pub saidText : (word : ℕ) → List ℕ
-saidText word = cond (eqb word 104) helpText (spelt "not understood")
+unfoldable pub said_text : (word : ℕ) → List ℕ
+said_text word = cond (eqb word 104) help_text (spelt "not understood")
 
-abbrev pub secondText : (mark y : ℕ) → List ℕ
-secondText mark y = mark ∷ signedText false y
+abbrev pub second_text : (mark y : ℕ) → List ℕ
+second_text mark y = mark ∷ signed_text false y
 
 -- a word alone, or a word and one or two numbers
-unfoldable pub partsText : Shown → List ℕ
-partsText s =
-    cond (eqb s.count 0) (saidText s.word)
-    (cond (eqb s.count 1) (frontText s.word s.position ++ countText s.x)
-    (frontText s.word s.position ++ (countText s.x ++ secondText s.mark s.y)))
+unfoldable pub parts_text : Shown → List ℕ
+parts_text s =
+    cond (eqb s.count 0) (said_text s.word)
+    (cond (eqb s.count 1) (front_text s.word s.position ++ count_text s.x)
+    (front_text s.word s.position ++ (count_text s.x ++ second_text s.mark s.y)))
 
 -- and the line's end
-unfoldable pub shownText : Shown → List ℕ
-shownText s = partsText s ++ (10 ∷ [])
+unfoldable pub shown_text : Shown → List ℕ
+shown_text s = parts_text s ++ (10 ∷ [])
 
 -- of a writer the length or the refusal, behind a space the whole line, and the line's end
-abbrev pub lengthText : Written → List ℕ
-lengthText (Length n) = signedText false n
-lengthText (Refused e) = partsText (ofRefusal e)
+abbrev pub length_text : Written → List ℕ
+length_text (Length n) = signed_text false n
+length_text (Refused e) = parts_text (of_refusal e)
 
-unfoldable pub writtenText : Written → (line : List ℕ) → List ℕ
-writtenText w line = lengthText w ++ (32 ∷ line ++ (10 ∷ []))
+unfoldable pub written_text : Written → (line : List ℕ) → List ℕ
+written_text w line = length_text w ++ (32 ∷ line ++ (10 ∷ []))
 
 -- ---- on a sheet, part by part
-unfoldable pub wordOn : Sheet → (word : ℕ) → Sheet
-wordOn s word =
-    cond (eqb word 108) (putOn s (spelt "label "))
-    (cond (eqb word 102) (putOn s (spelt "footage "))
-    (cond (eqb word 114) (putOn s (spelt "refused "))
+unfoldable pub word_on : Sheet → (word : ℕ) → Sheet
+word_on s word =
+    cond (eqb word 108) (put_on s (spelt "label "))
+    (cond (eqb word 102) (put_on s (spelt "footage "))
+    (cond (eqb word 114) (put_on s (spelt "refused "))
     s))
 
-abbrev pub frontOn : Sheet → (word : ℕ) (position : Bool) → Sheet
-frontOn s word false = wordOn s word
-frontOn s word true = putOn (wordOn s word) (64 ∷ [])
+abbrev pub front_on : Sheet → (word : ℕ) (position : Bool) → Sheet
+front_on s word false = word_on s word
+front_on s word true = put_on (word_on s word) (64 ∷ [])
 
-unfoldable pub saidOn : Sheet → (word : ℕ) → Sheet
-saidOn s word = cond (eqb word 104) (putOn s helpText) (putOn s (spelt "not understood"))
+unfoldable pub said_on : Sheet → (word : ℕ) → Sheet
+said_on s word = cond (eqb word 104) (put_on s help_text) (put_on s (spelt "not understood"))
 
-unfoldable pub secondOn : Sheet → (mark y : ℕ) → Sheet
-secondOn s mark y = putOn (putOn s (mark ∷ [])) (signedText false y)
+unfoldable pub second_on : Sheet → (mark y : ℕ) → Sheet
+second_on s mark y = put_on (put_on s (mark ∷ [])) (signed_text false y)
 
-abbrev pub firstOn : Sheet → Shown → Sheet
-firstOn s a = putOn (frontOn s a.word a.position) (countText a.x)
+abbrev pub first_on : Sheet → Shown → Sheet
+first_on s a = put_on (front_on s a.word a.position) (count_text a.x)
 
-unfoldable pub partsOn : Sheet → Shown → Sheet
-partsOn s a =
-    cond (eqb a.count 0) (saidOn s a.word)
-    (cond (eqb a.count 1) (firstOn s a)
-    (secondOn (firstOn s a) a.mark a.y))
+unfoldable pub parts_on : Sheet → Shown → Sheet
+parts_on s a =
+    cond (eqb a.count 0) (said_on s a.word)
+    (cond (eqb a.count 1) (first_on s a)
+    (second_on (first_on s a) a.mark a.y))
 
-unfoldable pub shownOn : Sheet → Shown → Sheet
-shownOn s a = putOn (partsOn s a) (10 ∷ [])
+unfoldable pub shown_on : Sheet → Shown → Sheet
+shown_on s a = put_on (parts_on s a) (10 ∷ [])
 
-abbrev pub lengthOn : Sheet → Written → Sheet
-lengthOn s (Length n) = putOn s (signedText false n)
-lengthOn s (Refused e) = partsOn s (ofRefusal e)
+abbrev pub length_on : Sheet → Written → Sheet
+length_on s (Length n) = put_on s (signed_text false n)
+length_on s (Refused e) = parts_on s (of_refusal e)
 
-unfoldable pub writtenOn : Sheet → Written → (line : List ℕ) → Sheet
-writtenOn s w line = putOn (putOn (putOn (lengthOn s w) (32 ∷ [])) line) (10 ∷ [])
+unfoldable pub written_on : Sheet → Written → (line : List ℕ) → Sheet
+written_on s w line = put_on (put_on (put_on (length_on s w) (32 ∷ [])) line) (10 ∷ [])
 
 -- the same with the line as HEX
-abbrev pub hexWrittenOn : Sheet → Written → (line : List ℕ) → Sheet
-hexWrittenOn s w line = writtenOn s w (hexText line)
+abbrev pub hex_written_on : Sheet → Written → (line : List ℕ) → Sheet
+hex_written_on s w line = written_on s w (hex_text line)

@@ -8,11 +8,11 @@ use Rattle.faults.specs.Faults.{fault}
 use Rattle.timecodes.specs.declared.Answer.TheVariants.{At}
 use Rattle.timecodes.specs.Timecode.{timecode, position}
 use Rattle.film.specs.declared.FilmFormat.{FilmFormat}
-use Rattle.film.specs.Film.{formatNumber}
+use Rattle.film.specs.Film.{format_number}
 use Rattle.reading.specs.declared.Read.{Read}
 use Rattle.reading.specs.declared.Read.TheVariants.{Label, Footage, Refused}
 use Rattle.label_writer.specs.declared.TimecodeSections.{TimecodeSections}
-use Rattle.label_writer.specs.LabelText.{framesMark, sectionsText}
+use Rattle.label_writer.specs.LabelText.{frames_mark, sections_text}
 use Rattle.reasons.specs.declared.Fact.{Fact}
 use Rattle.reasons.specs.declared.Fact.TheVariants.{Nothing, Limit, First}
 use Rattle.reasons.specs.declared.Reasoned.{Reasoned}
@@ -23,157 +23,157 @@ use Rattle.shot_lists.specs.Reading.{AllOf, FaultOf}
 use Rattle.router.specs.declared.Routed.{Routed}
 use Rattle.router.specs.declared.Routed.TheVariants as routed
 use Rattle.written.specs.declared.Written.{Written}
-use Rattle.written.specs.Parts.{signedText}
-use Rattle.streams.specs.Sheet.{Sheet, textOn}
-use Rattle.hex.specs.Hex.{hexText}
+use Rattle.written.specs.Parts.{signed_text}
+use Rattle.streams.specs.Sheet.{Sheet, text_on}
+use Rattle.hex.specs.Hex.{hex_text}
 use Rattle.laws.specs.Spelt.{spelt}
 use Rattle.showing.specs.declared.Shown.{Shown}
-use Rattle.showing.specs.Each.{ofAnswer, ofRead}
-use Rattle.showing.specs.Shown.{countText, shownText, writtenText, shownOn, writtenOn, hexWrittenOn}
-use Rattle.showing.specs.Lists.{listText, listOn}
-use Rattle.showing.specs.Why.{whyText, whyOn}
-use Rattle.showing.specs.Routes.{routedText, routedOn}
+use Rattle.showing.specs.Each.{of_answer, of_read}
+use Rattle.showing.specs.Shown.{count_text, shown_text, written_text, shown_on, written_on, hex_written_on}
+use Rattle.showing.specs.Lists.{list_text, list_on}
+use Rattle.showing.specs.Why.{why_text, why_on}
+use Rattle.showing.specs.Routes.{routed_text, routed_on}
 
 -- behind the text that the sheet has stands the answer's, where it has room
 abbrev pub ShownLine : Type 0
 ShownLine =
-    (s : Sheet) (a : Shown) → s.used + length (shownText a) ≤ length s.bytes
-    → textOn (shownOn s a) ≡ textOn s ++ shownText a
+    (s : Sheet) (a : Shown) → s.used + length (shown_text a) ≤ length s.bytes
+    → text_on (shown_on s a) ≡ text_on s ++ shown_text a
 
 -- and that of a writer's command: the length or the refusal, a space, the whole line that it wrote into
 abbrev pub WrittenLine : Type 0
 WrittenLine =
-    (s : Sheet) (w : Written) (line : List ℕ) → s.used + length (writtenText w line) ≤ length s.bytes
-    → textOn (writtenOn s w line) ≡ textOn s ++ writtenText w line
+    (s : Sheet) (w : Written) (line : List ℕ) → s.used + length (written_text w line) ≤ length s.bytes
+    → text_on (written_on s w line) ≡ text_on s ++ written_text w line
 
 -- and that of a writer of bytes: the length or the refusal, a space, the whole line that it wrote into as HEX
 abbrev pub HexWrittenLine : Type 0
 HexWrittenLine =
-    (s : Sheet) (w : Written) (line : List ℕ) → s.used + length (writtenText w (hexText line)) ≤ length s.bytes
-    → textOn (hexWrittenOn s w line) ≡ textOn s ++ writtenText w (hexText line)
+    (s : Sheet) (w : Written) (line : List ℕ) → s.used + length (written_text w (hex_text line)) ≤ length s.bytes
+    → text_on (hex_written_on s w line) ≡ text_on s ++ written_text w (hex_text line)
 
 -- a text that is refused is shown with its number and its place: `refused N PLACE`
 abbrev pub TextRefusedShown : Type 0
 TextRefusedShown =
     (e : Refusal)
-    → shownText (ofRead (Refused e)) ≡ (spelt "refused " ++ (signedText false e.number ++ (32 ∷ signedText false e.place))) ++ (10 ∷ [])
+    → shown_text (of_read (Refused e)) ≡ (spelt "refused " ++ (signed_text false e.number ++ (32 ∷ signed_text false e.place))) ++ (10 ∷ [])
 
 -- a count that is a position has `@` before it: `@13`, `label @1800`, `footage @16 1`; a length's has none
 abbrev pub PositionShown : Type 0
 PositionShown =
     (z : ℤ) (rate : ℕ)
-    → (shownText (ofAnswer (At (position z rate))) ≡ (64 ∷ countText z) ++ (10 ∷ []))
-    × (shownText (ofAnswer (At (timecode z rate))) ≡ countText z ++ (10 ∷ []))
-    × (shownText (ofRead (Label (position z rate))) ≡ (spelt "label @" ++ countText z) ++ (10 ∷ []))
-    × (shownText (ofRead (Label (timecode z rate))) ≡ (spelt "label " ++ countText z) ++ (10 ∷ []))
+    → (shown_text (of_answer (At (position z rate))) ≡ (64 ∷ count_text z) ++ (10 ∷ []))
+    × (shown_text (of_answer (At (timecode z rate))) ≡ count_text z ++ (10 ∷ []))
+    × (shown_text (of_read (Label (position z rate))) ≡ (spelt "label @" ++ count_text z) ++ (10 ∷ []))
+    × (shown_text (of_read (Label (timecode z rate))) ≡ (spelt "label " ++ count_text z) ++ (10 ∷ []))
     × ((format : FilmFormat)
-    → shownText (ofRead (Footage (position z rate) format))
-    ≡ (spelt "footage @" ++ (countText z ++ (32 ∷ signedText false (formatNumber format)))) ++ (10 ∷ []))
+    → shown_text (of_read (Footage (position z rate) format))
+    ≡ (spelt "footage @" ++ (count_text z ++ (32 ∷ signed_text false (format_number format)))) ++ (10 ∷ []))
     × ((format : FilmFormat)
-    → shownText (ofRead (Footage (timecode z rate) format))
-    ≡ (spelt "footage " ++ (countText z ++ (32 ∷ signedText false (formatNumber format)))) ++ (10 ∷ []))
+    → shown_text (of_read (Footage (timecode z rate) format))
+    ≡ (spelt "footage " ++ (count_text z ++ (32 ∷ signed_text false (format_number format)))) ++ (10 ∷ []))
 
 -- behind the text that the sheet has stands a shot list's, where it has room: how many records it has, and each as words
 abbrev pub ListLine : Type 0
 ListLine =
-    (s : Sheet) (rs : List Record) → s.used + length (listText rs ++ (10 ∷ [])) ≤ length s.bytes
-    → textOn (listOn s (AllOf rs)) ≡ textOn s ++ (listText rs ++ (10 ∷ []))
+    (s : Sheet) (rs : List Record) → s.used + length (list_text rs ++ (10 ∷ [])) ≤ length s.bytes
+    → text_on (list_on s (AllOf rs)) ≡ text_on s ++ (list_text rs ++ (10 ∷ []))
 
 -- and of a shot list with a fault the refusal of its earliest record at fault: `refused N`
 abbrev pub ListRefusedLine : Type 0
 ListRefusedLine =
-    (s : Sheet) (e : Refusal) → (let text = (spelt "refused " ++ signedText false e.number) ++ (10 ∷ []) in
-    s.used + length text ≤ length s.bytes → textOn (listOn s (FaultOf e)) ≡ textOn s ++ text)
+    (s : Sheet) (e : Refusal) → (let text = (spelt "refused " ++ signed_text false e.number) ++ (10 ∷ []) in
+    s.used + length text ≤ length s.bytes → text_on (list_on s (FaultOf e)) ≡ text_on s ++ text)
 
 -- the words of each kind of record, in a list of three; and of an empty list `0`
 abbrev pub ListWords : Type 0
 ListWords =
-    (listText (Rate 5 ∷ Shot (negsuc 9) (pos 100) ∷ Reel 7 ∷ []) ≡ spelt "3 rate 5 shot -10 100 reel 7")
-    × (listText [] ≡ spelt "0")
+    (list_text (Rate 5 ∷ Shot (negsuc 9) (pos 100) ∷ Reel 7 ∷ []) ≡ spelt "3 rate 5 shot -10 100 reel 7")
+    × (list_text [] ≡ spelt "0")
 
 -- ---- why a text is read as it is
 -- behind the text that the sheet has stands why a text is read as it is, where that has room
 abbrev pub WhyLine : Type 0
 WhyLine =
-    (s : Sheet) (rate : ℕ) (w : Reasoned) (line : List ℕ) → s.used + length (whyText rate w line) ≤ length s.bytes
-    → textOn (whyOn s rate w line) ≡ textOn s ++ whyText rate w line
+    (s : Sheet) (rate : ℕ) (w : Reasoned) (line : List ℕ) → s.used + length (why_text rate w line) ≤ length s.bytes
+    → text_on (why_on s rate w line) ≡ text_on s ++ why_text rate w line
 
 -- the reader's answer, a fact, and the phrase's length
 abbrev pub reason : Read → Fact → (n : ℕ) → Reasoned
 reason read fact n = reasoned.Told (record { read = read; fact = fact; length = n })
 
 -- `LENGTH LINE`, the phrase's length and the whole line
-abbrev pub lengthLine : (n : ℕ) (line : List ℕ) → List ℕ
-lengthLine n line = signedText false n ++ (32 ∷ line ++ (10 ∷ []))
+abbrev pub length_line : (n : ℕ) (line : List ℕ) → List ℕ
+length_line n line = signed_text false n ++ (32 ∷ line ++ (10 ∷ []))
 
 -- an accepted text is shown as `0 0 COUNT 0 0 - LENGTH LINE`, its count with `@` before it where it is a position
 abbrev pub WhyAcceptedShown : Type 0
 WhyAcceptedShown =
     (z : ℤ) (rate n : ℕ) (line : List ℕ)
-    → (let as-length = spelt "0 0 " ++ (countText z ++ (spelt " 0 0 - " ++ lengthLine n line)) in
-    let as-position = spelt "0 0 @" ++ (countText z ++ (spelt " 0 0 - " ++ lengthLine n line)) in
-    (whyText rate (reason (Label (timecode z rate)) Nothing n) line ≡ as-length)
-    × (whyText rate (reason (Label (position z rate)) Nothing n) line ≡ as-position)
-    × ((format : FilmFormat) → whyText rate (reason (Footage (timecode z rate) format) Nothing n) line ≡ as-length)
-    × ((format : FilmFormat) → whyText rate (reason (Footage (position z rate) format) Nothing n) line ≡ as-position))
+    → (let as-length = spelt "0 0 " ++ (count_text z ++ (spelt " 0 0 - " ++ length_line n line)) in
+    let as-position = spelt "0 0 @" ++ (count_text z ++ (spelt " 0 0 - " ++ length_line n line)) in
+    (why_text rate (reason (Label (timecode z rate)) Nothing n) line ≡ as-length)
+    × (why_text rate (reason (Label (position z rate)) Nothing n) line ≡ as-position)
+    × ((format : FilmFormat) → why_text rate (reason (Footage (timecode z rate) format) Nothing n) line ≡ as-length)
+    × ((format : FilmFormat) → why_text rate (reason (Footage (position z rate) format) Nothing n) line ≡ as-position))
 
 -- `NUMBER PLACE 0`, behind that a fact, and `LENGTH LINE` last
-abbrev pub turnedDown : Refusal → (fact : List ℕ) (n : ℕ) (line : List ℕ) → List ℕ
-turnedDown e fact n line = signedText false e.number ++ (32 ∷ signedText false e.place ++ (spelt " 0 " ++ (fact ++ (32 ∷ lengthLine n line))))
+abbrev pub turned_down : Refusal → (fact : List ℕ) (n : ℕ) (line : List ℕ) → List ℕ
+turned_down e fact n line = signed_text false e.number ++ (32 ∷ signed_text false e.place ++ (spelt " 0 " ++ (fact ++ (32 ∷ length_line n line))))
 
 -- a text that is turned down with no fact behind it is shown as `NUMBER PLACE 0 0 0 - LENGTH LINE`
 abbrev pub WhyRefusedShown : Type 0
 WhyRefusedShown =
-    (e : Refusal) (rate n : ℕ) (line : List ℕ) → whyText rate (reason (Refused e) Nothing n) line ≡ turnedDown e (spelt "0 0 -") n line
+    (e : Refusal) (rate n : ℕ) (line : List ℕ) → why_text rate (reason (Refused e) Nothing n) line ≡ turned_down e (spelt "0 0 -") n line
 
 -- one with a field at fault as `NUMBER PLACE 0 LIMIT VALUE - LENGTH LINE`, both by the field's sign
 abbrev pub WhyLimitShown : Type 0
 WhyLimitShown =
     (e : Refusal) (f : Fault) (rate n : ℕ) (line : List ℕ)
-    → whyText rate (reason (Refused e) (Limit f) n) line
-    ≡ turnedDown e (signedText f.minus f.limit ++ (32 ∷ signedText f.minus f.value ++ spelt " -")) n line
+    → why_text rate (reason (Refused e) (Limit f) n) line
+    ≡ turned_down e (signed_text f.minus f.limit ++ (32 ∷ signed_text f.minus f.value ++ spelt " -")) n line
 
 -- one that is a dropped label as `NUMBER PLACE 0 0 0 LABEL LENGTH LINE`, the label as the label writer has it at the rate
 abbrev pub WhyFirstShown : Type 0
 WhyFirstShown =
     (e : Refusal) (s : TimecodeSections) (rate n : ℕ) (line : List ℕ)
-    → whyText rate (reason (Refused e) (First s) n) line ≡ turnedDown e (spelt "0 0 " ++ sectionsText (framesMark rate) s) n line
+    → why_text rate (reason (Refused e) (First s) n) line ≡ turned_down e (spelt "0 0 " ++ sections_text (frames_mark rate) s) n line
 
 -- and where the phrase has no room, `refused N LINE` is shown
 abbrev pub WhyNoRoomShown : Type 0
 WhyNoRoomShown =
     (e : Refusal) (rate : ℕ) (line : List ℕ)
-    → whyText rate (reasoned.Refused e) line ≡ spelt "refused " ++ (signedText false e.number ++ (32 ∷ line ++ (10 ∷ [])))
+    → why_text rate (reasoned.Refused e) line ≡ spelt "refused " ++ (signed_text false e.number ++ (32 ∷ line ++ (10 ∷ [])))
 
 -- a worked case of each: an accepted position, a limit in either sign, a first allowed label, and no room
 abbrev pub WhyWords : Type 0
 WhyWords =
-    (whyText 5 (reason (Label (position (pos 5) 5)) Nothing 8) (spelt "accepted##") ≡ spelt "0 0 @5 0 0 - 8 accepted##" ++ (10 ∷ []))
-    × (whyText 5 (reason (Refused (record { number = 14; place = 0 })) (Limit (fault Hours false 23 24)) 17) (spelt "not a time of day")
+    (why_text 5 (reason (Label (position (pos 5) 5)) Nothing 8) (spelt "accepted##") ≡ spelt "0 0 @5 0 0 - 8 accepted##" ++ (10 ∷ []))
+    × (why_text 5 (reason (Refused (record { number = 14; place = 0 })) (Limit (fault Hours false 23 24)) 17) (spelt "not a time of day")
     ≡ spelt "14 0 0 23 24 - 17 not a time of day" ++ (10 ∷ []))
-    × (whyText 2 (reason (Refused (record { number = 5; place = 0 })) (Limit (fault Count true 400000000 400000001)) 3) (spelt "...")
+    × (why_text 2 (reason (Refused (record { number = 5; place = 0 })) (Limit (fault Count true 400000000 400000001)) 3) (spelt "...")
     ≡ spelt "5 0 0 -400000000 -400000001 - 3 ..." ++ (10 ∷ []))
-    × (whyText 5
+    × (why_text 5
     (reason (Refused (record { number = 3; place = 0 })) (First (record { negative = true; hours = 1; minutes = 2; seconds = 0; frames = 2 })) 3) (spelt "...")
     ≡ spelt "3 0 0 0 0 -01:02:00;02 3 ..." ++ (10 ∷ []))
-    × (whyText 5 (reasoned.Refused (record { number = 8; place = 0 })) (spelt "##") ≡ spelt "refused 8 ##" ++ (10 ∷ []))
+    × (why_text 5 (reasoned.Refused (record { number = 8; place = 0 })) (spelt "##") ≡ spelt "refused 8 ##" ++ (10 ∷ []))
 
 -- ---- the shards that a query asks
 -- behind the text that the sheet has stands what a query is answered, where that has room
 abbrev pub RoutedLine : Type 0
 RoutedLine =
-    (s : Sheet) (a : Routed) → s.used + length (routedText a) ≤ length s.bytes → textOn (routedOn s a) ≡ textOn s ++ routedText a
+    (s : Sheet) (a : Routed) → s.used + length (routed_text a) ≤ length s.bytes → text_on (routed_on s a) ≡ text_on s ++ routed_text a
 
 -- the first shard and the one after the last are shown as `FIRST AFTER`, a refusal as `refused N PLACE`
 abbrev pub RoutedShown : Type 0
 RoutedShown =
-    ((first after : ℕ) → routedText (routed.Shards first after) ≡ signedText false first ++ (32 ∷ signedText false after ++ (10 ∷ [])))
+    ((first after : ℕ) → routed_text (routed.Shards first after) ≡ signed_text false first ++ (32 ∷ signed_text false after ++ (10 ∷ [])))
     × ((e : Refusal)
-    → routedText (routed.Refused e) ≡ spelt "refused " ++ (signedText false e.number ++ (32 ∷ signedText false e.place ++ (10 ∷ []))))
+    → routed_text (routed.Refused e) ≡ spelt "refused " ++ (signed_text false e.number ++ (32 ∷ signed_text false e.place ++ (10 ∷ []))))
 
 -- a worked case of each: shards, none, and a label that is refused
 abbrev pub RoutedWords : Type 0
 RoutedWords =
-    (routedText (routed.Shards 9 256) ≡ spelt "9 256" ++ (10 ∷ []))
-    × (routedText (routed.Shards 0 0) ≡ spelt "0 0" ++ (10 ∷ []))
-    × (routedText (routed.Refused (record { number = 1; place = 10 })) ≡ spelt "refused 1 10" ++ (10 ∷ []))
+    (routed_text (routed.Shards 9 256) ≡ spelt "9 256" ++ (10 ∷ []))
+    × (routed_text (routed.Shards 0 0) ≡ spelt "0 0" ++ (10 ∷ []))
+    × (routed_text (routed.Refused (record { number = 1; place = 10 })) ≡ spelt "refused 1 10" ++ (10 ∷ []))

@@ -1,6 +1,6 @@
 // What is shown of each kind of answer: its numbers, or its refusal.
 ghost use Rattle.std.specs.Prelude.{◌≡◌};
-ghost use Rattle.showing.specs.Each.{ofRefusal, ofTextRefusal, ofAnswer, ofConverted, ofCounted, ofTicked, ofTimed, ofCompared, ofRead};
+ghost use Rattle.showing.specs.Each.{of_refusal, of_text_refusal, of_answer, of_converted, of_counted, of_ticked, of_timed, of_compared, of_read};
 
 use crate::{Shown, count_and, one_count, one_number, two_numbers};
 use answers::{Counted, Refusal};
@@ -11,21 +11,21 @@ use timecodes::Answer;
 
 // A refusal: `refused` and its number.
 pub(crate) fn of_refusal(e: Refusal) -> Shown
-    ensures answer { result ≡ ofRefusal e }
+    ensures { result ≡ of_refusal e }
 {
     one_number(b'r', e.number as i64)
 }
 
 // The refusal of a text: `refused`, its number and its place.
 pub(crate) fn of_text_refusal(e: Refusal) -> Shown
-    ensures answer { result ≡ ofTextRefusal e }
+    ensures { result ≡ of_text_refusal e }
 {
     two_numbers(b'r', e.number as i64, b' ', e.place as u64)
 }
 
 // A timecode: its count.
 pub fn of_answer(a: Answer) -> Shown
-    ensures answer { result ≡ ofAnswer a }
+    ensures { result ≡ of_answer a }
 {
     match a {
         Answer::At(tc) => one_count(0, tc),
@@ -35,7 +35,7 @@ pub fn of_answer(a: Answer) -> Shown
 
 // A timecode at the rate that it came to: `COUNT RATE`.
 pub fn of_converted(a: Answer) -> Shown
-    ensures answer { result ≡ ofConverted a }
+    ensures { result ≡ of_converted a }
 {
     match a {
         Answer::At(tc) => count_and(0, tc, tc.rate),
@@ -45,7 +45,7 @@ pub fn of_converted(a: Answer) -> Shown
 
 // A count.
 pub fn of_counted(a: Counted) -> Shown
-    ensures answer { result ≡ ofCounted a }
+    ensures { result ≡ of_counted a }
 {
     match a {
         Counted::Count(z) => one_number(0, z),
@@ -55,7 +55,7 @@ pub fn of_counted(a: Counted) -> Shown
 
 // Ticks.
 pub fn of_ticked(a: Ticked) -> Shown
-    ensures answer { result ≡ ofTicked a }
+    ensures { result ≡ of_ticked a }
 {
     match a {
         Ticked::Ticks(z) => one_number(0, z),
@@ -65,7 +65,7 @@ pub fn of_ticked(a: Ticked) -> Shown
 
 // Seconds: `P/Q`.
 pub fn of_timed(a: Timed) -> Shown
-    ensures answer { result ≡ ofTimed a }
+    ensures { result ≡ of_timed a }
 {
     match a {
         Timed::Seconds { p, q } => two_numbers(0, p, b'/', q),
@@ -75,7 +75,7 @@ pub fn of_timed(a: Timed) -> Shown
 
 // An order: -1, 0 or 1.
 pub fn of_compared(a: Compared) -> Shown
-    ensures answer { result ≡ ofCompared a }
+    ensures { result ≡ of_compared a }
 {
     match a {
         Compared::Order(z) => one_number(0, z),
@@ -85,7 +85,7 @@ pub fn of_compared(a: Compared) -> Shown
 
 // A text's timecode: `label COUNT` or `footage COUNT FORMAT`; or its refusal and where.
 pub fn of_read(a: Read) -> Shown
-    ensures answer { result ≡ ofRead a }
+    ensures { result ≡ of_read a }
 {
     match a {
         Read::Label(tc) => one_count(b'l', tc),

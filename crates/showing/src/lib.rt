@@ -1,8 +1,10 @@
 // How the calculator shows an answer (docs/ASK.md): one line, put on a sheet. Refuses nothing itself: what has no room changes nothing.
+#![tactic(auto)]
+
 ghost use Rattle.std.specs.Prelude.{◌≡◌};
-ghost use Rattle.streams.specs.Sheet.{sheet, putOn};
-ghost use Rattle.showing.specs.Each.{onlyWord, oneNumber, twoNumbers, oneCount, countAnd};
-ghost use Rattle.showing.specs.Shown.{countText, helpText, wordOn, frontOn, saidOn, secondOn, partsOn, shownOn, lengthOn, writtenOn, hexWrittenOn};
+ghost use Rattle.streams.specs.Sheet.{sheet, put_on};
+ghost use Rattle.showing.specs.Each.{only_word, one_number, two_numbers, one_count, count_and};
+ghost use Rattle.showing.specs.Shown.{count_text, help_text, word_on, front_on, said_on, second_on, parts_on, shown_on, length_on, written_on, hex_written_on};
 
 use timecodes::Timecode;
 use written::Written;
@@ -31,7 +33,7 @@ pub struct Shown {
 
 // A word alone.
 pub fn only_word(word: u8) -> Shown
-    ensures answer { result ≡ onlyWord word }
+    ensures { result ≡ only_word word }
 {
     Shown {
         word,
@@ -45,7 +47,7 @@ pub fn only_word(word: u8) -> Shown
 
 // A number, behind a word or alone.
 pub(crate) fn one_number(word: u8, x: i64) -> Shown
-    ensures answer { result ≡ oneNumber word x }
+    ensures { result ≡ one_number word x }
 {
     Shown {
         word,
@@ -59,7 +61,7 @@ pub(crate) fn one_number(word: u8, x: i64) -> Shown
 
 // Two numbers and the mark between them, behind a word or alone.
 pub(crate) fn two_numbers(word: u8, x: i64, mark: u8, y: u64) -> Shown
-    ensures answer { result ≡ twoNumbers word x mark y }
+    ensures { result ≡ two_numbers word x mark y }
 {
     Shown {
         word,
@@ -73,7 +75,7 @@ pub(crate) fn two_numbers(word: u8, x: i64, mark: u8, y: u64) -> Shown
 
 // The count of a timecode, behind a word or alone.
 pub(crate) fn one_count(word: u8, tc: Timecode) -> Shown
-    ensures answer { result ≡ oneCount word tc }
+    ensures { result ≡ one_count word tc }
 {
     let kind = tc.kind;
     Shown {
@@ -88,7 +90,7 @@ pub(crate) fn one_count(word: u8, tc: Timecode) -> Shown
 
 // The count of a timecode, a space and a number, behind a word or alone.
 pub(crate) fn count_and(word: u8, tc: Timecode, y: u64) -> Shown
-    ensures answer { result ≡ countAnd word tc y }
+    ensures { result ≡ count_and word tc y }
 {
     let kind = tc.kind;
     Shown {
@@ -103,16 +105,16 @@ pub(crate) fn count_and(word: u8, tc: Timecode, y: u64) -> Shown
 
 // A signed number.
 fn put_number(out: &mut [u8], used: usize, x: i64) -> usize
-    ensures answer { result ≡ (putOn (sheet out.old used) (countText x)).used }
-    ensures sheet { out.new ≡ (putOn (sheet out.old used) (countText x)).bytes }
+    ensures answer { result ≡ (put_on (sheet out.old used) (count_text x)).used }
+    ensures sheet { out.new ≡ (put_on (sheet out.old used) (count_text x)).bytes }
 {
     streams::put_signed(out, used, numbers::below_zero(x), numbers::magnitude(x))
 }
 
 // A word before numbers.
 fn put_word(out: &mut [u8], used: usize, word: u8) -> usize
-    ensures answer { result ≡ (wordOn (sheet out.old used) word).used }
-    ensures sheet { out.new ≡ (wordOn (sheet out.old used) word).bytes }
+    ensures answer { result ≡ (word_on (sheet out.old used) word).used }
+    ensures sheet { out.new ≡ (word_on (sheet out.old used) word).bytes }
 {
     match word {
         b'l' => streams::put_text(out, used, b"label "),
@@ -124,8 +126,8 @@ fn put_word(out: &mut [u8], used: usize, word: u8) -> usize
 
 // A word before numbers, and the mark of a position.
 fn put_front(out: &mut [u8], used: usize, word: u8, position: bool) -> usize
-    ensures answer { result ≡ (frontOn (sheet out.old used) word position).used }
-    ensures sheet { out.new ≡ (frontOn (sheet out.old used) word position).bytes }
+    ensures answer { result ≡ (front_on (sheet out.old used) word position).used }
+    ensures sheet { out.new ≡ (front_on (sheet out.old used) word position).bytes }
 {
     let a = put_word(out, used, word);
     if position {
@@ -136,8 +138,8 @@ fn put_front(out: &mut [u8], used: usize, word: u8, position: bool) -> usize
 
 // The commands in short: a line for each command, or for those that are alike, without the last one's end.
 fn put_help(out: &mut [u8], used: usize) -> usize
-    ensures answer { result ≡ (putOn (sheet out.old used) helpText).used }
-    ensures sheet { out.new ≡ (putOn (sheet out.old used) helpText).bytes }
+    ensures answer { result ≡ (put_on (sheet out.old used) help_text).used }
+    ensures sheet { out.new ≡ (put_on (sheet out.old used) help_text).bytes }
 {
     streams::put_text(
         out,
@@ -174,8 +176,8 @@ The first RATE of a command other than route, and the second of add, sub and cmp
 
 // A word alone.
 fn put_said(out: &mut [u8], used: usize, word: u8) -> usize
-    ensures answer { result ≡ (saidOn (sheet out.old used) word).used }
-    ensures sheet { out.new ≡ (saidOn (sheet out.old used) word).bytes }
+    ensures answer { result ≡ (said_on (sheet out.old used) word).used }
+    ensures sheet { out.new ≡ (said_on (sheet out.old used) word).bytes }
 {
     if word == b'h' {
         return put_help(out, used);
@@ -185,8 +187,8 @@ fn put_said(out: &mut [u8], used: usize, word: u8) -> usize
 
 // A mark and a number.
 fn put_second(out: &mut [u8], used: usize, mark: u8, y: u64) -> usize
-    ensures answer { result ≡ (secondOn (sheet out.old used) mark y).used }
-    ensures sheet { out.new ≡ (secondOn (sheet out.old used) mark y).bytes }
+    ensures answer { result ≡ (second_on (sheet out.old used) mark y).used }
+    ensures sheet { out.new ≡ (second_on (sheet out.old used) mark y).bytes }
 {
     let a = streams::put_byte(out, used, mark);
     streams::put_signed(out, a, false, y)
@@ -194,8 +196,8 @@ fn put_second(out: &mut [u8], used: usize, mark: u8, y: u64) -> usize
 
 // An answer behind what the sheet has, without the line's end; and how much it has then.
 fn put_shown(out: &mut [u8], used: usize, s: Shown) -> usize
-    ensures answer { result ≡ (partsOn (sheet out.old used) s).used }
-    ensures sheet { out.new ≡ (partsOn (sheet out.old used) s).bytes }
+    ensures answer { result ≡ (parts_on (sheet out.old used) s).used }
+    ensures sheet { out.new ≡ (parts_on (sheet out.old used) s).bytes }
 {
     if s.count == 0 {
         return put_said(out, used, s.word);
@@ -210,8 +212,8 @@ fn put_shown(out: &mut [u8], used: usize, s: Shown) -> usize
 
 // An answer as a line behind what the sheet has; and how much it has then.
 pub fn show(out: &mut [u8], used: usize, s: Shown) -> usize
-    ensures answer { result ≡ (shownOn (sheet out.old used) s).used }
-    ensures sheet { out.new ≡ (shownOn (sheet out.old used) s).bytes }
+    ensures answer { result ≡ (shown_on (sheet out.old used) s).used }
+    ensures sheet { out.new ≡ (shown_on (sheet out.old used) s).bytes }
 {
     let u = put_shown(out, used, s);
     streams::put_byte(out, u, b'\n')
@@ -219,8 +221,8 @@ pub fn show(out: &mut [u8], used: usize, s: Shown) -> usize
 
 // The length of a text that was laid down, or why it was not.
 fn put_length(out: &mut [u8], used: usize, w: Written) -> usize
-    ensures answer { result ≡ (lengthOn (sheet out.old used) w).used }
-    ensures sheet { out.new ≡ (lengthOn (sheet out.old used) w).bytes }
+    ensures answer { result ≡ (length_on (sheet out.old used) w).used }
+    ensures sheet { out.new ≡ (length_on (sheet out.old used) w).bytes }
 {
     match w {
         Written::Length(n) => streams::put_signed(out, used, false, n as u64),
@@ -230,8 +232,8 @@ fn put_length(out: &mut [u8], used: usize, w: Written) -> usize
 
 // The answer of a writer as a line behind what the sheet has, with the whole line that it wrote into; and how much it has then.
 pub fn show_written(out: &mut [u8], used: usize, w: Written, line: &[u8]) -> usize
-    ensures answer { result ≡ (writtenOn (sheet out.old used) w line.now).used }
-    ensures sheet { out.new ≡ (writtenOn (sheet out.old used) w line.now).bytes }
+    ensures answer { result ≡ (written_on (sheet out.old used) w line.now).used }
+    ensures sheet { out.new ≡ (written_on (sheet out.old used) w line.now).bytes }
 {
     let a = put_length(out, used, w);
     let b = streams::put_byte(out, a, b' ');
@@ -241,8 +243,8 @@ pub fn show_written(out: &mut [u8], used: usize, w: Written, line: &[u8]) -> usi
 
 // The answer of a writer of bytes as a line behind what the sheet has, with the whole line that it wrote into as HEX; and how much it has then.
 pub fn show_written_hex(out: &mut [u8], used: usize, w: Written, line: &[u8]) -> usize
-    ensures answer { result ≡ (hexWrittenOn (sheet out.old used) w line.now).used }
-    ensures sheet { out.new ≡ (hexWrittenOn (sheet out.old used) w line.now).bytes }
+    ensures answer { result ≡ (hex_written_on (sheet out.old used) w line.now).used }
+    ensures sheet { out.new ≡ (hex_written_on (sheet out.old used) w line.now).bytes }
 {
     let a = put_length(out, used, w);
     let b = streams::put_byte(out, a, b' ');

@@ -1,16 +1,16 @@
 // What is shown of a shot list: how many records it has, and each as words; or the refusal of its earliest record at fault.
 ghost use Rattle.std.specs.Prelude.{◌≡◌, true};
 ghost use Rattle.streams.specs.Sheet.{sheet};
-ghost use Rattle.shot_lists.specs.Entries.{onDisk};
-ghost use Rattle.shot_lists.specs.Reading.{read_of, isFaultless};
-ghost use Rattle.showing.specs.Lists.{numberedOn, framesOn, recordOn, readingOn, listOn};
+ghost use Rattle.shot_lists.specs.Entries.{on_disk};
+ghost use Rattle.shot_lists.specs.Reading.{read_of, is_faultless};
+ghost use Rattle.showing.specs.Lists.{numbered_on, frames_on, record_on, reading_on, list_on};
 
 use shot_lists::{Checked, Entry, Record};
 
 // A word, with the spaces around it, and a number.
 fn put_numbered(out: &mut [u8], used: usize, word: &[u8], n: u64) -> usize
-    ensures answer { result ≡ (numberedOn (sheet out.old used) word.now n).used }
-    ensures sheet { out.new ≡ (numberedOn (sheet out.old used) word.now n).bytes }
+    ensures answer { result ≡ (numbered_on (sheet out.old used) word.now n).used }
+    ensures sheet { out.new ≡ (numbered_on (sheet out.old used) word.now n).bytes }
 {
     let a = streams::put_text(out, used, word);
     streams::put_signed(out, a, false, n)
@@ -18,8 +18,8 @@ fn put_numbered(out: &mut [u8], used: usize, word: &[u8], n: u64) -> usize
 
 // A shot: its first frame and its end.
 fn put_frames(out: &mut [u8], used: usize, first: i64, end: i64) -> usize
-    ensures answer { result ≡ (framesOn (sheet out.old used) first end).used }
-    ensures sheet { out.new ≡ (framesOn (sheet out.old used) first end).bytes }
+    ensures answer { result ≡ (frames_on (sheet out.old used) first end).used }
+    ensures sheet { out.new ≡ (frames_on (sheet out.old used) first end).bytes }
 {
     let a = streams::put_text(out, used, b" shot ");
     let b = crate::put_number(out, a, first);
@@ -29,8 +29,8 @@ fn put_frames(out: &mut [u8], used: usize, first: i64, end: i64) -> usize
 
 // A record as words, a space in front of each.
 fn put_words(out: &mut [u8], used: usize, found: Record) -> usize
-    ensures answer { result ≡ (recordOn (sheet out.old used) found).used }
-    ensures sheet { out.new ≡ (recordOn (sheet out.old used) found).bytes }
+    ensures answer { result ≡ (record_on (sheet out.old used) found).used }
+    ensures sheet { out.new ≡ (record_on (sheet out.old used) found).bytes }
 {
     match found {
         Record::Rate(n) => put_numbered(out, used, b" rate ", n),
@@ -41,9 +41,9 @@ fn put_words(out: &mut [u8], used: usize, found: Record) -> usize
 
 // The records of a list, one after the other. Asks a list without fault.
 fn put_records(out: &mut [u8], used: usize, list: &[u8]) -> usize
-    requires sound { isFaultless (read_of onDisk list.now) ≡ true }
-    ensures answer { result ≡ (readingOn (sheet out.old used) (read_of onDisk list.now)).used }
-    ensures sheet { out.new ≡ (readingOn (sheet out.old used) (read_of onDisk list.now)).bytes }
+    requires { is_faultless (read_of on_disk list.now) ≡ true }
+    ensures answer { result ≡ (reading_on (sheet out.old used) (read_of on_disk list.now)).used }
+    ensures sheet { out.new ≡ (reading_on (sheet out.old used) (read_of on_disk list.now)).bytes }
 {
     let mut at: usize = 0;
     let mut held: u64 = 0;
@@ -72,8 +72,8 @@ fn put_records(out: &mut [u8], used: usize, list: &[u8]) -> usize
 
 // A shot list as a line behind what the sheet has: how many records, and each as words, or its refusal; and how much it has then.
 pub fn show_list(out: &mut [u8], used: usize, list: &[u8]) -> usize
-    ensures answer { result ≡ (listOn (sheet out.old used) (read_of onDisk list.now)).used }
-    ensures sheet { out.new ≡ (listOn (sheet out.old used) (read_of onDisk list.now)).bytes }
+    ensures answer { result ≡ (list_on (sheet out.old used) (read_of on_disk list.now)).used }
+    ensures sheet { out.new ≡ (list_on (sheet out.old used) (read_of on_disk list.now)).bytes }
 {
     match shot_lists::check_list(list) {
         Checked::Records(n) => {

@@ -1,8 +1,8 @@
 // What is shown of why a text is read as it is: `NUMBER PLACE COUNT LIMIT VALUE LABEL LENGTH LINE`. Refuses nothing itself.
 ghost use Rattle.std.specs.Prelude.{◌≡◌};
-ghost use Rattle.streams.specs.Sheet.{sheet, putOn};
-ghost use Rattle.label_writer.specs.LabelText.{framesMark, sectionsText};
-ghost use Rattle.showing.specs.Why.{putsOn, spacedParts, acceptedParts, turnedDownParts, read_parts, limitParts, firstParts, factParts, toldParts, reasonedParts, whyOn};
+ghost use Rattle.streams.specs.Sheet.{sheet, put_on};
+ghost use Rattle.label_writer.specs.LabelText.{frames_mark, sections_text};
+ghost use Rattle.showing.specs.Why.{puts_on, spaced_parts, accepted_parts, turned_down_parts, read_parts, limit_parts, first_parts, fact_parts, told_parts, reasoned_parts, why_on};
 
 use answers::Refusal;
 use faults::Fault;
@@ -13,8 +13,8 @@ use timecodes::Timecode;
 
 // A space and a number by sign and magnitude.
 pub(crate) fn put_spaced(out: &mut [u8], used: usize, minus: bool, m: u64) -> usize
-    ensures answer { result ≡ (putsOn (sheet out.old used) (spacedParts minus m)).used }
-    ensures sheet { out.new ≡ (putsOn (sheet out.old used) (spacedParts minus m)).bytes }
+    ensures answer { result ≡ (puts_on (sheet out.old used) (spaced_parts minus m)).used }
+    ensures sheet { out.new ≡ (puts_on (sheet out.old used) (spaced_parts minus m)).bytes }
 {
     let a = streams::put_byte(out, used, b' ');
     streams::put_signed(out, a, minus, m)
@@ -22,8 +22,8 @@ pub(crate) fn put_spaced(out: &mut [u8], used: usize, minus: bool, m: u64) -> us
 
 // An accepted text: `0 0 COUNT`.
 fn put_accepted(out: &mut [u8], used: usize, tc: Timecode) -> usize
-    ensures answer { result ≡ (putsOn (sheet out.old used) (acceptedParts tc)).used }
-    ensures sheet { out.new ≡ (putsOn (sheet out.old used) (acceptedParts tc)).bytes }
+    ensures answer { result ≡ (puts_on (sheet out.old used) (accepted_parts tc)).used }
+    ensures sheet { out.new ≡ (puts_on (sheet out.old used) (accepted_parts tc)).bytes }
 {
     let a = streams::put_text(out, used, b"0 0 ");
     crate::put_shown(out, a, crate::one_count(0, tc))
@@ -31,8 +31,8 @@ fn put_accepted(out: &mut [u8], used: usize, tc: Timecode) -> usize
 
 // A text that is turned down: `NUMBER PLACE 0`.
 fn put_turned_down(out: &mut [u8], used: usize, e: Refusal) -> usize
-    ensures answer { result ≡ (putsOn (sheet out.old used) (turnedDownParts e)).used }
-    ensures sheet { out.new ≡ (putsOn (sheet out.old used) (turnedDownParts e)).bytes }
+    ensures answer { result ≡ (puts_on (sheet out.old used) (turned_down_parts e)).used }
+    ensures sheet { out.new ≡ (puts_on (sheet out.old used) (turned_down_parts e)).bytes }
 {
     let a = streams::put_signed(out, used, false, e.number as u64);
     let b = put_spaced(out, a, false, e.place as u64);
@@ -41,8 +41,8 @@ fn put_turned_down(out: &mut [u8], used: usize, e: Refusal) -> usize
 
 // What the reader answers: `NUMBER PLACE COUNT`.
 fn put_read(out: &mut [u8], used: usize, read: Read) -> usize
-    ensures answer { result ≡ (putsOn (sheet out.old used) (read_parts read)).used }
-    ensures sheet { out.new ≡ (putsOn (sheet out.old used) (read_parts read)).bytes }
+    ensures answer { result ≡ (puts_on (sheet out.old used) (read_parts read)).used }
+    ensures sheet { out.new ≡ (puts_on (sheet out.old used) (read_parts read)).bytes }
 {
     match read {
         Read::Label(tc) => put_accepted(out, used, tc),
@@ -53,8 +53,8 @@ fn put_read(out: &mut [u8], used: usize, read: Read) -> usize
 
 // A field at fault, behind a space: `LIMIT VALUE -`.
 fn put_limit(out: &mut [u8], used: usize, f: Fault) -> usize
-    ensures answer { result ≡ (putsOn (sheet out.old used) (limitParts f)).used }
-    ensures sheet { out.new ≡ (putsOn (sheet out.old used) (limitParts f)).bytes }
+    ensures answer { result ≡ (puts_on (sheet out.old used) (limit_parts f)).used }
+    ensures sheet { out.new ≡ (puts_on (sheet out.old used) (limit_parts f)).bytes }
 {
     let a = put_spaced(out, used, f.minus, f.limit);
     let b = put_spaced(out, a, f.minus, f.value);
@@ -63,8 +63,8 @@ fn put_limit(out: &mut [u8], used: usize, f: Fault) -> usize
 
 // The text of a label by its sections, as the label writer has it at a rate.
 fn put_label(out: &mut [u8], used: usize, s: TimecodeSections, rate: u64) -> usize
-    ensures answer { result ≡ (putOn (sheet out.old used) (sectionsText (framesMark rate) s)).used }
-    ensures sheet { out.new ≡ (putOn (sheet out.old used) (sectionsText (framesMark rate) s)).bytes }
+    ensures answer { result ≡ (put_on (sheet out.old used) (sections_text (frames_mark rate) s)).used }
+    ensures sheet { out.new ≡ (put_on (sheet out.old used) (sections_text (frames_mark rate) s)).bytes }
 {
     let need = label_writer::sections_length(s);
     if lent::room(out.len(), used, need) {
@@ -76,8 +76,8 @@ fn put_label(out: &mut [u8], used: usize, s: TimecodeSections, rate: u64) -> usi
 
 // The first allowed label, behind a space: `0 0 LABEL`.
 fn put_first(out: &mut [u8], used: usize, s: TimecodeSections, rate: u64) -> usize
-    ensures answer { result ≡ (putsOn (sheet out.old used) (firstParts rate s)).used }
-    ensures sheet { out.new ≡ (putsOn (sheet out.old used) (firstParts rate s)).bytes }
+    ensures answer { result ≡ (puts_on (sheet out.old used) (first_parts rate s)).used }
+    ensures sheet { out.new ≡ (puts_on (sheet out.old used) (first_parts rate s)).bytes }
 {
     let a = streams::put_text(out, used, b" 0 0 ");
     put_label(out, a, s, rate)
@@ -85,8 +85,8 @@ fn put_first(out: &mut [u8], used: usize, s: TimecodeSections, rate: u64) -> usi
 
 // The fact behind the number, behind a space: `LIMIT VALUE LABEL`.
 fn put_fact(out: &mut [u8], used: usize, fact: Fact, rate: u64) -> usize
-    ensures answer { result ≡ (putsOn (sheet out.old used) (factParts rate fact)).used }
-    ensures sheet { out.new ≡ (putsOn (sheet out.old used) (factParts rate fact)).bytes }
+    ensures answer { result ≡ (puts_on (sheet out.old used) (fact_parts rate fact)).used }
+    ensures sheet { out.new ≡ (puts_on (sheet out.old used) (fact_parts rate fact)).bytes }
 {
     match fact {
         Fact::Nothing => streams::put_text(out, used, b" 0 0 -"),
@@ -97,8 +97,8 @@ fn put_fact(out: &mut [u8], used: usize, fact: Fact, rate: u64) -> usize
 
 // What is told: `NUMBER PLACE COUNT LIMIT VALUE LABEL LENGTH`.
 fn put_told(out: &mut [u8], used: usize, r: Reason, rate: u64) -> usize
-    ensures answer { result ≡ (putsOn (sheet out.old used) (toldParts rate r)).used }
-    ensures sheet { out.new ≡ (putsOn (sheet out.old used) (toldParts rate r)).bytes }
+    ensures answer { result ≡ (puts_on (sheet out.old used) (told_parts rate r)).used }
+    ensures sheet { out.new ≡ (puts_on (sheet out.old used) (told_parts rate r)).bytes }
 {
     let read = r.read;
     let fact = r.fact;
@@ -109,8 +109,8 @@ fn put_told(out: &mut [u8], used: usize, r: Reason, rate: u64) -> usize
 
 // What is told, or why nothing could be.
 fn put_reasoned(out: &mut [u8], used: usize, w: Reasoned, rate: u64) -> usize
-    ensures answer { result ≡ (putsOn (sheet out.old used) (reasonedParts rate w)).used }
-    ensures sheet { out.new ≡ (putsOn (sheet out.old used) (reasonedParts rate w)).bytes }
+    ensures answer { result ≡ (puts_on (sheet out.old used) (reasoned_parts rate w)).used }
+    ensures sheet { out.new ≡ (puts_on (sheet out.old used) (reasoned_parts rate w)).bytes }
 {
     match w {
         Reasoned::Told(r) => put_told(out, used, r, rate),
@@ -121,8 +121,8 @@ fn put_reasoned(out: &mut [u8], used: usize, w: Reasoned, rate: u64) -> usize
 // Why a text is read as it is at a rate, as a line behind what the sheet has, with the whole line that the phrase was laid into; and how
 // much it has then.
 pub fn show_why(out: &mut [u8], used: usize, w: Reasoned, rate: u64, line: &[u8]) -> usize
-    ensures answer { result ≡ (whyOn (sheet out.old used) rate w line.now).used }
-    ensures sheet { out.new ≡ (whyOn (sheet out.old used) rate w line.now).bytes }
+    ensures answer { result ≡ (why_on (sheet out.old used) rate w line.now).used }
+    ensures sheet { out.new ≡ (why_on (sheet out.old used) rate w line.now).bytes }
 {
     let a = put_reasoned(out, used, w, rate);
     let b = streams::put_byte(out, a, b' ');

@@ -7,7 +7,7 @@ use mathlib.Core.Bool.{Bool, true, false, cond}
 use lib.Dec.{eqb}
 use borrow.Author.Tests.{eqb-true, eqb-false, ne_eqb}
 use Rattle.streams.specs.Lines.{Plain, none, more, Lines, nothing, last, line}
-use Rattle.streams.specs.Parting.{Parted, behind, parted, partedBy, together, lastLine, lines_of, each}
+use Rattle.streams.specs.Parting.{Parted, behind, parted, parted_by, together, last_line, lines_of, each}
 
 -- ---- the fold
 pub parted-end : (held text : List ℕ) → parted held (10 ∷ text) ≡ behind (held ∷ []) (parted [] text)
@@ -26,16 +26,16 @@ two-by : (held a b : List ℕ) (x : ℕ) (t : Bool)
 two-by held a b x true e f = ap (behind (held ∷ [])) e
 two-by held a b x false e f = f
 
-pub two-chunks : (held a b : List ℕ) → parted held (a ++ b) ≡ behind (parted held a).done (parted (parted held a).rest b)
+pub two_chunks : (held a b : List ℕ) → parted held (a ++ b) ≡ behind (parted held a).done (parted (parted held a).rest b)
 unfolding parted
-two-chunks held [] b = refl
-two-chunks held (x ∷ a) b = two-by held a b x (eqb x 10) (two-chunks [] a b) (two-chunks (held ++ (x ∷ [])) a b)
+two_chunks held [] b = refl
+two_chunks held (x ∷ a) b = two-by held a b x (eqb x 10) (two_chunks [] a b) (two_chunks (held ++ (x ∷ [])) a b)
 
-pub any-chunks : (held : List ℕ) (chunks : List (List ℕ)) → partedBy held chunks ≡ parted held (together chunks)
-unfolding partedBy together parted
-any-chunks held [] = refl
-any-chunks held (c ∷ chunks) =
-    ap (behind (parted held c).done) (any-chunks (parted held c).rest chunks) ∙ sym (two-chunks held c (together chunks))
+pub any_chunks : (held : List ℕ) (chunks : List (List ℕ)) → parted_by held chunks ≡ parted held (together chunks)
+unfolding parted_by together parted
+any_chunks held [] = refl
+any_chunks held (c ∷ chunks) =
+    ap (behind (parted held c).done) (any_chunks (parted held c).rest chunks) ∙ sym (two_chunks held c (together chunks))
 
 -- ---- answers
 pub each_append : (answer : List ℕ → List ℕ) (a b : List (List ℕ)) → each answer (a ++ b) ≡ each answer a ++ each answer b
@@ -56,21 +56,21 @@ plain-held (more {b} {l} n p) held r =
 
 -- the lines, where some has come of the first
 lines_from : Parted → List (List ℕ)
-lines_from p = p.done ++ lastLine p.rest
+lines_from p = p.done ++ last_line p.rest
 
-pub one-reading : (text : List ℕ) (ls : List (List ℕ)) → Lines text ls → lines_of text ≡ ls
+pub one_reading : (text : List ℕ) (ls : List (List ℕ)) → Lines text ls → lines_of text ≡ ls
 unfolding lines_of parted lines_from
-one-reading _ _ nothing = refl
-one-reading _ _ (last {b} {l} p) = ap lines_from (ap (parted []) (sym (append-nil (b ∷ l))) ∙ plain-held p [] [])
-one-reading _ _ (line {l} {r} {ls} p s) =
-    ap lines_from (plain-held p [] (10 ∷ r) ∙ parted-end l r) ∙ ap (λ (z : List (List ℕ)). l ∷ z) (one-reading r ls s)
+one_reading _ _ nothing = refl
+one_reading _ _ (last {b} {l} p) = ap lines_from (ap (parted []) (sym (append-nil (b ∷ l))) ∙ plain-held p [] [])
+one_reading _ _ (line {l} {r} {ls} p s) =
+    ap lines_from (plain-held p [] (10 ∷ r) ∙ parted-end l r) ∙ ap (λ (z : List (List ℕ)). l ∷ z) (one_reading r ls s)
 
 -- what comes behind a plain stretch that is held
 plain-snoc : {l : List ℕ} → Plain l → (b : ℕ) → (b ≡ 10 → ⊥) → Plain (l ++ (b ∷ []))
 plain-snoc none b n = more n none
 plain-snoc (more m p) b n = more m (plain-snoc p b n)
 
-last-plain : {l : List ℕ} → Plain l → Lines l (lastLine l)
+last-plain : {l : List ℕ} → Plain l → Lines l (last_line l)
 last-plain none = nothing
 last-plain (more n p) = last (more n p)
 
@@ -85,6 +85,6 @@ found_from (b ∷ text) held p = found-by (eqb b 10) refl (found_from text [] no
     found-by true e x y = rw (eqb-true b 10 e) (line p x)
     found-by false e x y = rw append_assoc at (y (plain-snoc p b (eqb-false b 10 e)))
 
-pub fold-finds : (text : List ℕ) → Lines text (lines_of text)
+pub fold_finds : (text : List ℕ) → Lines text (lines_of text)
 unfolding lines_of lines_from
-fold-finds text = found_from text [] none
+fold_finds text = found_from text [] none

@@ -8,46 +8,46 @@ use native.Mathlib.Omega.{arith}
 use lib.ListN.{length, take, drop, length-append, length-take}
 use lib.Seq.{take_at}
 use borrow.Rule.Slice.PartMut.{put_mid, mid_of}
-use Rattle.lent.specs.Line.{laid, splice, hasRoom}
+use Rattle.lent.specs.Line.{laid, splice, has_room}
 use Rattle.lent.proofs.Laws.{fits-yes, fits-no, fits-true, fits-false, line-laid, line_kept, line-lent}
 use Rattle.lent.proofs.Statements.{same_length}
-use Rattle.streams.specs.Sheet.{Sheet, sheet, textOn, putOn}
+use Rattle.streams.specs.Sheet.{Sheet, sheet, text_on, put_on}
 
 -- what a function that puts a text on a sheet shows at a return
 abbrev pub Puts : (out : List ℕ) (used : ℕ) (text : List ℕ) (answer : ℕ) (last : List ℕ) → Type 0
-Puts out used text answer last = (answer ≡ (putOn (sheet out used) text).used) × (last ≡ (putOn (sheet out used) text).bytes)
+Puts out used text answer last = (answer ≡ (put_on (sheet out used) text).used) × (last ≡ (put_on (sheet out used) text).bytes)
 
 module _ (out : List ℕ) (used : ℕ) (text : List ℕ) (need : ℕ) (room : Bool)
-    (e : need ≡ length text) (r : room ≡ hasRoom (length out) used need) where
+    (e : need ≡ length text) (r : room ≡ has_room (length out) used need) where
   -- there is room: the rest of the sheet was lent on, and came back as `last`
   pub put-fits : room ≡ true → used + need ≤ length out
   put-fits t = omega (arith, fits-yes out used text need room e r t)
 
   pub put_in : (last : List ℕ) → room ≡ true → last ≡ laid (mid_of used (length out - used) out) text
       → Puts out used text (used + need) (put_mid used (length out - used) out last)
-  unfolding putOn
+  unfolding put_on
   put_in last t l =
       let h = fits-yes out used text need room e r t in
       (rw (e, fits-true out used text h), line-lent out used text last h l)
 
   -- there is none
   pub put-out : room ≡ false → Puts out used text used out
-  unfolding putOn
+  unfolding put_on
   put-out t =
       let h = fits-no out used text need room e r t in
       (rw (fits-false out used text h), sym (line_kept out used text h))
 
 -- ---- what is put on a sheet
 -- the sheet keeps its length
-pub put-length : (s : Sheet) (text : List ℕ) → length (putOn s text).bytes ≡ length s.bytes
-unfolding putOn
+pub put-length : (s : Sheet) (text : List ℕ) → length (put_on s text).bytes ≡ length s.bytes
+unfolding put_on
 put-length s text = same_length s.bytes s.used text
 
 -- a text that has room is used, and stands behind what the sheet has
 pub record Laid (s s' : Sheet) (text : List ℕ) : Type 0 where
   pub more : s'.used ≡ s.used + length text
   pub long : length s'.bytes ≡ length s.bytes
-  pub is : textOn s' ≡ textOn s ++ text
+  pub is : text_on s' ≡ text_on s ++ text
 
 splice-first : (l : List ℕ) (at : ℕ) (t : List ℕ) → at ≤ length l → take (at + length t) (splice l at t) ≡ take at l ++ t
 unfolding splice
@@ -55,8 +55,8 @@ splice-first l at t h =
     let n : length (take at l ++ t) ≡ at + length t = simp (length-append, length-take) (omega arith) in
     rw (← append_assoc (take at l) t (drop (at + length t) l)) (take_at (take at l ++ t) _ (at + length t) n)
 
-pub put_is : (s : Sheet) (text : List ℕ) → s.used + length text ≤ length s.bytes → Laid s (putOn s text) text
-unfolding putOn
+pub put_is : (s : Sheet) (text : List ℕ) → s.used + length text ≤ length s.bytes → Laid s (put_on s text) text
+unfolding put_on
 put_is s text h = record {
   more = rw (fits-true s.bytes s.used text h);
   long = put-length s text;
@@ -64,9 +64,9 @@ put_is s text h = record {
 }
 
 -- no more is used than the text's length
-pub put-used : (s : Sheet) (text : List ℕ) → (putOn s text).used ≤ s.used + length text
-unfolding putOn
-put-used s text = by (hasRoom (length s.bytes) s.used (length text))
+pub put-used : (s : Sheet) (text : List ℕ) → (put_on s text).used ≤ s.used + length text
+unfolding put_on
+put-used s text = by (has_room (length s.bytes) s.used (length text))
   where
     by : (t : Bool) → cond t (s.used + length text) s.used ≤ s.used + length text
     by true = omega arith

@@ -10,17 +10,17 @@ pub record Kept : Type 0 where
   pub over : Bool
 
 -- of a whole line, in a buffer of n bytes: its first n, and whether it has more
-abbrev pub keptOf : (n : ℕ) (line : List ℕ) → Kept
-keptOf n line = record { bytes = take n line; over = ltb n (length line) }
+abbrev pub kept_of : (n : ℕ) (line : List ℕ) → Kept
+kept_of n line = record { bytes = take n line; over = ltb n (length line) }
 
 -- what a buffer has of the line that is gathered in it
-abbrev pub keptIn : (buffer : List ℕ) → Gathered → Kept
-keptIn buffer g = record { bytes = take g.len buffer; over = g.over }
+abbrev pub kept_in : (buffer : List ℕ) → Gathered → Kept
+kept_in buffer g = record { bytes = take g.len buffer; over = g.over }
 
 -- ---- byte by byte
 -- no byte yet
-abbrev pub noByte : Gathered
-noByte = record { len = 0; over = false }
+abbrev pub no_byte : Gathered
+no_byte = record { len = 0; over = false }
 
 -- has no byte come?
 abbrev pub is_empty : Gathered → Bool
@@ -36,13 +36,13 @@ abbrev pub taken : (buffer : List ℕ) → Gathered → Gathered
 taken buffer g = more (ltb g.len (length buffer)) g
 
 -- the buffer afterwards: the byte behind those that are kept; past the buffer's end none is set
-abbrev pub bufferTaken : (buffer : List ℕ) → Gathered → (b : ℕ) → List ℕ
-bufferTaken buffer g b = set buffer g.len b
+abbrev pub buffer_taken : (buffer : List ℕ) → Gathered → (b : ℕ) → List ℕ
+buffer_taken buffer g b = set buffer g.len b
 
 -- ---- up to the newline
 -- byte 10 ends the line, and no other does: a carriage return is a byte as any other
-abbrev pub endsLine : ℕ → Bool
-endsLine b = eqb b 10
+abbrev pub ends_line : ℕ → Bool
+ends_line b = eqb b 10
 
 -- the buffer, and the answer: what is gathered, the place past the last byte taken, and whether the line has ended
 pub record Gathering : Type 0 where
@@ -53,22 +53,22 @@ abbrev pub gathering : (buffer : List ℕ) → Gathered → (next : ℕ) → (en
 gathering buffer g next ended = record { buffer = buffer; step = record { gathered = g; next = next; ended = ended } }
 
 -- the bytes of l, the first of which stands at place i
-unfoldable pub gatherFrom : (i : ℕ) (buffer : List ℕ) → Gathered → (l : List ℕ) → Gathering
-gatherFrom i buffer g [] = gathering buffer g i false
-gatherFrom i buffer g (b ∷ l) =
-    cond (endsLine b)
+unfoldable pub gather_from : (i : ℕ) (buffer : List ℕ) → Gathered → (l : List ℕ) → Gathering
+gather_from i buffer g [] = gathering buffer g i false
+gather_from i buffer g (b ∷ l) =
+    cond (ends_line b)
     (gathering buffer g (suc i) true)
-    (gatherFrom (suc i) (bufferTaken buffer g b) (taken buffer g) l)
+    (gather_from (suc i) (buffer_taken buffer g b) (taken buffer g) l)
 
 -- ---- a whole text
 -- what is handed over for a line at the end of the text: a last line without its newline counts, where a byte of it has come
-abbrev pub lastHanded : (buffer : List ℕ) → Gathered → List Kept
-lastHanded buffer g = cond (is_empty g) [] (keptIn buffer g ∷ [])
+abbrev pub last_handed : (buffer : List ℕ) → Gathered → List Kept
+last_handed buffer g = cond (is_empty g) [] (kept_in buffer g ∷ [])
 
 -- what is handed over, line by line, for a text that goes on where g has been gathered
 unfoldable pub handed : (buffer : List ℕ) → Gathered → (text : List ℕ) → List Kept
-handed buffer g [] = lastHanded buffer g
+handed buffer g [] = last_handed buffer g
 handed buffer g (b ∷ text) =
-    cond (endsLine b)
-    (keptIn buffer g ∷ handed buffer noByte text)
-    (handed (bufferTaken buffer g b) (taken buffer g) text)
+    cond (ends_line b)
+    (kept_in buffer g ∷ handed buffer no_byte text)
+    (handed (buffer_taken buffer g b) (taken buffer g) text)

@@ -2,8 +2,8 @@
 -- Assumes nothing.
 use Rattle.std.specs.Prelude.{ℕ, ◌≡◌, List, ◌++◌, map, length}
 use Rattle.streams.specs.Lines.{Lines}
-use Rattle.streams.specs.Parting.{behind, parted, partedBy, together, lines_of}
-use Rattle.streams.specs.Gathering.{noByte, keptOf, handed}
+use Rattle.streams.specs.Parting.{behind, parted, parted_by, together, lines_of}
+use Rattle.streams.specs.Gathering.{no_byte, kept_of, handed}
 
 -- a text in two chunks: the second goes on where the first left off
 abbrev pub TwoChunks : Type 0
@@ -11,7 +11,7 @@ TwoChunks = (held a b : List ℕ) → parted held (a ++ b) ≡ behind (parted he
 
 -- in any chunks, of any size, also empty ones: only the text matters
 abbrev pub AnyChunks : Type 0
-AnyChunks = (held : List ℕ) (chunks : List (List ℕ)) → partedBy held chunks ≡ parted held (together chunks)
+AnyChunks = (held : List ℕ) (chunks : List (List ℕ)) → parted_by held chunks ≡ parted held (together chunks)
 
 -- the fold finds the lines of the grammar, and no others
 abbrev pub FoldFinds : Type 0
@@ -26,4 +26,4 @@ OneReading = (text : List ℕ) (ls : List (List ℕ)) → Lines text ls → line
 abbrev pub LinesHanded : Type 0
 LinesHanded =
     (buffer text : List ℕ) (ls : List (List ℕ)) → Lines text ls
-    → handed buffer noByte text ≡ map (keptOf (length buffer)) ls
+    → handed buffer no_byte text ≡ map (kept_of (length buffer)) ls

@@ -3,7 +3,7 @@
 use Rattle.std.specs.Prelude.{ℕ, List, [], ◌∷◌, cond}
 use Rattle.streams.specs.declared.gathered.Gathered.{Gathered}
 use Rattle.streams.specs.declared.gathered.Step.{Step}
-use Rattle.streams.specs.Gathering.{noByte, taken, bufferTaken, endsLine}
+use Rattle.streams.specs.Gathering.{no_byte, taken, buffer_taken, ends_line}
 
 -- the buffer, and what is gathered in it
 pub record Waiting : Type 0 where
@@ -14,10 +14,10 @@ abbrev pub waiting : (buffer : List ℕ) → Gathered → Waiting
 waiting buffer g = record { buffer = buffer; gathered = g }
 
 -- byte by byte: a newline ends the line, and the next has no byte yet; any other byte is one more of the line
-unfoldable pub waitingBehind : (buffer : List ℕ) → Gathered → (chunk : List ℕ) → Waiting
-waitingBehind buffer g [] = waiting buffer g
-waitingBehind buffer g (b ∷ l) = cond (endsLine b) (waitingBehind buffer noByte l) (waitingBehind (bufferTaken buffer g b) (taken buffer g) l)
+unfoldable pub waiting_behind : (buffer : List ℕ) → Gathered → (chunk : List ℕ) → Waiting
+waiting_behind buffer g [] = waiting buffer g
+waiting_behind buffer g (b ∷ l) = cond (ends_line b) (waiting_behind buffer no_byte l) (waiting_behind (buffer_taken buffer g b) (taken buffer g) l)
 
 -- behind a step of `gather`
-abbrev pub goneOn : Step → Gathered
-goneOn s = cond s.ended noByte s.gathered
+abbrev pub gone_on : Step → Gathered
+gone_on s = cond s.ended no_byte s.gathered

@@ -1,7 +1,7 @@
 // A line of input as it comes, in chunks of any size: its first bytes in a lent buffer, and whether there were more.
 ghost use Rattle.std.specs.Prelude.{◌≡◌, drop};
-ghost use Rattle.streams.specs.Gathering.{noByte, taken, bufferTaken, is_empty, gatherFrom};
-ghost use Rattle.streams.specs.Turns.{goneOn};
+ghost use Rattle.streams.specs.Gathering.{no_byte, taken, buffer_taken, is_empty, gather_from};
+ghost use Rattle.streams.specs.Turns.{gone_on};
 
 // How many bytes of the line are kept in the buffer, and whether the line has more than the buffer holds.
 #[derive(Drop)]
@@ -21,7 +21,7 @@ pub struct Step {
 impl Gathered {
     // No byte yet.
     pub fn new() -> Gathered
-        ensures answer { result ≡ noByte }
+        ensures { result ≡ no_byte }
     {
         Gathered {
             len: 0,
@@ -31,7 +31,7 @@ impl Gathered {
 
     // Has no byte come?
     pub fn is_empty(self) -> bool
-        ensures answer { result ≡ is_empty self }
+        ensures { result ≡ is_empty self }
     {
         if self.over {
             return false;
@@ -43,7 +43,7 @@ impl Gathered {
 // One byte more: kept while the buffer has room.
 fn take(buffer: &mut [u8], g: Gathered, b: u8) -> Gathered
     ensures answer { result ≡ taken buffer.old g }
-    ensures buffer { buffer.new ≡ bufferTaken buffer.old g b }
+    ensures buffer { buffer.new ≡ buffer_taken buffer.old g b }
 {
     let len = g.len;
     if len < buffer.len() {
@@ -58,8 +58,8 @@ fn take(buffer: &mut [u8], g: Gathered, b: u8) -> Gathered
 
 // The bytes of a chunk from a place on, up to the newline, which is passed, or up to the chunk's end.
 pub fn gather(chunk: &[u8], from: usize, buffer: &mut [u8], g: Gathered) -> Step
-    ensures answer { result ≡ (gatherFrom from buffer.old g (drop from chunk.now)).step }
-    ensures buffer { buffer.new ≡ (gatherFrom from buffer.old g (drop from chunk.now)).buffer }
+    ensures answer { result ≡ (gather_from from buffer.old g (drop from chunk.now)).step }
+    ensures buffer { buffer.new ≡ (gather_from from buffer.old g (drop from chunk.now)).buffer }
 {
     let mut h = g;
     let mut i = from;
@@ -83,7 +83,7 @@ pub fn gather(chunk: &[u8], from: usize, buffer: &mut [u8], g: Gathered) -> Step
 
 // What is gathered of the next line behind a step: nothing yet where a line has ended there.
 pub fn gone_on(t: Step) -> Gathered
-    ensures answer { result ≡ goneOn t }
+    ensures { result ≡ gone_on t }
 {
     if t.ended {
         return Gathered::new();

@@ -3,7 +3,7 @@
 use Rattle.std.specs.Prelude.{◌≡◌, Bool, true, false, ◌⊎◌, ℕ, zero, suc, ◌+◌, ◌-◌, ◌≤◌, ◌<◌}
 use Rattle.std.proofs.Math.Path.{refl, ap}
 use Rattle.std.proofs.Common.{sym, ◌∙◌, inl, inr, ⊎_elim, add-zero, add-suc, arith}
-use Rattle.tally.specs.Before.{before, oneMore, Had}
+use Rattle.tally.specs.Before.{before, one_more, Had}
 
 -- m is below n, is n, or is above it
 pub which : (m n : ℕ) → (m < n) ⊎ ((m ≡ n) ⊎ (n < m))
@@ -24,11 +24,11 @@ module _ (p : ℕ → Bool) where
 
   pub before-pass : (n : ℕ) → p n ≡ true → before p (suc n) ≡ suc (before p n)
   unfolding before
-  before-pass n e = ap (λ b. oneMore b (before p n)) e
+  before-pass n e = ap (λ b. one_more b (before p n)) e
 
   pub before-fail : (n : ℕ) → p n ≡ false → before p (suc n) ≡ before p n
   unfolding before
-  before-fail n e = ap (λ b. oneMore b (before p n)) e
+  before-fail n e = ap (λ b. one_more b (before p n)) e
 
   -- n numbers from m on that all pass add n, and n that all fail add nothing
   pub all_pass : (m n : ℕ) → ((k : ℕ) → k < n → p (m + k) ≡ true) → before p (m + n) ≡ before p m + n

@@ -9,14 +9,14 @@ use lib.ListN.{length, drop}
 use lib.Seq.{drop-drop, drop_at}
 use borrow.Author.Tests.{ne_eqb, le-leb}
 use Rattle.laws.specs.Spelt.{spelt}
-use Rattle.digits.specs.Digits.{digitFirst, IsField, value_of, run_of}
+use Rattle.digits.specs.Digits.{digit_first, IsField, value_of, run_of}
 use Rattle.digits.proofs.Values.{digit-bounds}
 use Rattle.digits.proofs.Runs.{run-nine, field-first}
-use Rattle.asking.specs.Table.{wordFirst}
+use Rattle.asking.specs.Table.{word_first}
 use Rattle.telling.specs.declared.questions.Options.{Options}
 use Rattle.telling.specs.declared.questions.Question.TheVariants.{Asked, NoText}
-use Rattle.telling.specs.Question.{one_of, is_number, noOption, withPosition, withFormat, formatAt, format_in, optionIn, optionOf, way_of, endedAt, ratedIn}
-use Rattle.telling.specs.Grammar.{Numeral, numeral, PositionWord, short-position, long-position, FormatWord, short-format, long-format, Front, no-option, one-position, one_format, position-format, format-position}
+use Rattle.telling.specs.Question.{one_of, is_number, no_option, with_position, with_format, format_at, format_in, option_in, option_of, way_of, ended_at, rated_in}
+use Rattle.telling.specs.Grammar.{Numeral, numeral, PositionWord, short_position, long_position, FormatWord, short_format, long_format, Front, no-option, one_position, one_format, position_format, format_position}
 
 -- ---- numbers
 run-number : (d : List ℕ) (value : ℕ) → IsField d → length d ≤ 9 → is_number (record { value = value; count = length d }) ≡ true
@@ -24,13 +24,13 @@ unfolding is_number
 run-number d value f h = rw (ne_eqb (length d) 0 (λ e. omega (arith, e, f.some)), le-leb (length d) 9 h)
 
 -- ---- options
-pub pass-position : (o : Options) (w l : List ℕ) → PositionWord w → o.position ≡ false → optionIn (w ++ l) o ≡ withPosition o (length w)
-unfolding optionIn one_of wordFirst
-pass-position o w l short-position e = rw e
-pass-position o w l long-position e = rw e
+pub pass-position : (o : Options) (w l : List ℕ) → PositionWord w → o.position ≡ false → option_in (w ++ l) o ≡ with_position o (length w)
+unfolding option_in one_of word_first
+pass-position o w l short_position e = rw e
+pass-position o w l long_position e = rw e
 
-pass-number : (o : Options) (d l : List ℕ) (n at : ℕ) → Numeral d n → formatAt (d ++ (32 ∷ l)) o at ≡ withFormat o n (at + length d + 1)
-unfolding formatAt
+pass-number : (o : Options) (d l : List ℕ) (n at : ℕ) → Numeral d n → format_at (d ++ (32 ∷ l)) o at ≡ with_format o n (at + length d + 1)
+unfolding format_at
 pass-number o d l n at (numeral f h) =
     rw (run-nine d (32 ∷ l) f.digits refl h, run-number d (value_of d) f h, drop_at d (32 ∷ l) (length d) refl)
 
@@ -40,33 +40,33 @@ left_out true x y e = let z : ◌≡◌ {A = ℕ} 0 1 = cc in absurd (omega arit
 left_out false x y e = refl
 
 pub pass-format : (o : Options) (v d l : List ℕ) (n : ℕ) → FormatWord v → Numeral d n → o.formatted ≡ false
-    → optionIn (v ++ (d ++ (32 ∷ l))) o ≡ withFormat o n (o.at + length v + length d + 1)
-unfolding optionIn format_in one_of wordFirst
-pass-format o v d l n short-format k e = by o.position
+    → option_in (v ++ (d ++ (32 ∷ l))) o ≡ with_format o n (o.at + length v + length d + 1)
+unfolding option_in format_in one_of word_first
+pass-format o v d l n short_format k e = by o.position
   where
     by : (t : Bool)
-        → cond t (format_in (spelt "-f " ++ (d ++ (32 ∷ l))) o) (format_in (spelt "-f " ++ (d ++ (32 ∷ l))) o) ≡ withFormat o n (o.at + 3 + length d + 1)
+        → cond t (format_in (spelt "-f " ++ (d ++ (32 ∷ l))) o) (format_in (spelt "-f " ++ (d ++ (32 ∷ l))) o) ≡ with_format o n (o.at + 3 + length d + 1)
     by true = left_out o.formatted o _ e ∙ pass-number o d l n (o.at + 3) k
     by false = left_out o.formatted o _ e ∙ pass-number o d l n (o.at + 3) k
-pass-format o v d l n long-format k e = by o.position
+pass-format o v d l n long_format k e = by o.position
   where
     by : (t : Bool)
-        → cond t (format_in (spelt "--format " ++ (d ++ (32 ∷ l))) o) (format_in (spelt "--format " ++ (d ++ (32 ∷ l))) o) ≡ withFormat o n (o.at + 9 + length d + 1)
+        → cond t (format_in (spelt "--format " ++ (d ++ (32 ∷ l))) o) (format_in (spelt "--format " ++ (d ++ (32 ∷ l))) o) ≡ with_format o n (o.at + 9 + length d + 1)
     by true = left_out o.formatted o _ e ∙ pass-number o d l n (o.at + 9) k
     by false = left_out o.formatted o _ e ∙ pass-number o d l n (o.at + 9) k
 
 -- before a digit there is none
-no_word : (w l : List ℕ) → digitFirst l ≡ true → wordFirst (45 ∷ w) l ≡ false
-unfolding wordFirst
+no_word : (w l : List ℕ) → digit_first l ≡ true → word_first (45 ∷ w) l ≡ false
+unfolding word_first
 no_word w [] e = let z : ◌≡◌ {A = ℕ} 0 1 = cc in absurd (omega arith)
 no_word w (b ∷ l) e = rw (ne_eqb b 45 (λ z. omega (arith, z, (digit-bounds b e).0)))
 
-no_words : (a b l : List ℕ) → digitFirst l ≡ true → one_of (45 ∷ a) (45 ∷ b) l ≡ 0
+no_words : (a b l : List ℕ) → digit_first l ≡ true → one_of (45 ∷ a) (45 ∷ b) l ≡ 0
 unfolding one_of
 no_words a b l e = rw (no_word a l e, no_word b l e)
 
-pub pass-none : (o : Options) (l : List ℕ) → digitFirst l ≡ true → optionIn l o ≡ o
-unfolding optionIn format_in
+pub pass-none : (o : Options) (l : List ℕ) → digit_first l ≡ true → option_in l o ≡ o
+unfolding option_in format_in
 pass-none o l e =
     rw (no_words (112 ∷ 32 ∷ []) (spelt "-position ") l e, no_words (102 ∷ 32 ∷ []) (spelt "-format ") l e) (by o.position o.formatted)
   where
@@ -82,62 +82,62 @@ behind line at a l e = sym (drop-drop (length a) at line) ∙ ap (drop (length a
 
 pub record Reached (line rest : List ℕ) (p m : Bool) (n : ℕ) : Type 0 where
   pub at : ℕ
-  pub is : optionOf line (optionOf line noOption) ≡ record { position = p; formatted = m; format = n; at = at }
+  pub is : option_of line (option_of line no_option) ≡ record { position = p; formatted = m; format = n; at = at }
   pub left : drop at line ≡ rest
 
 -- what the second option finds
-next : (line : List ℕ) (o o' : Options) (l : List ℕ) → drop o.at line ≡ l → optionIn l o ≡ o' → optionOf line o ≡ o'
-next line o o' l e p = ap (λ z. optionIn z o) e ∙ p
+next : (line : List ℕ) (o o' : Options) (l : List ℕ) → drop o.at line ≡ l → option_in l o ≡ o' → option_of line o ≡ o'
+next line o o' l e p = ap (λ z. option_in z o) e ∙ p
 
 pub number_behind : (line : List ℕ) (at : ℕ) (v d l : List ℕ) → drop at line ≡ v ++ (d ++ (32 ∷ l)) → drop (at + length v + length d + 1) line ≡ l
 number_behind line at v d l e =
     let one = behind line at v (d ++ (32 ∷ l)) e in
     behind line (at + length v + length d) (32 ∷ []) l (behind line (at + length v) d (32 ∷ l) one)
 
-two : (line : List ℕ) (o o' : Options) → optionOf line noOption ≡ o → optionOf line o ≡ o' → optionOf line (optionOf line noOption) ≡ o'
-two line o o' e f = ap (optionOf line) e ∙ f
+two : (line : List ℕ) (o o' : Options) → option_of line no_option ≡ o → option_of line o ≡ o' → option_of line (option_of line no_option) ≡ o'
+two line o o' e f = ap (option_of line) e ∙ f
 
-pub reached : {line rest : List ℕ} {p m : Bool} {n : ℕ} → Front line rest p m n → digitFirst rest ≡ true → Reached line rest p m n
+pub reached : {line rest : List ℕ} {p m : Bool} {n : ℕ} → Front line rest p m n → digit_first rest ≡ true → Reached line rest p m n
 reached {line} no-option e = record {
   at = 0;
-  is = two line noOption noOption (pass-none noOption line e) (pass-none noOption line e);
+  is = two line no_option no_option (pass-none no_option line e) (pass-none no_option line e);
   left = refl;
 }
-reached {line} {rest} (one-position {w = w} k) e =
-    let o = withPosition noOption (length w) in
+reached {line} {rest} (one_position {w = w} k) e =
+    let o = with_position no_option (length w) in
     let left = behind line 0 w rest refl in
-    record { at = 0 + length w; is = two line o o (pass-position noOption w rest k refl) (next line o o rest left (pass-none o rest e)); left = left }
+    record { at = 0 + length w; is = two line o o (pass-position no_option w rest k refl) (next line o o rest left (pass-none o rest e)); left = left }
 reached {line} {rest} (one_format {v = v} {d = d} {n = n} k j) e =
-    let o = withFormat noOption n (0 + length v + length d + 1) in
+    let o = with_format no_option n (0 + length v + length d + 1) in
     let left = number_behind line 0 v d rest refl in
     record {
       at = 0 + length v + length d + 1;
-      is = two line o o (pass-format noOption v d rest n k j refl) (next line o o rest left (pass-none o rest e));
+      is = two line o o (pass-format no_option v d rest n k j refl) (next line o o rest left (pass-none o rest e));
       left = left;
     }
-reached {line} {rest} (position-format {w = w} {v = v} {d = d} {n = n} i k j) e =
+reached {line} {rest} (position_format {w = w} {v = v} {d = d} {n = n} i k j) e =
     let l = v ++ (d ++ (32 ∷ rest)) in
-    let o = withPosition noOption (length w) in
+    let o = with_position no_option (length w) in
     let at = behind line 0 w l refl in
     record {
       at = 0 + length w + length v + length d + 1;
-      is = two line o (withFormat o n (0 + length w + length v + length d + 1)) (pass-position noOption w l i refl)
+      is = two line o (with_format o n (0 + length w + length v + length d + 1)) (pass-position no_option w l i refl)
           (next line o _ l at (pass-format o v d rest n k j refl));
       left = number_behind line (0 + length w) v d rest at;
     }
-reached {line} {rest} (format-position {v = v} {d = d} {w = w} {n = n} k j i) e =
-    let o = withFormat noOption n (0 + length v + length d + 1) in
+reached {line} {rest} (format_position {v = v} {d = d} {w = w} {n = n} k j i) e =
+    let o = with_format no_option n (0 + length v + length d + 1) in
     let at = number_behind line 0 v d (w ++ rest) refl in
     record {
       at = 0 + length v + length d + 1 + length w;
-      is = two line o (withPosition o (length w)) (pass-format noOption v d (w ++ rest) n k j refl)
+      is = two line o (with_position o (length w)) (pass-format no_option v d (w ++ rest) n k j refl)
           (next line o _ (w ++ rest) at (pass-position o w rest i refl));
       left = behind line (0 + length v + length d + 1) w rest at;
     }
 
 -- ---- the rate
-pub pass-rate : (o : Options) (d t : List ℕ) (r : ℕ) → Numeral d r → ratedIn (d ++ (32 ∷ t)) o ≡ Asked (way_of o r) (o.at + length d + 1)
-unfolding ratedIn endedAt
+pub pass-rate : (o : Options) (d t : List ℕ) (r : ℕ) → Numeral d r → rated_in (d ++ (32 ∷ t)) o ≡ Asked (way_of o r) (o.at + length d + 1)
+unfolding rated_in ended_at
 pass-rate o d t r (numeral f h) =
     rw (
       run-nine d (32 ∷ t) f.digits refl h,
@@ -146,13 +146,13 @@ pass-rate o d t r (numeral f h) =
       ne_eqb (suc (length t)) 0 (λ e. omega (arith, e)),
     )
 
-pub pass-rate-alone : (o : Options) (d : List ℕ) (r : ℕ) → Numeral d r → ratedIn d o ≡ NoText (way_of o r)
-unfolding ratedIn endedAt
+pub pass-rate-alone : (o : Options) (d : List ℕ) (r : ℕ) → Numeral d r → rated_in d o ≡ NoText (way_of o r)
+unfolding rated_in ended_at
 pass-rate-alone o d r (numeral f h) =
     let run_is = run-nine d [] f.digits refl h in
     let whole : run_of d ≡ record { value = value_of d; count = length d } = ap run_of (sym (append-nil d)) ∙ run_is in
     let none : drop (length d) d ≡ [] = ap (drop (length d)) (sym (append-nil d)) ∙ drop_at d [] (length d) refl in
     rw (whole, run-number d (value_of d) f h, none)
 
-pub rate-first : {d : List ℕ} {r : ℕ} (l : List ℕ) → Numeral d r → digitFirst (d ++ l) ≡ true
+pub rate-first : {d : List ℕ} {r : ℕ} (l : List ℕ) → Numeral d r → digit_first (d ++ l) ≡ true
 rate-first {d} l (numeral f h) = field-first d l f

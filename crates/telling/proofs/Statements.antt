@@ -9,143 +9,143 @@ use lib.ListN.{length, length-append}
 use borrow.Author.Tests.{ne_eqb}
 use Rattle.laws.specs.Spelt.{spelt}
 use Rattle.laws.specs.Every.{every}
-use Rattle.digits.specs.Digits.{decimal, digitsOf, width, width_by}
-use Rattle.rates.specs.Rates.{isDrop}
-use Rattle.label_writer.specs.LabelText.{sectionsText}
-use Rattle.written.specs.Clock.{clockText}
-use Rattle.written.specs.Parts.{signedText}
-use Rattle.phrases.specs.Phrases.{phrases, phraseOf}
+use Rattle.digits.specs.Digits.{decimal, digits_of, width, width_by}
+use Rattle.rates.specs.Rates.{is_drop}
+use Rattle.label_writer.specs.LabelText.{sections_text}
+use Rattle.written.specs.Clock.{clock_text}
+use Rattle.written.specs.Parts.{signed_text}
+use Rattle.phrases.specs.Phrases.{phrases, phrase_of}
 use Rattle.reading.specs.declared.Read.{Read}
 use Rattle.reading.specs.declared.Read.TheVariants as read
 use Rattle.reading.specs.Answer.{number_of, place_of}
 use Rattle.reading.specs.Shaped.{Shaped, label, footage, refused, shape_of}
 use Rattle.reasons.specs.declared.Fact.{Fact}
 use Rattle.reasons.specs.declared.Fact.TheVariants.{Nothing}
-use Rattle.reasons.specs.Facts.{labelFact, footageFact, factBy}
+use Rattle.reasons.specs.Facts.{label_fact, footage_fact, fact_by}
 use Rattle.reasons.specs.Why.{fact_of}
 use Rattle.reading.specs.declared.Stated.{Stated}
 use Rattle.streams.specs.Sheet.{Sheet}
 use Rattle.streams.specs.Parting.{together}
 use Rattle.streams.proofs.Pieces.{pieces-stand, together-append}
 use Rattle.telling.specs.declared.told.Way.{Way}
-use Rattle.streams.specs.Pieces.{lineEnd, allOn}
-use Rattle.telling.specs.Shown.{isPrintable, shownByte, shownPieces, hasPlace, caretPieces, placePieces}
-use Rattle.telling.specs.Facts.{limitPieces, firstPieces, countedPieces, factPieces}
-use Rattle.telling.specs.Told.{statedIn, readIn, factIn, phraseIn, frontPieces, reasonPieces, toldPieces}
-use Rattle.telling.specs.Answered.{questionPieces, textPieces}
-use Rattle.telling.specs.Joined.{wordPieces}
-use Rattle.telling.specs.Statements.{ToldStands, AnswerStands, WordStands, spaces, caretText, RefusedTold, LabelTold, FootageTold, ShownColumns, CaretUnder, CountedRead, LimitRead, FirstRead, FactsRead, QuestionUnderstood, TextsUnderstood}
+use Rattle.streams.specs.Pieces.{line_end, all_on}
+use Rattle.telling.specs.Shown.{is_printable, shown_byte, shown_pieces, has_place, caret_pieces, place_pieces}
+use Rattle.telling.specs.Facts.{limit_pieces, first_pieces, counted_pieces, fact_pieces}
+use Rattle.telling.specs.Told.{stated_in, read_in, fact_in, phrase_in, front_pieces, reason_pieces, told_pieces}
+use Rattle.telling.specs.Answered.{question_pieces, text_pieces}
+use Rattle.telling.specs.Joined.{word_pieces}
+use Rattle.telling.specs.Statements.{ToldStands, AnswerStands, WordStands, spaces, caret_text, RefusedTold, LabelTold, FootageTold, ShownColumns, CaretUnder, CountedRead, LimitRead, FirstRead, FactsRead, QuestionUnderstood, TextsUnderstood}
 use Rattle.telling.proofs.Understanding.{exactly-asked, exactly-texts}
 
 -- ---- with room, each piece stands behind the one before it
-pub told-stands : ToldStands
-told-stands s way text h = pieces-stand s (toldPieces way text) h
+pub told_stands : ToldStands
+told_stands s way text h = pieces-stand s (told_pieces way text) h
 
-pub answer-stands : AnswerStands
-answer-stands s line over = (pieces-stand s (questionPieces line over), λ way. pieces-stand s (textPieces way line over))
+pub answer_stands : AnswerStands
+answer_stands s line over = (pieces-stand s (question_pieces line over), λ way. pieces-stand s (text_pieces way line over))
 
 pub word_stands : WordStands
 unfolding together
-word_stands s word h = pieces-stand s (wordPieces word) (omega (arith, h, length-append word (32 ∷ [])))
+word_stands s word h = pieces-stand s (word_pieces word) (omega (arith, h, length-append word (32 ∷ [])))
 
 -- ---- pieces joined
-shown-text : (text : List ℕ) (rest : List ℕ) → together (shownPieces text) ++ rest ≡ map shownByte text ++ (10 ∷ rest)
-unfolding together shownPieces
+shown-text : (text : List ℕ) (rest : List ℕ) → together (shown_pieces text) ++ rest ≡ map shown_byte text ++ (10 ∷ rest)
+unfolding together shown_pieces
 shown-text [] rest = refl
-shown-text (b ∷ text) rest = ap (λ z. shownByte b ∷ z) (shown-text text rest)
+shown-text (b ∷ text) rest = ap (λ z. shown_byte b ∷ z) (shown-text text rest)
 
-caret-spaces : (place : ℕ) → together (caretPieces place) ≡ spaces place ++ (94 ∷ 10 ∷ [])
-unfolding together caretPieces spaces
+caret-spaces : (place : ℕ) → together (caret_pieces place) ≡ spaces place ++ (94 ∷ 10 ∷ [])
+unfolding together caret_pieces spaces
 caret-spaces zero = refl
 caret-spaces (suc place) = ap (λ z. 32 ∷ z) (caret-spaces place)
 
-caret-is : (number place : ℕ) → together (placePieces number place) ≡ caretText number place
-unfolding together placePieces
-caret-is number place = by (hasPlace number)
+caret-is : (number place : ℕ) → together (place_pieces number place) ≡ caret_text number place
+unfolding together place_pieces
+caret-is number place = by (has_place number)
   where
-    by : (t : Bool) → together (cond t (caretPieces place) []) ≡ cond t (spaces place ++ (94 ∷ 10 ∷ [])) []
+    by : (t : Bool) → together (cond t (caret_pieces place) []) ≡ cond t (spaces place ++ (94 ∷ 10 ∷ [])) []
     by true = caret-spaces place
     by false = refl
 
 -- all that is told, by its parts
 parts : (rate : ℕ) (text : List ℕ) (r : Read) (f : Fact) (phrase : List ℕ)
-    → together (reasonPieces rate text r f phrase)
-    ≡ map shownByte text
-    ++ (10 ∷ (caretText (number_of r) (place_of r) ++ (together (frontPieces (number_of r)) ++ (phrase ++ (10 ∷ together (factPieces rate r f))))))
-unfolding reasonPieces together
+    → together (reason_pieces rate text r f phrase)
+    ≡ map shown_byte text
+    ++ (10 ∷ (caret_text (number_of r) (place_of r) ++ (together (front_pieces (number_of r)) ++ (phrase ++ (10 ∷ together (fact_pieces rate r f))))))
+unfolding reason_pieces together
 parts rate text r f phrase =
-    let c = placePieces (number_of r) (place_of r) in
-    let d = frontPieces (number_of r) in
-    let e = phrase ∷ lineEnd ∷ factPieces rate r f in
-    together-append (shownPieces text) (c ++ (d ++ e))
+    let c = place_pieces (number_of r) (place_of r) in
+    let d = front_pieces (number_of r) in
+    let e = phrase ∷ line_end ∷ fact_pieces rate r f in
+    together-append (shown_pieces text) (c ++ (d ++ e))
     ∙ shown-text text (together (c ++ (d ++ e)))
-    ∙ ap (λ z. map shownByte text ++ (10 ∷ z))
+    ∙ ap (λ z. map shown_byte text ++ (10 ∷ z))
     (together-append c (d ++ e)
     ∙ ap (λ z. z ++ together (d ++ e)) (caret-is (number_of r) (place_of r))
-    ∙ ap (λ z. caretText (number_of r) (place_of r) ++ z) (together-append d e))
+    ∙ ap (λ z. caret_text (number_of r) (place_of r) ++ z) (together-append d e))
 
 -- ---- of each answer
 front-text : (number : ℕ) (rest : List ℕ) → (number ≡ 0 → ⊥)
-    → together (frontPieces number) ++ rest ≡ spelt "refused " ++ (signedText false number ++ (spelt ": " ++ rest))
-unfolding together frontPieces
-front-text number rest n = rw (ne_eqb number 0 n) (ap (λ z. spelt "refused " ++ z) (append_assoc (signedText false number) (spelt ": ") rest))
+    → together (front_pieces number) ++ rest ≡ spelt "refused " ++ (signed_text false number ++ (spelt ": " ++ rest))
+unfolding together front_pieces
+front-text number rest n = rw (ne_eqb number 0 n) (ap (λ z. spelt "refused " ++ z) (append_assoc (signed_text false number) (spelt ": ") rest))
 
-pub refused-told : RefusedTold
-unfolding toldPieces
-refused-told way text e p n =
-    parts way.rate text (readIn way text) (factIn way text) (phraseIn way text)
+pub refused_told : RefusedTold
+unfolding told_pieces
+refused_told way text e p n =
+    parts way.rate text (read_in way text) (fact_in way text) (phrase_in way text)
     ∙ ap
-    (λ r. map shownByte text
-    ++ (10 ∷ (caretText (number_of r) (place_of r)
-    ++ (together (frontPieces (number_of r)) ++ (phraseOf (number_of r) ++ (10 ∷ together (factPieces way.rate r (factIn way text))))))))
+    (λ r. map shown_byte text
+    ++ (10 ∷ (caret_text (number_of r) (place_of r)
+    ++ (together (front_pieces (number_of r)) ++ (phrase_of (number_of r) ++ (10 ∷ together (fact_pieces way.rate r (fact_in way text))))))))
     p
-    ∙ ap (λ z. map shownByte text ++ (10 ∷ (caretText e.number e.place ++ z)))
-    (front-text e.number (phraseOf e.number ++ (10 ∷ together (factPieces way.rate (read.Refused e) (factIn way text)))) n)
+    ∙ ap (λ z. map shown_byte text ++ (10 ∷ (caret_text e.number e.place ++ z)))
+    (front-text e.number (phrase_of e.number ++ (10 ∷ together (fact_pieces way.rate (read.Refused e) (fact_in way text)))) n)
 
 -- an accepted text has no fact
-no-fact : (rate : ℕ) (stated : Stated) (s : Shaped) → factBy 0 rate stated s ≡ Nothing
-unfolding labelFact footageFact
+no-fact : (rate : ℕ) (stated : Stated) (s : Shaped) → fact_by 0 rate stated s ≡ Nothing
+unfolding label_fact footage_fact
 no-fact rate stated (label minus fields) = refl
 no-fact rate stated (footage minus feet frames perf marker) = refl
 no-fact rate stated (refused e) = refl
 
-fact-none : (way : Way) (text : List ℕ) → number_of (readIn way text) ≡ 0 → factIn way text ≡ Nothing
+fact-none : (way : Way) (text : List ℕ) → number_of (read_in way text) ≡ 0 → fact_in way text ≡ Nothing
 unfolding fact_of
-fact-none way text e = rw e (no-fact way.rate (statedIn way) (shape_of (statedIn way) text))
+fact-none way text e = rw e (no-fact way.rate (stated_in way) (shape_of (stated_in way) text))
 
-pub label-told : LabelTold
-unfolding toldPieces frontPieces together phraseOf phrases
-label-told way text tc p =
-    parts way.rate text (readIn way text) (factIn way text) (phraseIn way text) ∙ rw (fact-none way text (ap number_of p), p)
+pub label_told : LabelTold
+unfolding told_pieces front_pieces together phrase_of phrases
+label_told way text tc p =
+    parts way.rate text (read_in way text) (fact_in way text) (phrase_in way text) ∙ rw (fact-none way text (ap number_of p), p)
 
-pub footage-told : FootageTold
-unfolding toldPieces frontPieces together phraseOf phrases
-footage-told way text tc format p =
-    parts way.rate text (readIn way text) (factIn way text) (phraseIn way text) ∙ rw (fact-none way text (ap number_of p), p)
+pub footage_told : FootageTold
+unfolding told_pieces front_pieces together phrase_of phrases
+footage_told way text tc format p =
+    parts way.rate text (read_in way text) (fact_in way text) (phrase_in way text) ∙ rw (fact-none way text (ap number_of p), p)
 
 -- ---- one column for one byte
-shown-printable : (b : ℕ) → isPrintable (shownByte b) ≡ true
-unfolding shownByte
-shown-printable b = by (isPrintable b) refl
+shown-printable : (b : ℕ) → is_printable (shown_byte b) ≡ true
+unfolding shown_byte
+shown-printable b = by (is_printable b) refl
   where
-    by : (t : Bool) → isPrintable b ≡ t → isPrintable (cond t b 63) ≡ true
+    by : (t : Bool) → is_printable b ≡ t → is_printable (cond t b 63) ≡ true
     by true e = e
     by false e = refl
 
-shown-same : (b : ℕ) → isPrintable b ≡ true → shownByte b ≡ b
-unfolding shownByte
+shown-same : (b : ℕ) → is_printable b ≡ true → shown_byte b ≡ b
+unfolding shown_byte
 shown-same b e = rw e
 
-pub shown-columns : ShownColumns
-shown-columns [] = (refl, (refl, λ e. refl))
-shown-columns (b ∷ text) =
-    let rest = shown-columns text in (
+pub shown_columns : ShownColumns
+shown_columns [] = (refl, (refl, λ e. refl))
+shown_columns (b ∷ text) =
+    let rest = shown_columns text in (
       ap suc rest.0,
       (
-        (and-eq-true_iff (isPrintable (shownByte b)) (every isPrintable (map shownByte text))).1 (shown-printable b, rest.1.0),
+        (and-eq-true_iff (is_printable (shown_byte b)) (every is_printable (map shown_byte text))).1 (shown-printable b, rest.1.0),
         λ e.
-            let q = (and-eq-true_iff (isPrintable b) (every isPrintable text)).0 e in
-            ap (λ z. z ∷ map shownByte text) (shown-same b q.0) ∙ ap (λ z. b ∷ z) (rest.1.1 q.1),
+            let q = (and-eq-true_iff (is_printable b) (every is_printable text)).0 e in
+            ap (λ z. z ∷ map shown_byte text) (shown-same b q.0) ∙ ap (λ z. b ∷ z) (rest.1.1 q.1),
       ),
     )
 
@@ -154,30 +154,30 @@ unfolding spaces
 spaces-length zero = refl
 spaces-length (suc n) = ap suc (spaces-length n)
 
-pub caret-under : CaretUnder
-caret-under place = (caret-spaces place, spaces-length place)
+pub caret_under : CaretUnder
+caret_under place = (caret-spaces place, spaces-length place)
 
 -- ---- the facts, by computation
-pub facts-read : FactsRead
-unfolding together firstPieces limitPieces isDrop sectionsText clockText decimal digitsOf width width_by
-facts-read = record { first = refl; count = refl; sign = refl; hours = refl; minutes = refl; seconds = refl; frames = refl; marker = refl }
+pub facts_read : FactsRead
+unfolding together first_pieces limit_pieces is_drop sections_text clock_text decimal digits_of width width_by
+facts_read = record { first = refl; count = refl; sign = refl; hours = refl; minutes = refl; seconds = refl; frames = refl; marker = refl }
 
 -- ---- what a question is
-pub question-understood : QuestionUnderstood
-question-understood = exactly-asked
+pub question_understood : QuestionUnderstood
+question_understood = exactly-asked
 
-pub texts-understood : TextsUnderstood
-texts-understood = exactly-texts
+pub texts_understood : TextsUnderstood
+texts_understood = exactly-texts
 
 -- ---- the facts, whole
-pub counted-read : CountedRead
-unfolding together countedPieces
-counted-read tc = refl
+pub counted_read : CountedRead
+unfolding together counted_pieces
+counted_read tc = refl
 
-pub limit-read : LimitRead
-unfolding together limitPieces
-limit-read f e = rw e
+pub limit_read : LimitRead
+unfolding together limit_pieces
+limit_read f e = rw e
 
 pub first_read : FirstRead
-unfolding together firstPieces
+unfolding together first_pieces
 first_read rate s = refl

@@ -9,19 +9,19 @@ use lib.Dec.{eqb, leb}
 use lib.ListN.{length, drop}
 use borrow.Author.Tests.{eqb-true, leb-true}
 use Rattle.laws.specs.Spelt.{spelt}
-use Rattle.digits.specs.Digits.{is_byte, firstIs, leading, run_of}
+use Rattle.digits.specs.Digits.{is_byte, first_is, leading, run_of}
 use Rattle.digits.proofs.Runs.{field-value, leading-field, leading_length, leading-rest, run-count, run_value}
-use Rattle.asking.specs.Table.{wordFirst}
+use Rattle.asking.specs.Table.{word_first}
 use Rattle.asking.proofs.Standing.{word-front}
 use Rattle.telling.specs.declared.questions.Options.{Options}
-use Rattle.telling.specs.Question.{one_of, is_number, noOption, withPosition, withFormat, formatAt, format_in, optionIn, optionOf}
-use Rattle.telling.specs.Grammar.{Numeral, numeral, PositionWord, short-position, long-position, FormatWord, short-format, long-format, Front, no-option, one-position, one_format, position-format, format-position}
+use Rattle.telling.specs.Question.{one_of, is_number, no_option, with_position, with_format, format_at, format_in, option_in, option_of}
+use Rattle.telling.specs.Grammar.{Numeral, numeral, PositionWord, short_position, long_position, FormatWord, short_format, long_format, Front, no-option, one_position, one_format, position_format, format_position}
 use Rattle.telling.proofs.Passing.{behind, number_behind}
 
 -- ---- a number that was taken
 pub record Taken (l : List ℕ) : Type 0 where
-  pub numeral-is : Numeral (leading l) (run_of l).value
-  pub count-is : (run_of l).count ≡ length (leading l)
+  pub numeral_is : Numeral (leading l) (run_of l).value
+  pub count_is : (run_of l).count ≡ length (leading l)
   pub parts : l ≡ leading l ++ drop (run_of l).count l
 
 pub taken-number : (l : List ℕ) → is_number (run_of l) ≡ true → Taken l
@@ -33,10 +33,10 @@ taken-number l e =
     let n = leading_length l in
     let short : length (leading l) ≤ 9 = omega (arith, c, most, n) in
     record {
-      numeral-is =
+      numeral_is =
           subst (Numeral (leading l)) (sym (run_value l ∙ field-value (leading l) short))
           (numeral (leading-field l (λ z. nonzero q.0 (c ∙ z))) short);
-      count-is = c ∙ sym n;
+      count_is = c ∙ sym n;
       parts = sym (ap (λ k. leading l ++ drop k l) c ∙ leading-rest l);
     }
   where
@@ -44,30 +44,30 @@ taken-number l e =
     nonzero t z = let y : not (eqb 0 0) ≡ true = ap (λ k. not (eqb k 0)) (sym z) ∙ t in let w : ◌≡◌ {A = ℕ} 0 1 = cc in omega arith
 
 -- a byte that stands in front
-pub stands-front : (b : ℕ) (l : List ℕ) → firstIs (is_byte b) l ≡ true → l ≡ b ∷ drop 1 l
+pub stands-front : (b : ℕ) (l : List ℕ) → first_is (is_byte b) l ≡ true → l ≡ b ∷ drop 1 l
 stands-front b [] e = let z : ◌≡◌ {A = ℕ} 0 1 = cc in absurd (omega arith)
 stands-front b (c ∷ l) e = ap (λ z. z ∷ l) (eqb-true c b e)
 
 -- ---- an option that was taken
 pub data Stepped (l : List ℕ) (o : Options) : Options → Type 0 where
   same : Stepped l o o
-  by-position : {w : List ℕ} (r : List ℕ) → PositionWord w → l ≡ w ++ r → o.position ≡ false → Stepped l o (withPosition o (length w))
-  by-format : {v d : List ℕ} {n : ℕ} (r : List ℕ) → FormatWord v → Numeral d n → l ≡ v ++ (d ++ (32 ∷ r)) → o.formatted ≡ false
-      → Stepped l o (withFormat o n (o.at + length v + length d + 1))
+  by_position : {w : List ℕ} (r : List ℕ) → PositionWord w → l ≡ w ++ r → o.position ≡ false → Stepped l o (with_position o (length w))
+  by_format : {v d : List ℕ} {n : ℕ} (r : List ℕ) → FormatWord v → Numeral d n → l ≡ v ++ (d ++ (32 ∷ r)) → o.formatted ≡ false
+      → Stepped l o (with_format o n (o.at + length v + length d + 1))
 
-stepped-number : (l : List ℕ) (o : Options) (v : List ℕ) → FormatWord v → wordFirst v l ≡ true → o.formatted ≡ false
-    → Stepped l o (formatAt (drop (length v) l) o (o.at + length v))
-unfolding formatAt
+stepped-number : (l : List ℕ) (o : Options) (v : List ℕ) → FormatWord v → word_first v l ≡ true → o.formatted ≡ false
+    → Stepped l o (format_at (drop (length v) l) o (o.at + length v))
+unfolding format_at
 stepped-number l o v k e f =
-    by (is_number (run_of m)) (firstIs (is_byte 32) (drop (run_of m).count m)) refl refl
+    by (is_number (run_of m)) (first_is (is_byte 32) (drop (run_of m).count m)) refl refl
   where
     m : List ℕ
     m = drop (length v) l
 
     by : (x y : Bool) → is_number (run_of (drop (length v) l)) ≡ x
-        → firstIs (is_byte 32) (drop (run_of (drop (length v) l)).count (drop (length v) l)) ≡ y
+        → first_is (is_byte 32) (drop (run_of (drop (length v) l)).count (drop (length v) l)) ≡ y
         → Stepped l o (cond (x && y)
-        (withFormat o (run_of (drop (length v) l)).value (o.at + length v + (run_of (drop (length v) l)).count + 1)) o)
+        (with_format o (run_of (drop (length v) l)).value (o.at + length v + (run_of (drop (length v) l)).count + 1)) o)
     by false y p q = same
     by true false p q = same
     by true true p q =
@@ -76,32 +76,32 @@ stepped-number l o v k e f =
         let rest = drop (run_of m').count m' in
         let whole : l ≡ v ++ (leading m' ++ (32 ∷ drop 1 rest)) =
         word-front v l e ∙ ap (λ z. v ++ z) (t.parts ∙ ap (λ z. leading m' ++ z) (stands-front 32 rest q)) in
-        subst (λ c. Stepped l o (withFormat o (run_of m').value (o.at + length v + c + 1))) (sym t.count-is)
-        (by-format (drop 1 rest) k t.numeral-is whole f)
+        subst (λ c. Stepped l o (with_format o (run_of m').value (o.at + length v + c + 1))) (sym t.count_is)
+        (by_format (drop 1 rest) k t.numeral_is whole f)
 
 stepped-format : (l : List ℕ) (o : Options) → Stepped l o (format_in l o)
 unfolding format_in one_of
-stepped-format l o = by o.formatted (wordFirst (spelt "-f ") l) (wordFirst (spelt "--format ") l) refl refl refl
+stepped-format l o = by o.formatted (word_first (spelt "-f ") l) (word_first (spelt "--format ") l) refl refl refl
   where
-    by : (t x y : Bool) → o.formatted ≡ t → wordFirst (spelt "-f ") l ≡ x → wordFirst (spelt "--format ") l ≡ y
+    by : (t x y : Bool) → o.formatted ≡ t → word_first (spelt "-f ") l ≡ x → word_first (spelt "--format ") l ≡ y
         → Stepped l o
         (cond t o (cond (eqb (cond x 3 (cond y 9 0)) 0) o
-        (formatAt (drop (cond x 3 (cond y 9 0)) l) o (o.at + cond x 3 (cond y 9 0)))))
+        (format_at (drop (cond x 3 (cond y 9 0)) l) o (o.at + cond x 3 (cond y 9 0)))))
     by true x y e p q = same
-    by false true y e p q = stepped-number l o (spelt "-f ") short-format p e
-    by false false true e p q = stepped-number l o (spelt "--format ") long-format q e
+    by false true y e p q = stepped-number l o (spelt "-f ") short_format p e
+    by false false true e p q = stepped-number l o (spelt "--format ") long_format q e
     by false false false e p q = same
 
-pub stepped : (l : List ℕ) (o : Options) → Stepped l o (optionIn l o)
-unfolding optionIn one_of
-stepped l o = by o.position (wordFirst (spelt "-p ") l) (wordFirst (spelt "--position ") l) refl refl refl
+pub stepped : (l : List ℕ) (o : Options) → Stepped l o (option_in l o)
+unfolding option_in one_of
+stepped l o = by o.position (word_first (spelt "-p ") l) (word_first (spelt "--position ") l) refl refl refl
   where
-    by : (t x y : Bool) → o.position ≡ t → wordFirst (spelt "-p ") l ≡ x → wordFirst (spelt "--position ") l ≡ y
+    by : (t x y : Bool) → o.position ≡ t → word_first (spelt "-p ") l ≡ x → word_first (spelt "--position ") l ≡ y
         → Stepped l o
-        (cond t (format_in l o) (cond (eqb (cond x 3 (cond y 11 0)) 0) (format_in l o) (withPosition o (cond x 3 (cond y 11 0)))))
+        (cond t (format_in l o) (cond (eqb (cond x 3 (cond y 11 0)) 0) (format_in l o) (with_position o (cond x 3 (cond y 11 0)))))
     by true x y e p q = stepped-format l o
-    by false true y e p q = by-position (drop 3 l) short-position (word-front (spelt "-p ") l p) e
-    by false false true e p q = by-position (drop 11 l) long-position (word-front (spelt "--position ") l q) e
+    by false true y e p q = by_position (drop 3 l) short_position (word-front (spelt "-p ") l p) e
+    by false false true e p q = by_position (drop 11 l) long_position (word-front (spelt "--position ") l q) e
     by false false false e p q = stepped-format l o
 
 -- ---- two of them
@@ -111,29 +111,29 @@ front_same line line' rest rest' p m n e f k = subst (λ z. Front z rest p m n) 
 never : true ≡ false → ⊥
 never e = let z : ◌≡◌ {A = ℕ} 0 1 = cc in omega arith
 
-front-two : (line : List ℕ) (o o' : Options) → Stepped line noOption o → Stepped (drop o.at line) o o'
+front-two : (line : List ℕ) (o o' : Options) → Stepped line no_option o → Stepped (drop o.at line) o o'
     → Front line (drop o'.at line) o'.position o'.formatted o'.format
 front-two line o o' same same = no-option
-front-two line o o' same (by-position {w = w} r k e f) =
-    front_same line (w ++ r) _ r _ _ _ e (behind line 0 w r e) (one-position k)
-front-two line o o' same (by-format {v = v} {d = d} {n = n} r k j e f) =
+front-two line o o' same (by_position {w = w} r k e f) =
+    front_same line (w ++ r) _ r _ _ _ e (behind line 0 w r e) (one_position k)
+front-two line o o' same (by_format {v = v} {d = d} {n = n} r k j e f) =
     front_same line (v ++ (d ++ (32 ∷ r))) _ r _ _ _ e (number_behind line 0 v d r e) (one_format k j)
-front-two line o o' (by-position {w = w} r k e f) same =
-    front_same line (w ++ r) _ r _ _ _ e (behind line 0 w r e) (one-position k)
-front-two line o o' (by-position r k e f) (by-position s k' e' f') = absurd (never f')
-front-two line o o' (by-position {w = w} r k e f) (by-format {v = v} {d = d} {n = n} s k' j e' f') =
+front-two line o o' (by_position {w = w} r k e f) same =
+    front_same line (w ++ r) _ r _ _ _ e (behind line 0 w r e) (one_position k)
+front-two line o o' (by_position r k e f) (by_position s k' e' f') = absurd (never f')
+front-two line o o' (by_position {w = w} r k e f) (by_format {v = v} {d = d} {n = n} s k' j e' f') =
     let at = behind line 0 w r e in
     let both : line ≡ w ++ (v ++ (d ++ (32 ∷ s))) = e ∙ ap (λ z. w ++ z) (sym at ∙ e') in
-    front_same line (w ++ (v ++ (d ++ (32 ∷ s)))) _ s _ _ _ both (number_behind line (0 + length w) v d s e') (position-format k k' j)
-front-two line o o' (by-format {v = v} {d = d} {n = n} r k j e f) same =
+    front_same line (w ++ (v ++ (d ++ (32 ∷ s)))) _ s _ _ _ both (number_behind line (0 + length w) v d s e') (position_format k k' j)
+front-two line o o' (by_format {v = v} {d = d} {n = n} r k j e f) same =
     front_same line (v ++ (d ++ (32 ∷ r))) _ r _ _ _ e (number_behind line 0 v d r e) (one_format k j)
-front-two line o o' (by-format {v = v} {d = d} {n = n} r k j e f) (by-position {w = w} s k' e' f') =
+front-two line o o' (by_format {v = v} {d = d} {n = n} r k j e f) (by_position {w = w} s k' e' f') =
     let at = number_behind line 0 v d r e in
     let both : line ≡ v ++ (d ++ (32 ∷ w ++ s)) = e ∙ ap (λ z. v ++ (d ++ (32 ∷ z))) (sym at ∙ e') in
-    front_same line (v ++ (d ++ (32 ∷ w ++ s))) _ s _ _ _ both (behind line (0 + length v + length d + 1) w s e') (format-position k j k')
-front-two line o o' (by-format r k j e f) (by-format s k' j' e' f') = absurd (never f')
+    front_same line (v ++ (d ++ (32 ∷ w ++ s))) _ s _ _ _ both (behind line (0 + length v + length d + 1) w s e') (format_position k j k')
+front-two line o o' (by_format r k j e f) (by_format s k' j' e' f') = absurd (never f')
 
-pub front_of : (line : List ℕ) → let o = optionOf line (optionOf line noOption) in Front line (drop o.at line) o.position o.formatted o.format
+pub front_of : (line : List ℕ) → let o = option_of line (option_of line no_option) in Front line (drop o.at line) o.position o.formatted o.format
 front_of line =
-    let o = optionOf line noOption in
-    front-two line o (optionOf line o) (stepped line noOption) (stepped (drop o.at line) o)
+    let o = option_of line no_option in
+    front-two line o (option_of line o) (stepped line no_option) (stepped (drop o.at line) o)

@@ -7,11 +7,11 @@ use mathlib.Core.Bool.{Bool, true}
 use native.Mathlib.Omega.{arith}
 use lib.ListN.{length, drop}
 use borrow.Author.Tests.{eqb-true}
-use Rattle.digits.specs.Digits.{digitFirst, leading, run_of}
+use Rattle.digits.specs.Digits.{digit_first, leading, run_of}
 use Rattle.telling.specs.declared.told.Way.{Way}
 use Rattle.telling.specs.declared.questions.Question.TheVariants.{Asked, NoText}
-use Rattle.telling.specs.Question.{noOption, optionOf, way_of, ratedIn, ratedOf, questionOf}
-use Rattle.telling.specs.Grammar.{Front, Asks, asks, AsksTexts, asks-texts}
+use Rattle.telling.specs.Question.{no_option, option_of, way_of, rated_in, rated_of, question_of}
+use Rattle.telling.specs.Grammar.{Front, Asks, asks, AsksTexts, asks_texts}
 use Rattle.telling.specs.Statements.{Understood, QuestionUnderstood, TextsUnderstood}
 use Rattle.telling.proofs.Asked.{asked-rated, alone-rated}
 use Rattle.telling.proofs.Passing.{behind, Reached, reached, pass-rate, pass-rate-alone, rate-first}
@@ -19,10 +19,10 @@ use Rattle.telling.proofs.Taking.{taken-number, stands-front, front_of}
 
 -- behind the options that were passed stands the rate
 rated : (line rest : List ℕ) (p m : Bool) (n : ℕ) (r : Reached line rest p m n)
-    → questionOf line ≡ ratedIn rest (record { position = p; formatted = m; format = n; at = r.at })
-unfolding questionOf
+    → question_of line ≡ rated_in rest (record { position = p; formatted = m; format = n; at = r.at })
+unfolding question_of
 rated line rest p m n r =
-    ap (ratedOf line) r.is ∙ ap (λ l. ratedIn l (record { position = p; formatted = m; format = n; at = r.at })) r.left
+    ap (rated_of line) r.is ∙ ap (λ l. rated_in l (record { position = p; formatted = m; format = n; at = r.at })) r.left
 
 understood : {line : List ℕ} {way : Way} {text : List ℕ} → Asks line way text → Understood line way text
 understood {line} {way} {text} (asks {d = d} {p = p} {m = m} {n = n} {r = r} front num) =
@@ -37,30 +37,30 @@ understood {line} {way} {text} (asks {d = d} {p = p} {m = m} {n = n} {r = r} fro
       rest = behind line (at + length d) (32 ∷ []) text (behind line at d (32 ∷ text) reach.left);
     }
 
-only : (line : List ℕ) (way : Way) (at : ℕ) → questionOf line ≡ Asked way at → Asks line way (drop at line)
-unfolding questionOf
+only : (line : List ℕ) (way : Way) (at : ℕ) → question_of line ≡ Asked way at → Asks line way (drop at line)
+unfolding question_of
 only line way at e =
-    let o = optionOf line (optionOf line noOption) in
+    let o = option_of line (option_of line no_option) in
     let l = drop o.at line in
     let r = asked-rated l o way at e in
     let t = taken-number l r.number in
     let rest = drop (run_of l).count l in
     let text = drop 1 rest in
     let whole : l ≡ leading l ++ (32 ∷ text) = t.parts ∙ ap (λ z. leading l ++ z) (stands-front 32 rest r.space) in
-    let place : at ≡ o.at + length (leading l) + 1 = omega (arith, r.at-is, t.count-is) in
+    let place : at ≡ o.at + length (leading l) + 1 = omega (arith, r.at_is, t.count_is) in
     let left : drop at line ≡ text =
     ap (λ k. drop k line) place ∙ behind line (o.at + length (leading l)) (32 ∷ []) text (behind line o.at (leading l) (32 ∷ text) whole) in
     let front : Front line (leading l ++ (32 ∷ text)) o.position o.formatted o.format =
     subst (λ z. Front line z o.position o.formatted o.format) whole (front_of line) in
-    subst (λ z. Asks line z (drop at line)) (sym r.way-is) (subst (λ z. Asks line (way_of o (run_of l).value) z) (sym left) (asks front t.numeral-is))
+    subst (λ z. Asks line z (drop at line)) (sym r.way_is) (subst (λ z. Asks line (way_of o (run_of l).value) z) (sym left) (asks front t.numeral_is))
 
 pub exactly-asked : QuestionUnderstood
 exactly-asked line way text = (understood, λ u. subst (Asks line way) u.rest (only line way u.at u.asked))
 
 -- ---- options and a rate alone
-alone : {line : List ℕ} {way : Way} → AsksTexts line way → questionOf line ≡ NoText way
-alone {line} (asks-texts {d = d} {p = p} {m = m} {n = n} {r = r} front num) =
-    let first : digitFirst d ≡ true = ap digitFirst (sym (append-nil d)) ∙ rate-first [] num in
+alone : {line : List ℕ} {way : Way} → AsksTexts line way → question_of line ≡ NoText way
+alone {line} (asks_texts {d = d} {p = p} {m = m} {n = n} {r = r} front num) =
+    let first : digit_first d ≡ true = ap digit_first (sym (append-nil d)) ∙ rate-first [] num in
     let reach = reached front first in
     rated line d p m n reach ∙ pass-rate-alone (record { position = p; formatted = m; format = n; at = reach.at }) d r num
 
@@ -68,10 +68,10 @@ no_bytes : (l : List ℕ) → length l ≡ 0 → l ≡ []
 no_bytes [] e = refl
 no_bytes (b ∷ l) e = absurd (omega arith)
 
-alone-only : (line : List ℕ) (way : Way) → questionOf line ≡ NoText way → AsksTexts line way
-unfolding questionOf
+alone-only : (line : List ℕ) (way : Way) → question_of line ≡ NoText way → AsksTexts line way
+unfolding question_of
 alone-only line way e =
-    let o = optionOf line (optionOf line noOption) in
+    let o = option_of line (option_of line no_option) in
     let l = drop o.at line in
     let r = alone-rated l o way e in
     let t = taken-number l r.number in
@@ -80,7 +80,7 @@ alone-only line way e =
     let whole : l ≡ leading l = t.parts ∙ ap (λ z. leading l ++ z) none ∙ append-nil (leading l) in
     let front : Front line (leading l) o.position o.formatted o.format =
     subst (λ z. Front line z o.position o.formatted o.format) whole (front_of line) in
-    subst (λ z. AsksTexts line z) (sym r.way-is) (asks-texts front t.numeral-is)
+    subst (λ z. AsksTexts line z) (sym r.way_is) (asks_texts front t.numeral_is)
 
 pub exactly-texts : TextsUnderstood
 exactly-texts line way = (alone, alone-only line way)

@@ -10,34 +10,34 @@ use lib.ListN.{length, drop, length-drop}
 use lib.Seq.{drop-drop}
 use borrow.Author.Tests.{eq-eqb, ne_eqb}
 use Rattle.digits.specs.declared.Run.{Run}
-use Rattle.digits.specs.Digits.{is_byte, firstIs, run_of}
+use Rattle.digits.specs.Digits.{is_byte, first_is, run_of}
 use Rattle.digits.proofs.Runs.{span-within, run-count}
-use Rattle.asking.specs.Table.{wordFirst}
+use Rattle.asking.specs.Table.{word_first}
 use Rattle.asking.proofs.Standing.{word-length}
 use Rattle.telling.specs.declared.questions.Options.{Options}
 use Rattle.telling.specs.declared.questions.Question.TheVariants.{Asked, NoText, NotUnderstood}
-use Rattle.telling.specs.Question.{one_of, positionWord, formatWord, is_number, noOption, withPosition, withFormat, formatAt, format_in, optionIn, optionOf, way_of, endedAt, ratedIn, ratedOf, questionOf}
+use Rattle.telling.specs.Question.{one_of, position_word, format_word, is_number, no_option, with_position, with_format, format_at, format_in, option_in, option_of, way_of, ended_at, rated_in, rated_of, question_of}
 
 -- ---- words
 module _ (short long l : List ℕ) where
-  pub word-short : wordFirst short l ≡ true → length short ≡ one_of short long l
+  pub word-short : word_first short l ≡ true → length short ≡ one_of short long l
   unfolding one_of
   word-short e = rw e
 
-  module _ (e : wordFirst short l ≡ false) where
-    pub word-long : wordFirst long l ≡ true → length long ≡ one_of short long l
+  module _ (e : word_first short l ≡ false) where
+    pub word-long : word_first long l ≡ true → length long ≡ one_of short long l
     unfolding one_of
     word-long f = rw (e, f)
 
-    pub word-neither : wordFirst long l ≡ false → 0 ≡ one_of short long l
+    pub word-neither : word_first long l ≡ false → 0 ≡ one_of short long l
     unfolding one_of
     word-neither f = rw (e, f)
 
   word-most : one_of short long l ≤ length l
   unfolding one_of
-  word-most = by (wordFirst short l) (wordFirst long l) refl refl
+  word-most = by (word_first short l) (word_first long l) refl refl
     where
-      by : (x y : Bool) → wordFirst short l ≡ x → wordFirst long l ≡ y → cond x (length short) (cond y (length long) 0) ≤ length l
+      by : (x y : Bool) → word_first short l ≡ x → word_first long l ≡ y → cond x (length short) (cond y (length long) 0) ≤ length l
       by true y e f = word-length short l e
       by false true e f = word-length long l f
       by false false e f = omega arith
@@ -75,23 +75,23 @@ module _ (line : List ℕ) (at : ℕ) (run : Run) (e : run ≡ run_of (drop at l
 
   -- ---- a film format
   module _ (o : Options) where
-    pub format-none : is_number run ≡ false → o ≡ formatAt (drop at line) o at
-    unfolding formatAt
+    pub format-none : is_number run ≡ false → o ≡ format_at (drop at line) o at
+    unfolding format_at
     format-none f = rw (number-here false f)
 
     module _ (f : is_number run ≡ true) where
-      pub format-other : firstIs (is_byte 32) (drop (at + run.count) line) ≡ false → o ≡ formatAt (drop at line) o at
-      unfolding formatAt
+      pub format-other : first_is (is_byte 32) (drop (at + run.count) line) ≡ false → o ≡ format_at (drop at line) o at
+      unfolding format_at
       format-other g =
-          let h : firstIs (is_byte 32) (drop (run_of (drop at line)).count (drop at line)) ≡ false = sym (ap (firstIs (is_byte 32)) rest-here) ∙ g in
+          let h : first_is (is_byte 32) (drop (run_of (drop at line)).count (drop at line)) ≡ false = sym (ap (first_is (is_byte 32)) rest-here) ∙ g in
           rw (number-here true f, h)
 
-      pub format-some : firstIs (is_byte 32) (drop (at + run.count) line) ≡ true
-          → withFormat o run.value (at + run.count + 1) ≡ formatAt (drop at line) o at
-      unfolding formatAt
+      pub format-some : first_is (is_byte 32) (drop (at + run.count) line) ≡ true
+          → with_format o run.value (at + run.count + 1) ≡ format_at (drop at line) o at
+      unfolding format_at
       format-some g =
-          let h : firstIs (is_byte 32) (drop (run_of (drop at line)).count (drop at line)) ≡ true = sym (ap (firstIs (is_byte 32)) rest-here) ∙ g in
-          ap (λ (z : Run). withFormat o z.value (at + z.count + 1)) e ∙ rw (number-here true f, h)
+          let h : first_is (is_byte 32) (drop (run_of (drop at line)).count (drop at line)) ≡ true = sym (ap (first_is (is_byte 32)) rest-here) ∙ g in
+          ap (λ (z : Run). with_format o z.value (at + z.count + 1)) e ∙ rw (number-here true f, h)
 
 -- ---- options
 module _ (l : List ℕ) (o : Options) where
@@ -99,44 +99,44 @@ module _ (l : List ℕ) (o : Options) where
   unfolding format_in
   format-stated e = rw e
 
-  module _ (e : o.formatted ≡ false) (n : ℕ) (w : n ≡ formatWord l) where
+  module _ (e : o.formatted ≡ false) (n : ℕ) (w : n ≡ format_word l) where
     pub format-no-word : n ≡ 0 → o ≡ format_in l o
     unfolding format_in
-    format-no-word z = rw (e, eq-eqb (formatWord l) 0 (sym w ∙ z))
+    format-no-word z = rw (e, eq-eqb (format_word l) 0 (sym w ∙ z))
 
-    pub format-word : (n ≡ 0 → ⊥) → formatAt (drop n l) o (o.at + n) ≡ format_in l o
+    pub format-word : (n ≡ 0 → ⊥) → format_at (drop n l) o (o.at + n) ≡ format_in l o
     unfolding format_in
-    format-word z = rw (e, ne_eqb (formatWord l) 0 (λ y. z (w ∙ y)), w)
+    format-word z = rw (e, ne_eqb (format_word l) 0 (λ y. z (w ∙ y)), w)
 
-  pub option-position : o.position ≡ true → format_in l o ≡ optionIn l o
-  unfolding optionIn
+  pub option-position : o.position ≡ true → format_in l o ≡ option_in l o
+  unfolding option_in
   option-position e = rw e
 
-  module _ (e : o.position ≡ false) (n : ℕ) (w : n ≡ positionWord l) where
-    pub option-no-word : n ≡ 0 → format_in l o ≡ optionIn l o
-    unfolding optionIn
-    option-no-word z = rw (e, eq-eqb (positionWord l) 0 (sym w ∙ z))
+  module _ (e : o.position ≡ false) (n : ℕ) (w : n ≡ position_word l) where
+    pub option-no-word : n ≡ 0 → format_in l o ≡ option_in l o
+    unfolding option_in
+    option-no-word z = rw (e, eq-eqb (position_word l) 0 (sym w ∙ z))
 
-    pub option-word : (n ≡ 0 → ⊥) → withPosition o n ≡ optionIn l o
-    unfolding optionIn
-    option-word z = rw (e, ne_eqb (positionWord l) 0 (λ y. z (w ∙ y)), w)
+    pub option-word : (n ≡ 0 → ⊥) → with_position o n ≡ option_in l o
+    unfolding option_in
+    option-word z = rw (e, ne_eqb (position_word l) 0 (λ y. z (w ∙ y)), w)
 
 -- ---- the rate
 module _ (line : List ℕ) (o : Options) (run : Run) (e : run ≡ run_of (drop o.at line)) where
-  pub rate-none : is_number run ≡ false → NotUnderstood ≡ ratedOf line o
-  unfolding ratedIn
+  pub rate-none : is_number run ≡ false → NotUnderstood ≡ rated_of line o
+  unfolding rated_in
   rate-none f = rw (number-here line o.at run e false f)
 
   module _ (f : is_number run ≡ true) where
-    rate-some : endedAt (way_of o run.value) (drop (o.at + run.count) line) (o.at + run.count) ≡ ratedOf line o
-    unfolding ratedIn
+    rate-some : ended_at (way_of o run.value) (drop (o.at + run.count) line) (o.at + run.count) ≡ rated_of line o
+    unfolding rated_in
     rate-some =
-        ap (λ l. endedAt (way_of o run.value) l (o.at + run.count)) (rest-here line o.at run e)
-        ∙ ap (λ (z : Run). endedAt (way_of o z.value) (drop (run_of (drop o.at line)).count (drop o.at line)) (o.at + z.count)) e
+        ap (λ l. ended_at (way_of o run.value) l (o.at + run.count)) (rest-here line o.at run e)
+        ∙ ap (λ (z : Run). ended_at (way_of o z.value) (drop (run_of (drop o.at line)).count (drop o.at line)) (o.at + z.count)) e
         ∙ rw (number-here line o.at run e true f)
 
-    pub rate-ends : length line ≤ o.at + run.count → NoText (way_of o run.value) ≡ ratedOf line o
-    unfolding endedAt
+    pub rate-ends : length line ≤ o.at + run.count → NoText (way_of o run.value) ≡ rated_of line o
+    unfolding ended_at
     rate-ends h =
         let z : length (drop (o.at + run.count) line) ≡ 0 = omega (arith, length-drop (o.at + run.count) line) in
         rw (eq-eqb (length (drop (o.at + run.count) line)) 0 z) at rate-some
@@ -146,15 +146,15 @@ module _ (line : List ℕ) (o : Options) (run : Run) (e : run ≡ run_of (drop o
       more =
           ne_eqb (length (drop (o.at + run.count) line)) 0 (λ z. omega (arith, z, length-drop (o.at + run.count) line))
 
-      pub rate-text : firstIs (is_byte 32) (drop (o.at + run.count) line) ≡ true
-          → Asked (way_of o run.value) (o.at + run.count + 1) ≡ ratedOf line o
-      unfolding endedAt
+      pub rate-text : first_is (is_byte 32) (drop (o.at + run.count) line) ≡ true
+          → Asked (way_of o run.value) (o.at + run.count + 1) ≡ rated_of line o
+      unfolding ended_at
       rate-text g = rw (more, g) at rate-some
 
-      pub rate-other : firstIs (is_byte 32) (drop (o.at + run.count) line) ≡ false → NotUnderstood ≡ ratedOf line o
-      unfolding endedAt
+      pub rate-other : first_is (is_byte 32) (drop (o.at + run.count) line) ≡ false → NotUnderstood ≡ rated_of line o
+      unfolding ended_at
       rate-other g = rw (more, g) at rate-some
 
-pub question-is : (line : List ℕ) → ratedOf line (optionOf line (optionOf line noOption)) ≡ questionOf line
-unfolding questionOf
+pub question-is : (line : List ℕ) → rated_of line (option_of line (option_of line no_option)) ≡ question_of line
+unfolding question_of
 question-is line = refl

@@ -5,25 +5,25 @@ use Rattle.laws.specs.Spelt.{spelt}
 use Rattle.telling.specs.declared.told.Way.{Way}
 use Rattle.telling.specs.declared.questions.Question.{Question}
 use Rattle.telling.specs.declared.questions.Question.TheVariants.{Asked, NoText, NotUnderstood}
-use Rattle.streams.specs.Pieces.{lineEnd}
-use Rattle.telling.specs.Shown.{shownPieces}
-use Rattle.telling.specs.Told.{toldPieces}
-use Rattle.telling.specs.Question.{questionOf}
+use Rattle.streams.specs.Pieces.{line_end}
+use Rattle.telling.specs.Shown.{shown_pieces}
+use Rattle.telling.specs.Told.{told_pieces}
+use Rattle.telling.specs.Question.{question_of}
 
 -- of a line that is no question, or has more bytes than are kept: the line, and what a question is
-unfoldable pub otherPieces : (line : List ℕ) → List (List ℕ)
-otherPieces line = shownPieces line ++ ((spelt "not understood: a question is [-p] [-f FORMAT] RATE TEXT" ++ lineEnd) ∷ [])
+unfoldable pub other_pieces : (line : List ℕ) → List (List ℕ)
+other_pieces line = shown_pieces line ++ ((spelt "not understood: a question is [-p] [-f FORMAT] RATE TEXT" ++ line_end) ∷ [])
 
 -- of a question what is told of its text; one without a text is not understood in a line
-abbrev pub askedPieces : (line : List ℕ) → Question → List (List ℕ)
-askedPieces line (Asked way at) = toldPieces way (drop at line)
-askedPieces line (NoText way) = otherPieces line
-askedPieces line NotUnderstood = otherPieces line
+abbrev pub asked_pieces : (line : List ℕ) → Question → List (List ℕ)
+asked_pieces line (Asked way at) = told_pieces way (drop at line)
+asked_pieces line (NoText way) = other_pieces line
+asked_pieces line NotUnderstood = other_pieces line
 
 -- a line that is a question; `over` where it has more bytes than are kept
-unfoldable pub questionPieces : (line : List ℕ) (over : Bool) → List (List ℕ)
-questionPieces line over = cond over (otherPieces line) (askedPieces line (questionOf line)) ++ (lineEnd ∷ [])
+unfoldable pub question_pieces : (line : List ℕ) (over : Bool) → List (List ℕ)
+question_pieces line over = cond over (other_pieces line) (asked_pieces line (question_of line)) ++ (line_end ∷ [])
 
 -- a line that is a text, read in a way that was given before
-unfoldable pub textPieces : Way → (line : List ℕ) (over : Bool) → List (List ℕ)
-textPieces way line over = cond over (otherPieces line) (toldPieces way line) ++ (lineEnd ∷ [])
+unfoldable pub text_pieces : Way → (line : List ℕ) (over : Bool) → List (List ℕ)
+text_pieces way line over = cond over (other_pieces line) (told_pieces way line) ++ (line_end ∷ [])

@@ -2,100 +2,100 @@
 -- Assumes nothing.
 use Rattle.std.specs.Prelude.{ℕ, List, [], ◌∷◌, ◌++◌, Bool, true, false, cond, ℤ, nat_abs}
 use Rattle.laws.specs.Spelt.{spelt}
-use Rattle.numbers.specs.Sign.{isNeg}
+use Rattle.numbers.specs.Sign.{is_neg}
 use Rattle.faults.specs.declared.Field.{Field}
 use Rattle.faults.specs.declared.Field.TheVariants.{Count, Sign, Hours, Minutes, Seconds, Frames, Marker}
 use Rattle.faults.specs.declared.Fault.{Fault}
 use Rattle.timecodes.specs.declared.Timecode.{Timecode}
-use Rattle.written.specs.Parts.{signedText}
+use Rattle.written.specs.Parts.{signed_text}
 use Rattle.label_writer.specs.declared.TimecodeSections.{TimecodeSections}
 use Rattle.label_writer.specs.declared.Sectioned.{Sectioned}
 use Rattle.label_writer.specs.declared.Sectioned.TheVariants as sectioned
 use Rattle.label_writer.specs.Sections as sections
-use Rattle.label_writer.specs.LabelText.{framesMark, sectionsText}
+use Rattle.label_writer.specs.LabelText.{frames_mark, sections_text}
 use Rattle.time.specs.declared.Ticked.{Ticked}
 use Rattle.time.specs.declared.Ticked.TheVariants as ticked
-use Rattle.time.specs.Ticks.{ticksOf}
+use Rattle.time.specs.Ticks.{ticks_of}
 use Rattle.reading.specs.declared.Read.{Read}
 use Rattle.reading.specs.declared.Read.TheVariants as read
 use Rattle.reasons.specs.declared.Fact.{Fact}
 use Rattle.reasons.specs.declared.Fact.TheVariants as fact
-use Rattle.streams.specs.Pieces.{lineEnd}
+use Rattle.streams.specs.Pieces.{line_end}
 
 -- ---- numbers and labels
-abbrev pub countText : ℤ → List ℕ
-countText x = signedText (isNeg x) (nat_abs x)
+abbrev pub count_text : ℤ → List ℕ
+count_text x = signed_text (is_neg x) (nat_abs x)
 
 -- sections as a label of the rate is written
-abbrev pub sectionsAt : (rate : ℕ) → TimecodeSections → List ℕ
-sectionsAt rate s = sectionsText (framesMark rate) s
+abbrev pub sections_at : (rate : ℕ) → TimecodeSections → List ℕ
+sections_at rate s = sections_text (frames_mark rate) s
 
 -- a timecode's label and its ticks; nothing where it has none
-abbrev pub labelIn : (rate : ℕ) → Sectioned → List ℕ
-labelIn rate (sectioned.Sections s) = sectionsAt rate s
-labelIn rate (sectioned.Refused e) = []
+abbrev pub label_in : (rate : ℕ) → Sectioned → List ℕ
+label_in rate (sectioned.Sections s) = sections_at rate s
+label_in rate (sectioned.Refused e) = []
 
-abbrev pub ticksText : Ticked → List ℕ
-ticksText (ticked.Ticks z) = countText z
-ticksText (ticked.Refused e) = []
+abbrev pub ticks_text : Ticked → List ℕ
+ticks_text (ticked.Ticks z) = count_text z
+ticks_text (ticked.Refused e) = []
 
 -- ---- a limit
 -- the word of a field
-abbrev pub fieldWord : Field → List ℕ
-fieldWord Count = spelt "count of frames: "
-fieldWord Sign = spelt "sign: "
-fieldWord Hours = spelt "hours: "
-fieldWord Minutes = spelt "minutes: "
-fieldWord Seconds = spelt "seconds: "
-fieldWord Frames = spelt "frames: "
-fieldWord Marker = spelt "marker: "
+abbrev pub field_word : Field → List ℕ
+field_word Count = spelt "count of frames: "
+field_word Sign = spelt "sign: "
+field_word Hours = spelt "hours: "
+field_word Minutes = spelt "minutes: "
+field_word Seconds = spelt "seconds: "
+field_word Frames = spelt "frames: "
+field_word Marker = spelt "marker: "
 
-abbrev pub isSign : Field → Bool
-isSign Count = false
-isSign Sign = true
-isSign Hours = false
-isSign Minutes = false
-isSign Seconds = false
-isSign Frames = false
-isSign Marker = false
+abbrev pub is_sign : Field → Bool
+is_sign Count = false
+is_sign Sign = true
+is_sign Hours = false
+is_sign Minutes = false
+is_sign Seconds = false
+is_sign Frames = false
+is_sign Marker = false
 
 -- a field, its value and the nearest value that is allowed, by their sign
-abbrev pub nearestPieces : Fault → List (List ℕ)
-nearestPieces f =
-    fieldWord f.field
-    ∷ signedText f.minus f.value
+abbrev pub nearest_pieces : Fault → List (List ℕ)
+nearest_pieces f =
+    field_word f.field
+    ∷ signed_text f.minus f.value
     ∷ spelt ", nearest allowed: "
-    ∷ signedText f.minus f.limit
-    ∷ lineEnd
+    ∷ signed_text f.minus f.limit
+    ∷ line_end
     ∷ []
 
 -- of a sign only that there may be none
-unfoldable pub limitPieces : Fault → List (List ℕ)
-limitPieces f = cond (isSign f.field) ((spelt "a time of day has no sign" ++ lineEnd) ∷ []) (nearestPieces f)
+unfoldable pub limit_pieces : Fault → List (List ℕ)
+limit_pieces f = cond (is_sign f.field) ((spelt "a time of day has no sign" ++ line_end) ∷ []) (nearest_pieces f)
 
 -- ---- the first label of a minute
-unfoldable pub firstPieces : (rate : ℕ) → TimecodeSections → List (List ℕ)
-firstPieces rate s = spelt "first label of this minute: " ∷ sectionsAt rate s ∷ lineEnd ∷ []
+unfoldable pub first_pieces : (rate : ℕ) → TimecodeSections → List (List ℕ)
+first_pieces rate s = spelt "first label of this minute: " ∷ sections_at rate s ∷ line_end ∷ []
 
 -- ---- an accepted text: its count without a mark, its label and its ticks
-unfoldable pub countedPieces : Timecode → List (List ℕ)
-countedPieces tc =
+unfoldable pub counted_pieces : Timecode → List (List ℕ)
+counted_pieces tc =
     spelt "count "
-    ∷ countText tc.count
+    ∷ count_text tc.count
     ∷ spelt ", label "
-    ∷ labelIn tc.rate (sections.sectioned tc)
+    ∷ label_in tc.rate (sections.sectioned tc)
     ∷ spelt ", ticks "
-    ∷ ticksText (ticksOf tc)
-    ∷ lineEnd
+    ∷ ticks_text (ticks_of tc)
+    ∷ line_end
     ∷ []
 
-abbrev pub acceptedPieces : Read → List (List ℕ)
-acceptedPieces (read.Label tc) = countedPieces tc
-acceptedPieces (read.Footage tc format) = countedPieces tc
-acceptedPieces (read.Refused e) = []
+abbrev pub accepted_pieces : Read → List (List ℕ)
+accepted_pieces (read.Label tc) = counted_pieces tc
+accepted_pieces (read.Footage tc format) = counted_pieces tc
+accepted_pieces (read.Refused e) = []
 
 -- ---- the fact; a refusal that has none has no line for it
-abbrev pub factPieces : (rate : ℕ) → Read → Fact → List (List ℕ)
-factPieces rate r (fact.First s) = firstPieces rate s
-factPieces rate r (fact.Limit f) = limitPieces f
-factPieces rate r fact.Nothing = acceptedPieces r
+abbrev pub fact_pieces : (rate : ℕ) → Read → Fact → List (List ℕ)
+fact_pieces rate r (fact.First s) = first_pieces rate s
+fact_pieces rate r (fact.Limit f) = limit_pieces f
+fact_pieces rate r fact.Nothing = accepted_pieces r

@@ -3,58 +3,58 @@
 use Rattle.std.specs.Prelude.{ℕ, List, [], ◌∷◌, ◌++◌, Bool, true, false, cond, eqb}
 use Rattle.laws.specs.Spelt.{spelt}
 use Rattle.timecodes.specs.declared.kinds.Kind.{Kind}
-use Rattle.timecodes.specs.Kinds.{kindFrom}
-use Rattle.written.specs.Parts.{signedText}
+use Rattle.timecodes.specs.Kinds.{kind_from}
+use Rattle.written.specs.Parts.{signed_text}
 use Rattle.reading.specs.declared.Stated.{Stated}
 use Rattle.reading.specs.declared.Stated.TheVariants as stated
 use Rattle.reading.specs.declared.Read.{Read}
 use Rattle.reading.specs.declared.Read.TheVariants as read
 use Rattle.reading.specs.Answer.{number_of, place_of}
-use Rattle.reading.specs.For.{readFor}
+use Rattle.reading.specs.For.{read_for}
 use Rattle.reasons.specs.declared.Fact.{Fact}
-use Rattle.reasons.specs.Why.{fact_of, phraseFor}
+use Rattle.reasons.specs.Why.{fact_of, phrase_for}
 use Rattle.streams.specs.Parting.{together}
 use Rattle.telling.specs.declared.told.Way.{Way}
-use Rattle.streams.specs.Pieces.{lineEnd}
-use Rattle.telling.specs.Shown.{shownPieces, placePieces}
-use Rattle.telling.specs.Facts.{factPieces}
+use Rattle.streams.specs.Pieces.{line_end}
+use Rattle.telling.specs.Shown.{shown_pieces, place_pieces}
+use Rattle.telling.specs.Facts.{fact_pieces}
 
 -- ---- how a text is read
-abbrev pub kindIn : Way → Kind
-kindIn way = kindFrom way.position
+abbrev pub kind_in : Way → Kind
+kind_in way = kind_from way.position
 
-abbrev pub statedFrom : (formatted : Bool) (format : ℕ) → Stated
-statedFrom true format = stated.Format format
-statedFrom false format = stated.Nothing
+abbrev pub stated_from : (formatted : Bool) (format : ℕ) → Stated
+stated_from true format = stated.Format format
+stated_from false format = stated.Nothing
 
-abbrev pub statedIn : Way → Stated
-statedIn way = statedFrom way.formatted way.format
+abbrev pub stated_in : Way → Stated
+stated_in way = stated_from way.formatted way.format
 
 -- the reader's answer, the fact behind it and the phrase of its number
-abbrev pub readIn : Way → (text : List ℕ) → Read
-readIn way text = readFor (kindIn way) text (statedIn way) way.rate
+abbrev pub read_in : Way → (text : List ℕ) → Read
+read_in way text = read_for (kind_in way) text (stated_in way) way.rate
 
-abbrev pub factIn : Way → (text : List ℕ) → Fact
-factIn way text = fact_of (kindIn way) text (statedIn way) way.rate
+abbrev pub fact_in : Way → (text : List ℕ) → Fact
+fact_in way text = fact_of (kind_in way) text (stated_in way) way.rate
 
-abbrev pub phraseIn : Way → (text : List ℕ) → List ℕ
-phraseIn way text = phraseFor (kindIn way) text (statedIn way) way.rate
+abbrev pub phrase_in : Way → (text : List ℕ) → List ℕ
+phrase_in way text = phrase_for (kind_in way) text (stated_in way) way.rate
 
 -- ---- what is told
 -- before the phrase of a refusal its number
-unfoldable pub frontPieces : (number : ℕ) → List (List ℕ)
-frontPieces number = cond (eqb number 0) [] (spelt "refused " ∷ signedText false number ∷ spelt ": " ∷ [])
+unfoldable pub front_pieces : (number : ℕ) → List (List ℕ)
+front_pieces number = cond (eqb number 0) [] (spelt "refused " ∷ signed_text false number ∷ spelt ": " ∷ [])
 
-unfoldable pub reasonPieces : (rate : ℕ) (text : List ℕ) → Read → Fact → (phrase : List ℕ) → List (List ℕ)
-reasonPieces rate text r f phrase =
-    shownPieces text
-    ++ (placePieces (number_of r) (place_of r)
-    ++ (frontPieces (number_of r)
-    ++ (phrase ∷ lineEnd ∷ factPieces rate r f)))
+unfoldable pub reason_pieces : (rate : ℕ) (text : List ℕ) → Read → Fact → (phrase : List ℕ) → List (List ℕ)
+reason_pieces rate text r f phrase =
+    shown_pieces text
+    ++ (place_pieces (number_of r) (place_of r)
+    ++ (front_pieces (number_of r)
+    ++ (phrase ∷ line_end ∷ fact_pieces rate r f)))
 
-unfoldable pub toldPieces : Way → (text : List ℕ) → List (List ℕ)
-toldPieces way text = reasonPieces way.rate text (readIn way text) (factIn way text) (phraseIn way text)
+unfoldable pub told_pieces : Way → (text : List ℕ) → List (List ℕ)
+told_pieces way text = reason_pieces way.rate text (read_in way text) (fact_in way text) (phrase_in way text)
 
 -- as one text
-abbrev pub toldText : Way → (text : List ℕ) → List ℕ
-toldText way text = together (toldPieces way text)
+abbrev pub told_text : Way → (text : List ℕ) → List ℕ
+told_text way text = together (told_pieces way text)

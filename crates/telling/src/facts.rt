@@ -1,10 +1,10 @@
 // The fact behind a number as a line on a sheet; of an accepted text its count, label and ticks.
 ghost use Rattle.std.specs.Prelude.{◌≡◌};
-ghost use Rattle.streams.specs.Sheet.{sheet, putOn};
+ghost use Rattle.streams.specs.Sheet.{sheet, put_on};
 ghost use Rattle.label_writer.specs.Sections.{sectioned};
-ghost use Rattle.time.specs.Ticks.{ticksOf};
-ghost use Rattle.streams.specs.Pieces.{allOn};
-ghost use Rattle.telling.specs.Facts.{fieldWord, isSign, labelIn, ticksText, limitPieces, firstPieces, countedPieces, acceptedPieces, factPieces};
+ghost use Rattle.time.specs.Ticks.{ticks_of};
+ghost use Rattle.streams.specs.Pieces.{all_on};
+ghost use Rattle.telling.specs.Facts.{field_word, is_sign, label_in, ticks_text, limit_pieces, first_pieces, counted_pieces, accepted_pieces, fact_pieces};
 
 use crate::pieces;
 use faults::{Fault, Field};
@@ -16,8 +16,8 @@ use timecodes::Timecode;
 
 // The word of a field.
 fn put_field(out: &mut [u8], used: usize, field: Field) -> usize
-    ensures answer { result ≡ (putOn (sheet out.old used) (fieldWord field)).used }
-    ensures sheet { out.new ≡ (putOn (sheet out.old used) (fieldWord field)).bytes }
+    ensures answer { result ≡ (put_on (sheet out.old used) (field_word field)).used }
+    ensures sheet { out.new ≡ (put_on (sheet out.old used) (field_word field)).bytes }
 {
     match field {
         Field::Count => streams::put_text(out, used, b"count of frames: "),
@@ -32,7 +32,7 @@ fn put_field(out: &mut [u8], used: usize, field: Field) -> usize
 
 // Is it the sign?
 fn is_sign(field: Field) -> bool
-    ensures answer { result ≡ isSign field }
+    ensures { result ≡ is_sign field }
 {
     match field {
         Field::Sign => true,
@@ -47,8 +47,8 @@ fn is_sign(field: Field) -> bool
 
 // A field, its value and the nearest value that is allowed.
 fn put_limit(out: &mut [u8], used: usize, f: Fault) -> usize
-    ensures answer { result ≡ (allOn (sheet out.old used) (limitPieces f)).used }
-    ensures sheet { out.new ≡ (allOn (sheet out.old used) (limitPieces f)).bytes }
+    ensures answer { result ≡ (all_on (sheet out.old used) (limit_pieces f)).used }
+    ensures sheet { out.new ≡ (all_on (sheet out.old used) (limit_pieces f)).bytes }
 {
     let field = f.field;
     if is_sign(field) {
@@ -63,8 +63,8 @@ fn put_limit(out: &mut [u8], used: usize, f: Fault) -> usize
 
 // The first label of a minute.
 fn put_first(out: &mut [u8], used: usize, s: TimecodeSections, rate: u64) -> usize
-    ensures answer { result ≡ (allOn (sheet out.old used) (firstPieces rate s)).used }
-    ensures sheet { out.new ≡ (allOn (sheet out.old used) (firstPieces rate s)).bytes }
+    ensures answer { result ≡ (all_on (sheet out.old used) (first_pieces rate s)).used }
+    ensures sheet { out.new ≡ (all_on (sheet out.old used) (first_pieces rate s)).bytes }
 {
     let a = streams::put_text(out, used, b"first label of this minute: ");
     let b = pieces::put_sections(out, a, s, rate);
@@ -73,8 +73,8 @@ fn put_first(out: &mut [u8], used: usize, s: TimecodeSections, rate: u64) -> usi
 
 // A timecode's label.
 fn put_label(out: &mut [u8], used: usize, tc: Timecode) -> usize
-    ensures answer { result ≡ (putOn (sheet out.old used) (labelIn tc.rate (sectioned tc))).used }
-    ensures sheet { out.new ≡ (putOn (sheet out.old used) (labelIn tc.rate (sectioned tc))).bytes }
+    ensures answer { result ≡ (put_on (sheet out.old used) (label_in tc.rate (sectioned tc))).used }
+    ensures sheet { out.new ≡ (put_on (sheet out.old used) (label_in tc.rate (sectioned tc))).bytes }
 {
     match label_writer::sections(tc) {
         Sectioned::Sections(s) => pieces::put_sections(out, used, s, tc.rate),
@@ -84,8 +84,8 @@ fn put_label(out: &mut [u8], used: usize, tc: Timecode) -> usize
 
 // A timecode's ticks.
 fn put_ticks(out: &mut [u8], used: usize, tc: Timecode) -> usize
-    ensures answer { result ≡ (putOn (sheet out.old used) (ticksText (ticksOf tc))).used }
-    ensures sheet { out.new ≡ (putOn (sheet out.old used) (ticksText (ticksOf tc))).bytes }
+    ensures answer { result ≡ (put_on (sheet out.old used) (ticks_text (ticks_of tc))).used }
+    ensures sheet { out.new ≡ (put_on (sheet out.old used) (ticks_text (ticks_of tc))).bytes }
 {
     match time::premiere_ticks(tc) {
         Ticked::Ticks(z) => pieces::put_count(out, used, z),
@@ -95,8 +95,8 @@ fn put_ticks(out: &mut [u8], used: usize, tc: Timecode) -> usize
 
 // The count of a timecode, its label and its ticks.
 fn put_counted(out: &mut [u8], used: usize, tc: Timecode) -> usize
-    ensures answer { result ≡ (allOn (sheet out.old used) (countedPieces tc)).used }
-    ensures sheet { out.new ≡ (allOn (sheet out.old used) (countedPieces tc)).bytes }
+    ensures answer { result ≡ (all_on (sheet out.old used) (counted_pieces tc)).used }
+    ensures sheet { out.new ≡ (all_on (sheet out.old used) (counted_pieces tc)).bytes }
 {
     let a = streams::put_text(out, used, b"count ");
     let b = pieces::put_count(out, a, tc.count);
@@ -109,8 +109,8 @@ fn put_counted(out: &mut [u8], used: usize, tc: Timecode) -> usize
 
 // Of what was read its count, label and ticks; nothing of a refusal.
 fn put_accepted(out: &mut [u8], used: usize, read: Read) -> usize
-    ensures answer { result ≡ (allOn (sheet out.old used) (acceptedPieces read)).used }
-    ensures sheet { out.new ≡ (allOn (sheet out.old used) (acceptedPieces read)).bytes }
+    ensures answer { result ≡ (all_on (sheet out.old used) (accepted_pieces read)).used }
+    ensures sheet { out.new ≡ (all_on (sheet out.old used) (accepted_pieces read)).bytes }
 {
     match read {
         Read::Label(tc) => put_counted(out, used, tc),
@@ -121,8 +121,8 @@ fn put_accepted(out: &mut [u8], used: usize, read: Read) -> usize
 
 // The fact as a line, where there is one.
 pub(crate) fn put_fact(out: &mut [u8], used: usize, rate: u64, read: Read, fact: Fact) -> usize
-    ensures answer { result ≡ (allOn (sheet out.old used) (factPieces rate read fact)).used }
-    ensures sheet { out.new ≡ (allOn (sheet out.old used) (factPieces rate read fact)).bytes }
+    ensures answer { result ≡ (all_on (sheet out.old used) (fact_pieces rate read fact)).used }
+    ensures sheet { out.new ≡ (all_on (sheet out.old used) (fact_pieces rate read fact)).bytes }
 {
     match fact {
         Fact::First(s) => put_first(out, used, s, rate),

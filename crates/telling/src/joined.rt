@@ -1,8 +1,8 @@
 // Words joined by single spaces, as a program's arguments are.
 ghost use Rattle.std.specs.Prelude.{◌≡◌};
 ghost use Rattle.streams.specs.Sheet.{sheet};
-ghost use Rattle.streams.specs.Pieces.{allOn};
-ghost use Rattle.telling.specs.Joined.{wordPieces, joinedIn};
+ghost use Rattle.streams.specs.Pieces.{all_on};
+ghost use Rattle.telling.specs.Joined.{word_pieces, joined_in};
 
 // How many bytes of the buffer are used, and whether all words had room, a space behind each.
 #[derive(Drop)]
@@ -13,8 +13,8 @@ pub struct Words {
 
 // A word more, and a space behind it.
 pub fn join(line: &mut [u8], used: usize, word: &[u8]) -> Words
-    ensures answer { result ≡ joinedIn line.old used word.now }
-    ensures line { line.new ≡ (allOn (sheet line.old used) (wordPieces word.now)).bytes }
+    ensures answer { result ≡ joined_in line.old used word.now }
+    ensures line { line.new ≡ (all_on (sheet line.old used) (word_pieces word.now)).bytes }
 {
     let whole = lent::room(line.len(), used, word.len() + 1);
     let a = streams::put_text(line, used, word);

@@ -1,6 +1,6 @@
 // A question in a line: options in any order, each at most once, then the rate, and behind one space the text.
 ghost use Rattle.std.specs.Prelude.{◌≡◌, true, false, drop};
-ghost use Rattle.telling.specs.Question.{one_of, is_number, formatAt, format_in, optionOf, ratedOf, questionOf};
+ghost use Rattle.telling.specs.Question.{one_of, is_number, format_at, format_in, option_of, rated_of, question_of};
 
 use crate::Way;
 use digits::Run;
@@ -24,7 +24,7 @@ pub enum Question {
 
 // How many bytes the word has that stands at a place, of a short and a long one; 0: neither.
 fn one_of(line: &[u8], at: usize, short: &[u8], long: &[u8]) -> usize
-    ensures answer { result ≡ one_of short.now long.now (drop at line.now) }
+    ensures { result ≡ one_of short.now long.now (drop at line.now) }
 {
     if asking::word_stands(line, at, short) {
         return short.len();
@@ -37,7 +37,7 @@ fn one_of(line: &[u8], at: usize, short: &[u8], long: &[u8]) -> usize
 
 // Has a number one to nine digits?
 fn is_number(run: Run) -> bool
-    ensures answer { result ≡ is_number run }
+    ensures { result ≡ is_number run }
 {
     if run.count == 0 {
         return false;
@@ -47,7 +47,7 @@ fn is_number(run: Run) -> bool
 
 // The number of a film format at a place, and a space behind it.
 fn format_at(line: &[u8], at: usize, o: Options) -> Options
-    ensures answer { result ≡ formatAt (drop at line.now) o at }
+    ensures { result ≡ format_at (drop at line.now) o at }
 {
     let run = digits::run_at(line, at);
     if !is_number(run) {
@@ -67,7 +67,7 @@ fn format_at(line: &[u8], at: usize, o: Options) -> Options
 
 // The film format, where its word stands behind the options and none was stated yet.
 fn format_in(line: &[u8], o: Options) -> Options
-    ensures answer { result ≡ format_in (drop o.at line.now) o }
+    ensures { result ≡ format_in (drop o.at line.now) o }
 {
     if o.formatted {
         return o;
@@ -82,7 +82,7 @@ fn format_in(line: &[u8], o: Options) -> Options
 
 // One option more, where one stands behind the others that has not stood yet.
 fn option(line: &[u8], o: Options) -> Options
-    ensures answer { result ≡ optionOf line.now o }
+    ensures { result ≡ option_of line.now o }
 {
     if o.position {
         return format_in(line, o);
@@ -102,7 +102,7 @@ fn option(line: &[u8], o: Options) -> Options
 
 // The rate behind the options, and the text behind it.
 fn rated(line: &[u8], o: Options) -> Question
-    ensures answer { result ≡ ratedOf line.now o }
+    ensures { result ≡ rated_of line.now o }
 {
     let at = o.at;
     let run = digits::run_at(line, at);
@@ -127,7 +127,7 @@ fn rated(line: &[u8], o: Options) -> Question
 
 // What a line asks.
 pub fn understand(line: &[u8]) -> Question
-    ensures answer { result ≡ questionOf line.now }
+    ensures { result ≡ question_of line.now }
 {
     let none = Options {
         position: false,

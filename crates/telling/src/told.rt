@@ -2,9 +2,9 @@
 ghost use Rattle.std.specs.Prelude.{◌≡◌};
 ghost use Rattle.streams.specs.Sheet.{sheet};
 ghost use Rattle.reading.specs.Answer.{place_of};
-ghost use Rattle.streams.specs.Pieces.{allOn};
-ghost use Rattle.telling.specs.Shown.{placePieces};
-ghost use Rattle.telling.specs.Told.{statedIn, frontPieces, reasonPieces, toldPieces};
+ghost use Rattle.streams.specs.Pieces.{all_on};
+ghost use Rattle.telling.specs.Shown.{place_pieces};
+ghost use Rattle.telling.specs.Told.{stated_in, front_pieces, reason_pieces, told_pieces};
 
 use crate::{facts, pieces};
 use reading::{Read, Stated};
@@ -22,7 +22,7 @@ pub struct Way {
 
 // The film format that is stated.
 fn stated_in(way: Way) -> Stated
-    ensures answer { result ≡ statedIn way }
+    ensures { result ≡ stated_in way }
 {
     if way.formatted {
         return Stated::Format(way.format);
@@ -32,7 +32,7 @@ fn stated_in(way: Way) -> Stated
 
 // The place of a refusal.
 fn place_of(read: Read) -> usize
-    ensures answer { result ≡ place_of read }
+    ensures { result ≡ place_of read }
 {
     match read {
         Read::Label(_) => 0,
@@ -43,8 +43,8 @@ fn place_of(read: Read) -> usize
 
 // A caret under the place of a refusal, where it has one.
 fn put_place(out: &mut [u8], used: usize, number: u8, place: usize) -> usize
-    ensures answer { result ≡ (allOn (sheet out.old used) (placePieces number place)).used }
-    ensures sheet { out.new ≡ (allOn (sheet out.old used) (placePieces number place)).bytes }
+    ensures answer { result ≡ (all_on (sheet out.old used) (place_pieces number place)).used }
+    ensures sheet { out.new ≡ (all_on (sheet out.old used) (place_pieces number place)).bytes }
 {
     if number == 1 {
         return pieces::put_caret(out, used, place);
@@ -57,8 +57,8 @@ fn put_place(out: &mut [u8], used: usize, number: u8, place: usize) -> usize
 
 // What stands before the phrase of a refusal: its number.
 fn put_front(out: &mut [u8], used: usize, number: u8) -> usize
-    ensures answer { result ≡ (allOn (sheet out.old used) (frontPieces number)).used }
-    ensures sheet { out.new ≡ (allOn (sheet out.old used) (frontPieces number)).bytes }
+    ensures answer { result ≡ (all_on (sheet out.old used) (front_pieces number)).used }
+    ensures sheet { out.new ≡ (all_on (sheet out.old used) (front_pieces number)).bytes }
 {
     if number == 0 {
         return used;
@@ -78,8 +78,8 @@ fn put_reason(
     fact: Fact,
     phrase: &[u8],
 ) -> usize
-    ensures answer { result ≡ (allOn (sheet out.old used) (reasonPieces rate text.now read fact phrase.now)).used }
-    ensures sheet { out.new ≡ (allOn (sheet out.old used) (reasonPieces rate text.now read fact phrase.now)).bytes }
+    ensures answer { result ≡ (all_on (sheet out.old used) (reason_pieces rate text.now read fact phrase.now)).used }
+    ensures sheet { out.new ≡ (all_on (sheet out.old used) (reason_pieces rate text.now read fact phrase.now)).bytes }
 {
     let number = reading::number(read);
     let place = place_of(read);
@@ -93,8 +93,8 @@ fn put_reason(
 
 // What is told of a text behind what the sheet has; and how much it has then. (That a phrase has over 128 bytes cannot be.)
 pub fn tell(out: &mut [u8], used: usize, way: Way, text: &[u8]) -> usize
-    ensures answer { result ≡ (allOn (sheet out.old used) (toldPieces way text.now)).used }
-    ensures sheet { out.new ≡ (allOn (sheet out.old used) (toldPieces way text.now)).bytes }
+    ensures answer { result ≡ (all_on (sheet out.old used) (told_pieces way text.now)).used }
+    ensures sheet { out.new ≡ (all_on (sheet out.old used) (told_pieces way text.now)).bytes }
 {
     let mut line = [0u8; 128];
     let stated = stated_in(way);

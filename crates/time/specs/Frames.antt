@@ -1,42 +1,42 @@
 -- Time, in (BEHAVIOUR: Time): a count, ticks and seconds become a length. Each has its conditions in order, and its frame. Positions: `settled`.
 -- Assumes nothing.
 use Rattle.std.specs.Prelude.{ℕ, ◌*◌, List, [], ◌∷◌, ℤ, pos, ◌*ℤ◌}
-use Rattle.numbers.specs.Nearest.{nearestZ}
+use Rattle.numbers.specs.Nearest.{nearest_z}
 use Rattle.answers.specs.Order.{Condition, unless}
-use Rattle.answers.specs.Refusals.{badCount}
-use Rattle.rates.specs.Rates.{rateRow, frameTicks, badRate}
+use Rattle.answers.specs.Refusals.{bad_count}
+use Rattle.rates.specs.Rates.{rate_row, frame_ticks, bad_rate}
 use Rattle.timecodes.specs.declared.Answer.{Answer}
 use Rattle.timecodes.specs.declared.Answer.TheVariants.{At, Refused}
 use Rattle.timecodes.specs.Timecode.{timecode}
 use Rattle.timecodes.specs.Admitted.{admits}
-use Rattle.time.specs.Bounds.{badSeconds}
+use Rattle.time.specs.Bounds.{bad_seconds}
 
 -- a count at a rate: 6, 5
-abbrev pub framesWhen : (count : ℤ) (rate : ℕ) → List Condition
-framesWhen count rate = admits (timecode count rate)
+abbrev pub frames_when : (count : ℤ) (rate : ℕ) → List Condition
+frames_when count rate = admits (timecode count rate)
 
 -- else the count
-unfoldable pub framesAt : (count : ℤ) (rate : ℕ) → Answer
-framesAt count rate = unless Refused (framesWhen count rate) (At (timecode count rate))
+unfoldable pub frames_at : (count : ℤ) (rate : ℕ) → Answer
+frames_at count rate = unless Refused (frames_when count rate) (At (timecode count rate))
 
 -- ticks become the nearest frame, halves away from zero; any 64-bit signed number of ticks
-abbrev pub ticksFrame : (ticks : ℤ) (rate : ℕ) → ℤ
-ticksFrame ticks rate = nearestZ ticks (frameTicks rate)
+abbrev pub ticks_frame : (ticks : ℤ) (rate : ℕ) → ℤ
+ticks_frame ticks rate = nearest_z ticks (frame_ticks rate)
 
 -- 6, then 5 of the resulting count
-abbrev pub ticksWhen : (ticks : ℤ) (rate : ℕ) → List Condition
-ticksWhen ticks rate = badRate rate ∷ badCount (ticksFrame ticks rate) ∷ []
+abbrev pub ticks_when : (ticks : ℤ) (rate : ℕ) → List Condition
+ticks_when ticks rate = bad_rate rate ∷ bad_count (ticks_frame ticks rate) ∷ []
 
-unfoldable pub ticksAt : (ticks : ℤ) (rate : ℕ) → Answer
-ticksAt ticks rate = unless Refused (ticksWhen ticks rate) (At (timecode (ticksFrame ticks rate) rate))
+unfoldable pub ticks_at : (ticks : ℤ) (rate : ℕ) → Answer
+ticks_at ticks rate = unless Refused (ticks_when ticks rate) (At (timecode (ticks_frame ticks rate) rate))
 
 -- p/q seconds become the nearest frame, halves away from zero: p/q times the frames of a second, rounded once
-abbrev pub secondsFrame : (p : ℤ) (q rate : ℕ) → ℤ
-secondsFrame p q rate = nearestZ (p *ℤ pos (rateRow rate).numerator) (q * (rateRow rate).denominator)
+abbrev pub seconds_frame : (p : ℤ) (q rate : ℕ) → ℤ
+seconds_frame p q rate = nearest_z (p *ℤ pos (rate_row rate).numerator) (q * (rate_row rate).denominator)
 
 -- 6, 5 of p and q, then 5 of the resulting count
-abbrev pub secondsWhen : (p : ℤ) (q rate : ℕ) → List Condition
-secondsWhen p q rate = badRate rate ∷ badSeconds p q ∷ badCount (secondsFrame p q rate) ∷ []
+abbrev pub seconds_when : (p : ℤ) (q rate : ℕ) → List Condition
+seconds_when p q rate = bad_rate rate ∷ bad_seconds p q ∷ bad_count (seconds_frame p q rate) ∷ []
 
-unfoldable pub secondsAt : (p : ℤ) (q rate : ℕ) → Answer
-secondsAt p q rate = unless Refused (secondsWhen p q rate) (At (timecode (secondsFrame p q rate) rate))
+unfoldable pub seconds_at : (p : ℤ) (q rate : ℕ) → Answer
+seconds_at p q rate = unless Refused (seconds_when p q rate) (At (timecode (seconds_frame p q rate) rate))

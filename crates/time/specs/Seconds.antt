@@ -5,7 +5,7 @@ use Rattle.numbers.specs.Lowest.{Lowest}
 use Rattle.answers.specs.declared.Refusal.{Refusal}
 use Rattle.answers.specs.declared.Verdict.TheVariants as verdict
 use Rattle.answers.specs.Order.{judged}
-use Rattle.rates.specs.Rates.{secondTicks}
+use Rattle.rates.specs.Rates.{second_ticks}
 use Rattle.timecodes.specs.declared.Timecode.{Timecode}
 use Rattle.timecodes.specs.Admitted.{admits}
 use Rattle.timecodes.specs.Instant.{instant}
@@ -14,8 +14,8 @@ use Rattle.time.specs.declared.Timed.TheVariants.{Seconds, Refused}
 
 -- p/q seconds are t ticks exactly, sign and all, and p/q is in lowest terms with q above 0
 pub record InSeconds (t p : ℤ) (q : ℕ) : Type 0 where
-  pub exact : p *ℤ pos secondTicks ≡ t *ℤ pos q
-  pub lowest : Lowest (nat_abs t) secondTicks (nat_abs p) q
+  pub exact : p *ℤ pos second_ticks ≡ t *ℤ pos q
+  pub lowest : Lowest (nat_abs t) second_ticks (nat_abs p) q
 
 -- the answer is the seconds of t ticks
 abbrev pub IsSeconds : ℤ → Timed → Type 0
@@ -32,10 +32,10 @@ abbrev pub number_of : Timed → ℕ
 number_of (Seconds p q) = 0
 number_of (Refused e) = e.number
 
-abbrev pub numeratorOf : Timed → ℤ
-numeratorOf (Seconds p q) = p
-numeratorOf (Refused e) = pos 0
+abbrev pub numerator_of : Timed → ℤ
+numerator_of (Seconds p q) = p
+numerator_of (Refused e) = pos 0
 
-abbrev pub denominatorOf : Timed → ℕ
-denominatorOf (Seconds p q) = q
-denominatorOf (Refused e) = 1
+abbrev pub denominator_of : Timed → ℕ
+denominator_of (Seconds p q) = q
+denominator_of (Refused e) = 1

@@ -2,7 +2,7 @@
 -- Assumes nothing.
 use Rattle.std.specs.Prelude.{ℕ, ◌≡◌, refl, ℤ, pos, negsuc, neg_ℤ, nat_abs, ◌*ℤ◌}
 use Rattle.std.proofs.Common.{sym, ◌∙◌, ap, ap₂, subst, arith}
-use Rattle.numbers.specs.Sign.{isNeg, signed}
+use Rattle.numbers.specs.Sign.{is_neg, signed}
 use Rattle.numbers.specs.SignLaws.{abs-signed, neg-mul}
 use Rattle.numbers.specs.Lowest.{Lowest}
 use Rattle.numbers.specs.LowestLaws.{den-one}
@@ -11,7 +11,7 @@ use Rattle.answers.specs.declared.Verdict.{Verdict}
 use Rattle.answers.specs.declared.Verdict.TheVariants as verdict
 use Rattle.answers.specs.Order.{judged}
 use Rattle.answers.specs.OrderLaws.{judged-clear}
-use Rattle.rates.specs.Rates.{secondTicks}
+use Rattle.rates.specs.Rates.{second_ticks}
 use Rattle.timecodes.specs.declared.Timecode.{Timecode}
 use Rattle.timecodes.specs.Admitted.{admits, Valid}
 use Rattle.timecodes.specs.AdmittedLaws.{admits-valid}
@@ -21,16 +21,16 @@ use Rattle.time.specs.declared.Timed.TheVariants.{Seconds, Refused}
 use Rattle.time.specs.Seconds.{InSeconds, IsSeconds, SecondsOf}
 
 -- the magnitudes' lowest terms with the ticks' sign are the seconds
-pub inSeconds-signed : (t : ℤ) (n d : ℕ) → Lowest (nat_abs t) secondTicks n d → InSeconds t (signed (isNeg t) n) d
-inSeconds-signed t n d x =
+pub in_seconds-signed : (t : ℤ) (n d : ℕ) → Lowest (nat_abs t) second_ticks n d → InSeconds t (signed (is_neg t) n) d
+in_seconds-signed t n d x =
     record {
       exact = by_sign t x;
-      lowest = subst (λ (k : ℕ). Lowest (nat_abs t) secondTicks k d) (sym (abs-signed (isNeg t) n)) x;
+      lowest = subst (λ (k : ℕ). Lowest (nat_abs t) second_ticks k d) (sym (abs-signed (is_neg t) n)) x;
     }
   where
-    by_sign : (t : ℤ) → Lowest (nat_abs t) secondTicks n d → signed (isNeg t) n *ℤ pos secondTicks ≡ t *ℤ pos d
+    by_sign : (t : ℤ) → Lowest (nat_abs t) second_ticks n d → signed (is_neg t) n *ℤ pos second_ticks ≡ t *ℤ pos d
     by_sign (pos a) x = ap pos x.same
-    by_sign (negsuc a) x = neg-mul (pos n) secondTicks ∙ ap (λ (k : ℕ). neg_ℤ (pos k)) x.same
+    by_sign (negsuc a) x = neg-mul (pos n) second_ticks ∙ ap (λ (k : ℕ). neg_ℤ (pos k)) x.same
 
 -- ---- what an answer of seconds tells
 
@@ -55,20 +55,20 @@ module _ (tc : Timecode) (p : ℤ) (q : ℕ) (h : SecondsOf tc (Seconds p q)) wh
 
 module _ {t p p' : ℤ} {q q' : ℕ} (x : InSeconds t p q) (y : InSeconds t p' q') where
   q-one : q ≡ q'
-  q-one = den-one {p = nat_abs t} {q = secondTicks} (omega arith) x.lowest y.lowest
+  q-one = den-one {p = nat_abs t} {q = second_ticks} (omega arith) x.lowest y.lowest
 
   p-one : p ≡ p'
   p-one =
-      mul-cancel p p' secondTicks (omega arith) (x.exact ∙ ap (λ (k : ℕ). t *ℤ pos k) q-one ∙ sym y.exact)
+      mul-cancel p p' second_ticks (omega arith) (x.exact ∙ ap (λ (k : ℕ). t *ℤ pos k) q-one ∙ sym y.exact)
 
-isSeconds-one : (t : ℤ) (x y : Timed) → IsSeconds t x → IsSeconds t y → x ≡ y
-isSeconds-one t (Seconds p q) (Seconds p' q') h k = ap₂ Seconds (p-one h k) (q-one h k)
-isSeconds-one t (Seconds p q) (Refused e) h k = absurd k
-isSeconds-one t (Refused e) y h k = absurd h
+is_seconds-one : (t : ℤ) (x y : Timed) → IsSeconds t x → IsSeconds t y → x ≡ y
+is_seconds-one t (Seconds p q) (Seconds p' q') h k = ap₂ Seconds (p-one h k) (q-one h k)
+is_seconds-one t (Seconds p q) (Refused e) h k = absurd k
+is_seconds-one t (Refused e) y h k = absurd h
 
 pub seconds-one : (tc : Timecode) (x y : Timed) → SecondsOf tc x → SecondsOf tc y → x ≡ y
 seconds-one tc x y h k = by (judged (admits tc)) refl
   where
     by : (v : Verdict) → judged (admits tc) ≡ v → x ≡ y
-    by verdict.Passed e = isSeconds-one (instant tc) x y (h.seconds e) (k.seconds e)
+    by verdict.Passed e = is_seconds-one (instant tc) x y (h.seconds e) (k.seconds e)
     by (verdict.Refused r) e = h.refused r e ∙ sym (k.refused r e)

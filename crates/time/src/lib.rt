@@ -1,10 +1,12 @@
 // Timecodes of either kind from counts, ticks and seconds, at the nearest frame; ticks and seconds of a timecode of either kind, exactly.
 // Refuses 6: no such rate; then 5: what is handed in, or then the resulting count, is out of bounds; a position is reduced after that.
+#![tactic(auto)]
+
 ghost use Rattle.std.specs.Prelude.{◌≡◌, ◌^◌, ◌<◌, nat_abs};
 ghost use Rattle.timecodes.specs.Made.{settled};
-ghost use Rattle.time.specs.Bounds.{isFraction};
-ghost use Rattle.time.specs.Frames.{framesAt, ticksAt, secondsAt};
-ghost use Rattle.time.specs.Ticks.{ticksOf};
+ghost use Rattle.time.specs.Bounds.{is_fraction};
+ghost use Rattle.time.specs.Frames.{frames_at, ticks_at, seconds_at};
+ghost use Rattle.time.specs.Ticks.{ticks_of};
 ghost use Rattle.time.specs.Seconds.{IsSeconds, SecondsOf};
 
 use answers::{Refusal, Verdict};
@@ -32,7 +34,7 @@ const MOST_DENOMINATOR: u64 = 1_000_000;
 
 // Whether p/q is within the bounds of a fraction: |p| at most `most`, q from 1 to 1,000,000.
 pub fn is_fraction(most: u64, p: i64, q: u64) -> bool
-    ensures answer { result ≡ isFraction most p q }
+    ensures { result ≡ is_fraction most p q }
 {
     if numbers::magnitude(p) > most {
         return false;
@@ -49,7 +51,7 @@ pub fn is_fraction(most: u64, p: i64, q: u64) -> bool
 // A count at a rate, as a timecode of a kind (vtc's `with_frames`). Refuses 6: no such rate; 5: the count is out of a length's bounds, for
 // either kind.
 pub fn with_frames(count: i64, rate: u64, kind: Kind) -> Answer
-    ensures answer { result ≡ settled kind (framesAt count rate) }
+    ensures { result ≡ settled kind (frames_at count rate) }
 {
     match timecodes::admit(timecodes::new(count, rate, Kind::Length)) {
         Verdict::Passed => Answer::At(timecodes::made(count, rate, kind)),
@@ -60,7 +62,7 @@ pub fn with_frames(count: i64, rate: u64, kind: Kind) -> Answer
 // The frame nearest to a number of ticks, as a timecode of a kind (vtc's `with_premiere_ticks`). Refuses 6: no such rate; 5: the resulting
 // count is out of a length's bounds.
 pub fn with_premiere_ticks(ticks: i64, rate: u64, kind: Kind) -> Answer
-    ensures answer { result ≡ settled kind (ticksAt ticks rate) }
+    ensures { result ≡ settled kind (ticks_at ticks rate) }
 {
     if !rates::is_rate(rate) {
         return Answer::Refused(answers::NO_SUCH);
@@ -75,7 +77,7 @@ pub fn with_premiere_ticks(ticks: i64, rate: u64, kind: Kind) -> Answer
 // The frame nearest to p/q seconds, as a timecode of a kind (vtc's `with_seconds`). Refuses 6: no such rate; 5: p or q is out of bounds, or
 // then the resulting count out of a length's.
 pub fn with_seconds(p: i64, q: u64, rate: u64, kind: Kind) -> Answer
-    ensures answer { result ≡ settled kind (secondsAt p q rate) }
+    ensures { result ≡ settled kind (seconds_at p q rate) }
 {
     if !rates::is_rate(rate) {
         return Answer::Refused(answers::NO_SUCH);
@@ -93,7 +95,7 @@ pub fn with_seconds(p: i64, q: u64, rate: u64, kind: Kind) -> Answer
 
 // The ticks of a timecode, exactly (vtc's `premiere_ticks`). Refuses 6: no such rate; 5: the count is out of bounds.
 pub fn premiere_ticks(tc: Timecode) -> Ticked
-    ensures answer { result ≡ ticksOf tc }
+    ensures { result ≡ ticks_of tc }
 {
     match timecodes::admit(tc) {
         Verdict::Passed => Ticked::Ticks(timecodes::instant_of(tc)),
@@ -103,7 +105,7 @@ pub fn premiere_ticks(tc: Timecode) -> Ticked
 
 // The seconds of a timecode, exactly, in lowest terms (vtc's `seconds`). Refuses 6: no such rate; 5: the count is out of bounds.
 pub fn seconds(tc: Timecode) -> Timed
-    ensures answer { SecondsOf tc result }
+    ensures { SecondsOf tc result }
 {
     match timecodes::admit(tc) {
         Verdict::Passed => in_seconds(timecodes::instant_of(tc)),
@@ -113,8 +115,8 @@ pub fn seconds(tc: Timecode) -> Timed
 
 // A number of ticks in seconds, in lowest terms. Asks that it is no more than an instant.
 fn in_seconds(ticks: i64) -> Timed
-    requires instant { nat_abs ticks < 2 ^ 63 }
-    ensures answer { IsSeconds ticks result }
+    requires { nat_abs ticks < 2 ^ 63 }
+    ensures { IsSeconds ticks result }
 {
     let f = numbers::lowest(numbers::magnitude(ticks), rates::SECOND_TICKS);
     Timed::Seconds {

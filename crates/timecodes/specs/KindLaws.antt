@@ -8,9 +8,9 @@ use Rattle.answers.specs.declared.Verdict.{Verdict}
 use Rattle.answers.specs.declared.Verdict.TheVariants as verdict
 use Rattle.answers.specs.Order.{Condition, when, unless, first, judged, Clear}
 use Rattle.answers.specs.OrderLaws.{unless-map, unless-told, unless-number}
-use Rattle.answers.specs.Refusals.{outOfBounds, wrongKind}
-use Rattle.rates.specs.Rates.{isRate}
-use Rattle.rates.specs.Rates.{isRate}
+use Rattle.answers.specs.Refusals.{out_of_bounds, wrong_kind}
+use Rattle.rates.specs.Rates.{is_rate}
+use Rattle.rates.specs.Rates.{is_rate}
 use Rattle.timecodes.specs.declared.Timecode.{Timecode}
 use Rattle.timecodes.specs.declared.Admitted.{Admitted}
 use Rattle.timecodes.specs.declared.Admitted.TheVariants.{As, Refused}
@@ -19,45 +19,45 @@ use Rattle.timecodes.specs.declared.kinds.Kind.TheVariants.{Length, Position}
 use Rattle.timecodes.specs.declared.kinds.Joining.{Joining}
 use Rattle.timecodes.specs.declared.kinds.Mixed.{Mixed}
 use Rattle.timecodes.specs.declared.kinds.Mixed.TheVariants.{Of, Never}
-use Rattle.timecodes.specs.Kinds.{isPosition, mixedKinds, isNever, kindIn}
-use Rattle.timecodes.specs.Timecode.{timecodeAs, position}
+use Rattle.timecodes.specs.Kinds.{is_position, mixed_kinds, is_never, kind_in}
+use Rattle.timecodes.specs.Timecode.{timecode_as, position}
 use Rattle.timecodes.specs.Made.{made}
-use Rattle.timecodes.specs.Admitted.{isWithin, admitsBoth, joinedKind}
-use Rattle.timecodes.specs.AdmittedLaws.{ofDay-told}
-use Rattle.timecodes.specs.MadeLaws.{inDay-own}
+use Rattle.timecodes.specs.Admitted.{is_within, admits_both, joined_kind}
+use Rattle.timecodes.specs.AdmittedLaws.{of_day-told}
+use Rattle.timecodes.specs.MadeLaws.{in_day-own}
 
 -- ---- the kinds
 
-pub position-told : (kind : Kind) → isPosition kind ≡ true → kind ≡ Position
+pub position-told : (kind : Kind) → is_position kind ≡ true → kind ≡ Position
 position-told Length e = absurd (subst T (sym e) tt)
 position-told Position e = refl
 
 -- what is mixed is of some kind
-pub mixed-told : (m : Mixed) → isNever m ≡ false → m ≡ Of (kindIn m)
+pub mixed-told : (m : Mixed) → is_never m ≡ false → m ≡ Of (kind_in m)
 mixed-told (Of kind) e = refl
 mixed-told Never e = absurd (subst T e tt)
 
 -- ---- a timecode as its own kind
 
 -- made of its own kind, a count within its bounds is its own: a position's is of the day
-pub made-own : (kind : Kind) (count : ℤ) (rate : ℕ) → isRate rate ≡ true → isWithin kind rate count ≡ true
-    → made kind count rate ≡ timecodeAs kind count rate
+pub made-own : (kind : Kind) (count : ℤ) (rate : ℕ) → is_rate rate ≡ true → is_within kind rate count ≡ true
+    → made kind count rate ≡ timecode_as kind count rate
 made-own Length count rate h w = refl
-made-own Position (pos n) rate h w = ap (λ (z : ℤ). position z rate) (inDay-own rate h n (ofDay-told rate (pos n) w).1)
-made-own Position (negsuc n) rate h w = absurd (subst T (ofDay-told rate (negsuc n) w).0 tt)
+made-own Position (pos n) rate h w = ap (λ (z : ℤ). position z rate) (in_day-own rate h n (of_day-told rate (pos n) w).1)
+made-own Position (negsuc n) rate h w = absurd (subst T (of_day-told rate (negsuc n) w).0 tt)
 
 -- ---- what admitting two tells
 
-abbrev verdictOf : Admitted → Verdict
-verdictOf (As kind) = verdict.Passed
-verdictOf (Refused e) = verdict.Refused e
+abbrev verdict_of : Admitted → Verdict
+verdict_of (As kind) = verdict.Passed
+verdict_of (Refused e) = verdict.Refused e
 
 module _ (joining : Joining) (a b : Timecode) where
   -- two that are taken are clear of every condition, and the kind is theirs
-  pub admitted-told : (kind : Kind) → unless Refused (admitsBoth joining a b) (As (joinedKind joining a b)) ≡ As kind
-      → Clear (admitsBoth joining a b) × (joinedKind joining a b ≡ kind)
+  pub admitted-told : (kind : Kind) → unless Refused (admits_both joining a b) (As (joined_kind joining a b)) ≡ As kind
+      → Clear (admits_both joining a b) × (joined_kind joining a b ≡ kind)
   admitted-told kind h =
-      let told = unless-told Refused (admitsBoth joining a b) (As (joinedKind joining a b)) (As kind) apart h in
+      let told = unless-told Refused (admits_both joining a b) (As (joined_kind joining a b)) (As kind) apart h in
       let same = told.1 in
       (told.0, cc)
     where
@@ -65,16 +65,16 @@ module _ (joining : Joining) (a b : Timecode) where
       apart e k = let clash : ◌≡◌ {A = ℕ} 0 1 = cc in omega arith
 
   -- and two that are not are refused by their conditions
-  pub admitted-refused : (e : Refusal) → unless Refused (admitsBoth joining a b) (As (joinedKind joining a b)) ≡ Refused e
-      → judged (admitsBoth joining a b) ≡ verdict.Refused e
+  pub admitted-refused : (e : Refusal) → unless Refused (admits_both joining a b) (As (joined_kind joining a b)) ≡ Refused e
+      → judged (admits_both joining a b) ≡ verdict.Refused e
   admitted-refused e h =
-      sym (unless-map verdictOf Refused verdict.Refused (λ r. refl) (admitsBoth joining a b) (As (joinedKind joining a b))) ∙ ap verdictOf h
+      sym (unless-map verdict_of Refused verdict.Refused (λ r. refl) (admits_both joining a b) (As (joined_kind joining a b))) ∙ ap verdict_of h
 
   -- at two rates, mixed, the bounds decide: the left one's first
-  pub both-within : (kind : Kind) → isRate a.rate ≡ true → isRate b.rate ≡ true → mixedKinds joining a.kind b.kind ≡ Of kind
-      → (s t : Bool) → isWithin a.kind a.rate a.count ≡ s → isWithin b.kind b.rate b.count ≡ t
-      → unless Refused (admitsBoth joining a b) (As (joinedKind joining a b))
-      ≡ cond (not s) (Refused outOfBounds) (cond (not t) (Refused outOfBounds) (As kind))
+  pub both-within : (kind : Kind) → is_rate a.rate ≡ true → is_rate b.rate ≡ true → mixed_kinds joining a.kind b.kind ≡ Of kind
+      → (s t : Bool) → is_within a.kind a.rate a.count ≡ s → is_within b.kind b.rate b.count ≡ t
+      → unless Refused (admits_both joining a b) (As (joined_kind joining a b))
+      ≡ cond (not s) (Refused out_of_bounds) (cond (not t) (Refused out_of_bounds) (As kind))
   both-within kind r q m s t e f = simp (r, q, m, e, f)
 
 -- ---- when 15 is given
@@ -106,7 +106,7 @@ front-exactly (c ∷ rest) back h =
     by true l later = (λ e. absurd (omega (arith, l, e)), λ x. absurd (subst T x.0.0 tt))
     by false l later = (λ e. let r = later.0 e in ((refl, r.0), r.1), λ x. later.1 (x.0.1, x.1))
 
-fifteen : (barred : Bool) (back : List Condition) → below15 back ≡ true → (first (when wrongKind barred ∷ back) ≡ 15) ↔ (barred ≡ true)
+fifteen : (barred : Bool) (back : List Condition) → below15 back ≡ true → (first (when wrong_kind barred ∷ back) ≡ 15) ↔ (barred ≡ true)
 fifteen true back h = (λ e. refl, λ e. refl)
 fifteen false back h = (λ e. absurd (omega (arith, first_below back h)), λ e. absurd (subst T (sym e) tt))
 
@@ -114,17 +114,17 @@ fifteen false back h = (λ e. absurd (omega (arith, first_below back h)), λ e. 
 module _ {A : Type 0} (number_of : A → ℕ) (refused : Refusal → A) (told : (e : Refusal) → number_of (refused e) ≡ e.number)
     (front back : List Condition) (smaller : below15 front ≡ true) (below : below15 back ≡ true) (answer : A) (none : number_of answer ≡ 0) where
   pub barred-exactly : (barred : Bool)
-      → (number_of (unless refused (front ++ (when wrongKind barred ∷ back)) answer) ≡ 15) ↔ (Clear front × (barred ≡ true))
+      → (number_of (unless refused (front ++ (when wrong_kind barred ∷ back)) answer) ≡ 15) ↔ (Clear front × (barred ≡ true))
   barred-exactly barred =
-      let conditions = front ++ (when wrongKind barred ∷ back) in
+      let conditions = front ++ (when wrong_kind barred ∷ back) in
       let given = unless-number number_of refused told conditions answer none in
-      let exactly = front-exactly front (when wrongKind barred ∷ back) smaller in
+      let exactly = front-exactly front (when wrong_kind barred ∷ back) smaller in
       let one = fifteen barred back below in
       (λ e. let x = exactly.0 (sym given ∙ e) in (x.0, one.0 x.1), λ h. given ∙ exactly.1 (h.0, one.1 h.1))
 
   -- where only lengths are taken, exactly when it is a position
   pub position-exactly : (kind : Kind)
-      → (number_of (unless refused (front ++ (when wrongKind (isPosition kind) ∷ back)) answer) ≡ 15) ↔ (Clear front × (kind ≡ Position))
+      → (number_of (unless refused (front ++ (when wrong_kind (is_position kind) ∷ back)) answer) ≡ 15) ↔ (Clear front × (kind ≡ Position))
   position-exactly kind =
-      let exactly = barred-exactly (isPosition kind) in
-      (λ e. let x = exactly.0 e in (x.0, position-told kind x.1), λ h. exactly.1 (h.0, ap isPosition h.1))
+      let exactly = barred-exactly (is_position kind) in
+      (λ e. let x = exactly.0 e in (x.0, position-told kind x.1), λ h. exactly.1 (h.0, ap is_position h.1))

@@ -10,19 +10,19 @@ use Rattle.timecodes.specs.declared.kinds.Kind.{Kind}
 use Rattle.timecodes.specs.declared.kinds.Kind.TheVariants.{Length, Position}
 
 -- a timecode is a count, a rate and a kind
-abbrev pub timecodeAs : Kind → (count : ℤ) (rate : ℕ) → Timecode
-timecodeAs kind count rate = record { count = count; rate = rate; kind = kind }
+abbrev pub timecode_as : Kind → (count : ℤ) (rate : ℕ) → Timecode
+timecode_as kind count rate = record { count = count; rate = rate; kind = kind }
 
 -- a length, and a position
 abbrev pub timecode : (count : ℤ) (rate : ℕ) → Timecode
-timecode count rate = timecodeAs Length count rate
+timecode count rate = timecode_as Length count rate
 
 abbrev pub position : (count : ℤ) (rate : ℕ) → Timecode
-position count rate = timecodeAs Position count rate
+position count rate = timecode_as Position count rate
 
 -- the timecode with another count and rate: whatever else it has is kept
 abbrev pub moved : Timecode → (count : ℤ) (rate : ℕ) → Timecode
-moved tc count rate = timecodeAs tc.kind count rate
+moved tc count rate = timecode_as tc.kind count rate
 
 -- the timecode with another count
 abbrev pub recounted : Timecode → (count : ℤ) → Timecode
@@ -42,6 +42,6 @@ abbrev pub number_of : Answer → ℕ
 number_of (At tc) = 0
 number_of (Refused e) = e.number
 
-abbrev pub timecodeOf : Answer → Timecode
-timecodeOf (At tc) = tc
-timecodeOf (Refused e) = timecode (pos 0) 0
+abbrev pub timecode_of : Answer → Timecode
+timecode_of (At tc) = tc
+timecode_of (Refused e) = timecode (pos 0) 0

@@ -1,6 +1,6 @@
 // Whether a timecode is a length or a position, and what two of them come to by kind.
 ghost use Rattle.std.specs.Prelude.{◌≡◌};
-ghost use Rattle.timecodes.specs.Kinds.{kindFrom, isPosition, mixedKinds};
+ghost use Rattle.timecodes.specs.Kinds.{kind_from, is_position, mixed_kinds};
 
 // A length, or a position: a time of day.
 #[derive(Drop)]
@@ -27,7 +27,7 @@ pub enum Mixed {
 impl Kind {
     // A position, or else a length.
     pub fn from(position: bool) -> Kind
-        ensures answer { result ≡ kindFrom position }
+        ensures { result ≡ kind_from position }
     {
         if position {
             Kind::Position
@@ -38,7 +38,7 @@ impl Kind {
 
     // Whether it is that of a position.
     pub fn is_position(self) -> bool
-        ensures answer { result ≡ isPosition self }
+        ensures { result ≡ is_position self }
     {
         match self {
             Kind::Length => false,
@@ -49,7 +49,7 @@ impl Kind {
 
 // What two timecodes come to: the one place that decides whether their kinds are taken.
 pub(crate) fn mix(joining: Joining, a: Kind, b: Kind) -> Mixed
-    ensures answer { result ≡ mixedKinds joining a b }
+    ensures { result ≡ mixed_kinds joining a b }
 {
     match joining {
         Joining::Sum => sum(a, b),
@@ -60,7 +60,7 @@ pub(crate) fn mix(joining: Joining, a: Kind, b: Kind) -> Mixed
 
 // A length adds to what the other is; two positions are not added.
 fn sum(a: Kind, b: Kind) -> Mixed
-    ensures answer { result ≡ mixedKinds Joining.Sum a b }
+    ensures { result ≡ mixed_kinds Joining.Sum a b }
 {
     if !a.is_position() {
         return Mixed::Of(b);
@@ -73,7 +73,7 @@ fn sum(a: Kind, b: Kind) -> Mixed
 
 // A length taken away leaves what the other is; two positions are a length apart.
 fn difference(a: Kind, b: Kind) -> Mixed
-    ensures answer { result ≡ mixedKinds Joining.Difference a b }
+    ensures { result ≡ mixed_kinds Joining.Difference a b }
 {
     if !b.is_position() {
         return Mixed::Of(a);
@@ -86,7 +86,7 @@ fn difference(a: Kind, b: Kind) -> Mixed
 
 // Two of one kind compare.
 fn comparison(a: Kind, b: Kind) -> Mixed
-    ensures answer { result ≡ mixedKinds Joining.Comparison a b }
+    ensures { result ≡ mixed_kinds Joining.Comparison a b }
 {
     if a.is_position() == b.is_position() {
         return Mixed::Of(a);

@@ -1,13 +1,15 @@
 // The timecode: a count, a rate, and whether it is a length or a position; when an operation admits one or two of them, how one is made,
 // its instant in ticks, and the answer that is a timecode.
 // Refuses 6: no such rate; then 15: a position where it may not be; then 5: a count outside its bounds.
+#![tactic(auto)]
+
 ghost use Rattle.std.specs.Prelude.{◌≡◌, ◌&&◌};
 ghost use Rattle.answers.specs.Order.{judged, unless};
-ghost use Rattle.timecodes.specs.Kinds.{isPosition};
-ghost use Rattle.timecodes.specs.Timecode.{timecodeAs, placed, moved_to, number_of, timecodeOf};
-ghost use Rattle.timecodes.specs.Admitted.{isOfDay, isWithin, admits, admitsLength, admitsOnly, admitsBoth, joinedKind};
-ghost use Rattle.timecodes.specs.Made.{inDay, made, settled};
-ghost use Rattle.timecodes.specs.Instant.{instantIn};
+ghost use Rattle.timecodes.specs.Kinds.{is_position};
+ghost use Rattle.timecodes.specs.Timecode.{timecode_as, placed, moved_to, number_of, timecode_of};
+ghost use Rattle.timecodes.specs.Admitted.{is_of_day, is_within, admits, admits_length, admits_only, admits_both, joined_kind};
+ghost use Rattle.timecodes.specs.Made.{in_day, made, settled};
+ghost use Rattle.timecodes.specs.Instant.{instant_in};
 
 use answers::{Counted, Refusal, Verdict};
 
@@ -41,14 +43,14 @@ pub enum Admitted {
 
 // A timecode of a count, a rate and a kind, whatever they are.
 pub fn new(count: i64, rate: u64, kind: Kind) -> Timecode
-    ensures answer { result ≡ timecodeAs kind count rate }
+    ensures { result ≡ timecode_as kind count rate }
 {
     Timecode { count, rate, kind }
 }
 
 // Whether a count lies from 0 up to a rate's day, which is not included.
 fn is_of_day(count: i64, rate: u64) -> bool
-    ensures answer { result ≡ isOfDay rate count }
+    ensures { result ≡ is_of_day rate count }
 {
     if numbers::below_zero(count) {
         return false;
@@ -58,7 +60,7 @@ fn is_of_day(count: i64, rate: u64) -> bool
 
 // Whether a timecode's count is within the bounds of its kind.
 fn is_within(tc: Timecode) -> bool
-    ensures answer { result ≡ isWithin tc.kind tc.rate tc.count }
+    ensures { result ≡ is_within tc.kind tc.rate tc.count }
 {
     let kind = tc.kind;
     if kind.is_position() {
@@ -69,7 +71,7 @@ fn is_within(tc: Timecode) -> bool
 
 // Whether a timecode of this kind is barred, where only lengths are taken or both kinds.
 fn is_barred(kind: Kind, lengths: bool) -> bool
-    ensures answer { result ≡ lengths && isPosition kind }
+    ensures { result ≡ lengths && is_position kind }
 {
     if lengths {
         return kind.is_position();
@@ -79,7 +81,7 @@ fn is_barred(kind: Kind, lengths: bool) -> bool
 
 // Whether an operation takes a timecode, only lengths or both kinds: the one place that decides whether its kind is taken.
 fn judge(tc: Timecode, lengths: bool) -> Verdict
-    ensures answer { result ≡ judged (admitsOnly lengths tc) }
+    ensures { result ≡ judged (admits_only lengths tc) }
 {
     if !rates::is_rate(tc.rate) {
         return Verdict::Refused(answers::NO_SUCH);
@@ -96,14 +98,14 @@ fn judge(tc: Timecode, lengths: bool) -> Verdict
 
 // Whether an operation takes a timecode of either kind. Refuses 6: no such rate; 5: the count is out of bounds.
 pub fn admit(tc: Timecode) -> Verdict
-    ensures answer { result ≡ judged (admits tc) }
+    ensures { result ≡ judged (admits tc) }
 {
     judge(tc, false)
 }
 
 // Whether an operation for lengths only takes a timecode. Refuses 6: no such rate; 15: it is a position; 5: the count is out of bounds.
 pub fn admit_length(tc: Timecode) -> Verdict
-    ensures answer { result ≡ judged (admitsLength tc) }
+    ensures { result ≡ judged (admits_length tc) }
 {
     judge(tc, true)
 }
@@ -111,7 +113,7 @@ pub fn admit_length(tc: Timecode) -> Verdict
 // Whether two timecodes may be joined, and of which kind that is. Refuses 6: either rate is none; 15: a position and what it is not mixed
 // with; 5: either count is out of bounds.
 pub fn admit_both(a: Timecode, b: Timecode, joining: Joining) -> Admitted
-    ensures answer { result ≡ unless Admitted.Refused (admitsBoth joining a b) (Admitted.As (joinedKind joining a b)) }
+    ensures { result ≡ unless Admitted.Refused (admits_both joining a b) (Admitted.As (joined_kind joining a b)) }
 {
     if !rates::is_rate(a.rate) {
         return Admitted::Refused(answers::NO_SUCH);
@@ -136,7 +138,7 @@ pub fn admit_both(a: Timecode, b: Timecode, joining: Joining) -> Admitted
 
 // A new length with this count, at a rate; or why there is no count.
 pub fn placed(counted: Counted, rate: u64) -> Answer
-    ensures answer { result ≡ placed rate counted }
+    ensures { result ≡ placed rate counted }
 {
     match counted {
         Counted::Count(count) => Answer::At(Timecode {
@@ -150,7 +152,7 @@ pub fn placed(counted: Counted, rate: u64) -> Answer
 
 // The timecode with another count, at another rate, all else kept; or why there is no count.
 pub fn moved(tc: Timecode, counted: Counted, rate: u64) -> Answer
-    ensures answer { result ≡ moved_to tc rate counted }
+    ensures { result ≡ moved_to tc rate counted }
 {
     let kind = tc.kind;
     match counted {
@@ -161,14 +163,14 @@ pub fn moved(tc: Timecode, counted: Counted, rate: u64) -> Answer
 
 // The count of the position that a count comes to: reduced by whole days of a rate, negative ones too.
 fn in_day(count: i64, rate: u64) -> i64
-    ensures answer { result ≡ inDay rate count }
+    ensures { result ≡ in_day rate count }
 {
     numbers::with_sign(false, numbers::reduced(count, rates::day(rate)))
 }
 
 // A timecode of a kind made of a count: a length is that count, a position is reduced by whole days.
 pub fn made(count: i64, rate: u64, kind: Kind) -> Timecode
-    ensures answer { result ≡ made kind count rate }
+    ensures { result ≡ made kind count rate }
 {
     if kind.is_position() {
         return Timecode {
@@ -182,7 +184,7 @@ pub fn made(count: i64, rate: u64, kind: Kind) -> Timecode
 
 // What was made as a length, made a timecode of a kind.
 pub fn settled(a: Answer, kind: Kind) -> Answer
-    ensures answer { result ≡ settled kind a }
+    ensures { result ≡ settled kind a }
 {
     match a {
         Answer::At(tc) => Answer::At(made(tc.count, tc.rate, kind)),
@@ -192,7 +194,7 @@ pub fn settled(a: Answer, kind: Kind) -> Answer
 
 // The instant of a timecode in ticks: count times the ticks of a frame, of any timecode that is admitted; 0 where it passes 64 bits.
 pub fn instant_of(tc: Timecode) -> i64
-    ensures answer { result ≡ instantIn tc }
+    ensures { result ≡ instant_in tc }
 {
     let count = tc.count;
     let row = rates::row(tc.rate);
@@ -201,7 +203,7 @@ pub fn instant_of(tc: Timecode) -> i64
 
 // The number of an answer; 0: not refused.
 pub fn number(a: Answer) -> u8
-    ensures answer { result ≡ number_of a }
+    ensures { result ≡ number_of a }
 {
     match a {
         Answer::At(_) => 0,
@@ -211,7 +213,7 @@ pub fn number(a: Answer) -> u8
 
 // The timecode of an answer; a refusal's numbers are 0.
 pub fn timecode_of(a: Answer) -> Timecode
-    ensures answer { result ≡ timecodeOf a }
+    ensures { result ≡ timecode_of a }
 {
     match a {
         Answer::At(tc) => tc,

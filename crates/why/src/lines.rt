@@ -1,6 +1,6 @@
 // The lines of standard input, each a question, or each a text that is read in one way.
 ghost use Rattle.std.specs.Prelude.{◌≡◌};
-ghost use Rattle.streams.specs.Turns.{waitingBehind};
+ghost use Rattle.streams.specs.Turns.{waiting_behind};
 
 use crate::sheet;
 use streams::{Gathered, Step};
@@ -43,8 +43,8 @@ fn feed(
     out: &mut [u8],
     first: Gathered,
 ) -> Gathered
-    ensures gathered { result ≡ (waitingBehind buffer.old first chunk.now).gathered }
-    ensures buffer { buffer.new ≡ (waitingBehind buffer.old first chunk.now).buffer }
+    ensures gathered { result ≡ (waiting_behind buffer.old first chunk.now).gathered }
+    ensures buffer { buffer.new ≡ (waiting_behind buffer.old first chunk.now).buffer }
 {
     let mut g = first;
     let mut used = 0;

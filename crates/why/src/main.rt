@@ -1,5 +1,7 @@
 // Tells a desk why a text was turned down (docs/WHY.md): of a question in the arguments, or of each line of standard input.
 // What a question is and what is told is telling's; here are the arguments, the buffers, the reads and the writes.
+#![tactic(auto)]
+
 use telling::{Question, Way, Words};
 
 mod lines;

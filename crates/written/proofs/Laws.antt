@@ -6,30 +6,30 @@ use mathlib.Core.Bool.{Bool, true, false}
 use mathlib.Core.List.{List}
 use lib.ListN.{length}
 use borrow.Rule.Slice.PartMut.{put_mid, mid_of}
-use Rattle.lent.specs.Line.{laid, splice, hasRoom}
+use Rattle.lent.specs.Line.{laid, splice, has_room}
 use Rattle.lent.proofs.Laws.{fits-yes, fits-no, fits-true, fits-false, line-laid, line-lent, line_kept}
 use Rattle.answers.specs.declared.Refusal.{Refusal}
 use Rattle.answers.specs.declared.Verdict.TheVariants as verdict
 use Rattle.answers.specs.Order.{Condition, unless, judged}
 use Rattle.answers.specs.OrderLaws.{judged-refused, judged-clear, unless-clear}
-use Rattle.answers.specs.Refusals.{noRoom}
+use Rattle.answers.specs.Refusals.{no_room}
 use Rattle.written.specs.declared.Written.{Written}
 use Rattle.written.specs.declared.Written.TheVariants.{Length, Refused}
-use Rattle.written.specs.Written.{Draft, Text, NoText, answerTo, lineTo}
+use Rattle.written.specs.Written.{Draft, Text, NoText, answer_to, line_to}
 
 -- what a writer shows at a return: its answer and its line are those of the draft
 abbrev pub Meets : (line : List ℕ) (place : ℕ) → Draft → Written → List ℕ → Type 0
-Meets line place draft answer last = (answer ≡ answerTo line place draft) × (last ≡ lineTo line place draft)
+Meets line place draft answer last = (answer ≡ answer_to line place draft) × (last ≡ line_to line place draft)
 
 module _ (line : List ℕ) (place : ℕ) (draft : Draft) where
   -- what meets a draft meets the same draft by another name
   pub meets-same : (other : Draft) (answer : Written) (last : List ℕ) → other ≡ draft → Meets line place other answer last → Meets line place draft answer last
-  meets-same other answer last e m = (m.0 ∙ ap (answerTo line place) e, m.1 ∙ ap (lineTo line place) e)
+  meets-same other answer last e m = (m.0 ∙ ap (answer_to line place) e, m.1 ∙ ap (line_to line place) e)
 
   -- there is no text: nothing was lent
   pub meets-none : (e : Refusal) → NoText e ≡ draft → Meets line place draft (Refused e) line
-  unfolding answerTo lineTo
-  meets-none e d = (ap (answerTo line place) d, ap (lineTo line place) d)
+  unfolding answer_to line_to
+  meets-none e d = (ap (answer_to line place) d, ap (line_to line place) d)
 
 -- ---- behind conditions
 module _ (line : List ℕ) (place : ℕ) (conditions : List Condition) (text : List ℕ) where
@@ -47,10 +47,10 @@ module _ (line : List ℕ) (place : ℕ) (conditions : List Condition) (text : L
       meets-same line place behind (Text text) answer last (sym (unless-clear NoText conditions (Text text) (judged-clear conditions h))) m
 
 -- ---- a text of `need` bytes, for which r is what `room` answered
-module _ (line : List ℕ) (place : ℕ) (text : List ℕ) (need : ℕ) (r : Bool) (long : need ≡ length text) (told : r ≡ hasRoom (length line) place need) where
+module _ (line : List ℕ) (place : ℕ) (text : List ℕ) (need : ℕ) (r : Bool) (long : need ≡ length text) (told : r ≡ has_room (length line) place need) where
   -- no room: nothing was lent
-  pub meets-out : r ≡ false → Meets line place (Text text) (Refused noRoom) line
-  unfolding answerTo lineTo
+  pub meets-out : r ≡ false → Meets line place (Text text) (Refused no_room) line
+  unfolding answer_to line_to
   meets-out e =
       let h = fits-no line place text need r long told e in
       (rw (fits-false line place text h), sym (line_kept line place text h))
@@ -58,13 +58,13 @@ module _ (line : List ℕ) (place : ℕ) (text : List ℕ) (need : ℕ) (r : Boo
   -- room: the line was lent from the place on, and came back as `last` with the text laid down at its front
   pub meets-in : (last : List ℕ) → r ≡ true → last ≡ laid (mid_of place (length line - place) line) text
       → Meets line place (Text text) (Length need) (put_mid place (length line - place) line last)
-  unfolding answerTo lineTo
+  unfolding answer_to line_to
   meets-in last e l =
       let h = fits-yes line place text need r long told e in
       (rw (fits-true line place text h) (ap Length long), line-lent line place text last h l)
 
 -- where a text has room, the answer is its length, and it stands in the line
 pub text-written : (line : List ℕ) (place : ℕ) (text : List ℕ) → place + length text ≤ length line
-    → (answerTo line place (Text text) ≡ Length (length text)) × (lineTo line place (Text text) ≡ splice line place text)
-unfolding answerTo lineTo
+    → (answer_to line place (Text text) ≡ Length (length text)) × (line_to line place (Text text) ≡ splice line place text)
+unfolding answer_to line_to
 text-written line place text h = (rw (fits-true line place text h), line-laid line place text h)

@@ -4,18 +4,18 @@ use Rattle.std.specs.Prelude.{ℕ, List, [], ◌∷◌, ◌++◌, Bool, true, fa
 use Rattle.digits.specs.Digits.{decimal}
 
 -- `-` in front if the count is below 0
-abbrev pub signText : Bool → List ℕ
-signText true = 45 ∷ []
-signText false = []
+abbrev pub sign_text : Bool → List ℕ
+sign_text true = 45 ∷ []
+sign_text false = []
 
 -- a number in k digits at least, behind its sign
-abbrev pub paddedText : (minus : Bool) (k m : ℕ) → List ℕ
-paddedText minus k m = signText minus ++ decimal k m
+abbrev pub padded_text : (minus : Bool) (k m : ℕ) → List ℕ
+padded_text minus k m = sign_text minus ++ decimal k m
 
 -- a number by sign and magnitude, unpadded
-abbrev pub signedText : (minus : Bool) (m : ℕ) → List ℕ
-signedText minus m = paddedText minus 1 m
+abbrev pub signed_text : (minus : Bool) (m : ℕ) → List ℕ
+signed_text minus m = padded_text minus 1 m
 
 -- a field: two digits at least, behind a mark
-abbrev pub fieldText : (mark n : ℕ) → List ℕ
-fieldText mark n = mark ∷ decimal 2 n
+abbrev pub field_text : (mark n : ℕ) → List ℕ
+field_text mark n = mark ∷ decimal 2 n

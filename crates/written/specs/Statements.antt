@@ -4,41 +4,41 @@ use Rattle.std.specs.Prelude.{ℕ, ◌+◌, ◌<◌, ◌≡◌, ◌↔◌, List,
 use Rattle.lent.specs.Line.{splice}
 use Rattle.answers.specs.declared.Refusal.{Refusal}
 use Rattle.answers.specs.Order.{Condition, unless, first}
-use Rattle.answers.specs.Refusals.{noRoom}
+use Rattle.answers.specs.Refusals.{no_room}
 use Rattle.written.specs.declared.Written.TheVariants.{Length, Refused}
-use Rattle.written.specs.Written.{Draft, Text, NoText, writtenWhen, answerTo, lineTo, number_of}
+use Rattle.written.specs.Written.{Draft, Text, NoText, written_when, answer_to, line_to, number_of}
 
 -- whichever the refusal, no lent byte changes
 abbrev pub RefusedKeeps : Type 0
 RefusedKeeps =
-    (line : List ℕ) (place : ℕ) (draft : Draft) (e : Refusal) → answerTo line place draft ≡ Refused e → lineTo line place draft ≡ line
+    (line : List ℕ) (place : ℕ) (draft : Draft) (e : Refusal) → answer_to line place draft ≡ Refused e → line_to line place draft ≡ line
 
 -- the text that is drafted has n bytes, and stands in the line from its place on
 pub record Stands (line : List ℕ) (place : ℕ) (draft : Draft) (n : ℕ) : Type 0 where
   pub text : List ℕ
   pub drafted : draft ≡ Text text
   pub long : n ≡ length text
-  pub there : lineTo line place draft ≡ splice line place text
+  pub there : line_to line place draft ≡ splice line place text
 
 -- a length answered is that of the drafted text, which stands in the line from its place on
 abbrev pub LengthStands : Type 0
 LengthStands =
-    (line : List ℕ) (place : ℕ) (draft : Draft) (n : ℕ) → answerTo line place draft ≡ Length n → Stands line place draft n
+    (line : List ℕ) (place : ℕ) (draft : Draft) (n : ℕ) → answer_to line place draft ≡ Length n → Stands line place draft n
 
 -- behind conditions, the first that holds refuses, 8 last; else the text's length is answered
 abbrev pub AnswerBehind : Type 0
 AnswerBehind =
     (conditions : List Condition) (line : List ℕ) (place : ℕ) (text : List ℕ)
-    → answerTo line place (unless NoText conditions (Text text)) ≡ unless Refused (writtenWhen conditions line place text) (Length (length text))
+    → answer_to line place (unless NoText conditions (Text text)) ≡ unless Refused (written_when conditions line place text) (Length (length text))
 
 -- so the number given is that of the first condition that holds
 abbrev pub NumberBehind : Type 0
 NumberBehind =
     (conditions : List Condition) (line : List ℕ) (place : ℕ) (text : List ℕ)
-    → number_of (answerTo line place (unless NoText conditions (Text text))) ≡ first (writtenWhen conditions line place text)
+    → number_of (answer_to line place (unless NoText conditions (Text text))) ≡ first (written_when conditions line place text)
 
 -- refusal 8 of a text exactly when place plus text length exceeds the line's length
 abbrev pub NoRoomExactly : Type 0
 NoRoomExactly =
     (line : List ℕ) (place : ℕ) (text : List ℕ)
-    → (answerTo line place (Text text) ≡ Refused noRoom) ↔ (length line < place + length text)
+    → (answer_to line place (Text text) ≡ Refused no_room) ↔ (length line < place + length text)

@@ -1,10 +1,10 @@
 -- What a writer answers, and the caller's line afterwards (BEHAVIOUR: Refusals): one definition of each, for every text that is written.
 -- Assumes nothing.
 use Rattle.std.specs.Prelude.{ℕ, List, [], ◌∷◌, ◌++◌, not, length}
-use Rattle.lent.specs.Line.{fits, lineAfter}
+use Rattle.lent.specs.Line.{fits, line_after}
 use Rattle.answers.specs.declared.Refusal.{Refusal}
 use Rattle.answers.specs.Order.{Condition, when, unless}
-use Rattle.answers.specs.Refusals.{noRoom}
+use Rattle.answers.specs.Refusals.{no_room}
 use Rattle.written.specs.declared.Written.{Written}
 use Rattle.written.specs.declared.Written.TheVariants.{Length, Refused}
 
@@ -14,22 +14,22 @@ pub data Draft : Type 0 where
   NoText : Refusal → Draft
 
 -- 8: place plus text length exceeds the buffer's length
-abbrev pub badRoom : (line : List ℕ) (place : ℕ) (text : List ℕ) → Condition
-badRoom line place text = when noRoom (not (fits line place text))
+abbrev pub bad_room : (line : List ℕ) (place : ℕ) (text : List ℕ) → Condition
+bad_room line place text = when no_room (not (fits line place text))
 
 -- all that speaks against a text that is written: the conditions that leave none, then 8
-abbrev pub writtenWhen : List Condition → (line : List ℕ) (place : ℕ) (text : List ℕ) → List Condition
-writtenWhen conditions line place text = conditions ++ (badRoom line place text ∷ [])
+abbrev pub written_when : List Condition → (line : List ℕ) (place : ℕ) (text : List ℕ) → List Condition
+written_when conditions line place text = conditions ++ (bad_room line place text ∷ [])
 
 -- the answer: 8 comes after every refusal of the draft; else the text's length
-unfoldable pub answerTo : (line : List ℕ) (place : ℕ) → Draft → Written
-answerTo line place (Text text) = unless Refused (badRoom line place text ∷ []) (Length (length text))
-answerTo line place (NoText e) = Refused e
+unfoldable pub answer_to : (line : List ℕ) (place : ℕ) → Draft → Written
+answer_to line place (Text text) = unless Refused (bad_room line place text ∷ []) (Length (length text))
+answer_to line place (NoText e) = Refused e
 
 -- every byte of the line afterwards: the text from its place on; a refusal changes no lent byte
-unfoldable pub lineTo : (line : List ℕ) (place : ℕ) → Draft → List ℕ
-lineTo line place (Text text) = lineAfter line place text
-lineTo line place (NoText e) = line
+unfoldable pub line_to : (line : List ℕ) (place : ℕ) → Draft → List ℕ
+line_to line place (Text text) = line_after line place text
+line_to line place (NoText e) = line
 
 -- the number of an answer (0: not refused), and its length (a refusal's is 0)
 abbrev pub number_of : Written → ℕ

@@ -1,11 +1,13 @@
 // What a writer into the caller's line answers: how many bytes it laid down, or why none; and the parts that texts share: a
 // number behind its sign or behind a mark. Refuses 8, after all that speaks against a text.
+#![tactic(auto)]
+
 ghost use Rattle.std.specs.Prelude.{◌≡◌, ◌∷◌, ◌+◌, ◌≤◌, length};
 ghost use Rattle.lent.specs.Line.{laid};
-ghost use Rattle.digits.specs.Digits.{digitsOf, decimal};
-ghost use Rattle.written.specs.Written.{Text, answerTo, lineTo, number_of, length_of};
-ghost use Rattle.written.specs.Parts.{signText, paddedText, signedText, fieldText};
-ghost use Rattle.written.specs.Clock.{clockText};
+ghost use Rattle.digits.specs.Digits.{digits_of, decimal};
+ghost use Rattle.written.specs.Written.{Text, answer_to, line_to, number_of, length_of};
+ghost use Rattle.written.specs.Parts.{sign_text, padded_text, signed_text, field_text};
+ghost use Rattle.written.specs.Clock.{clock_text};
 
 use answers::Refusal;
 
@@ -18,7 +20,7 @@ pub enum Written {
 
 // The number of an answer; 0 where a text was laid down.
 pub fn number(w: Written) -> u8
-    ensures answer { result ≡ number_of w }
+    ensures { result ≡ number_of w }
 {
     match w {
         Written::Length(_) => 0,
@@ -28,7 +30,7 @@ pub fn number(w: Written) -> u8
 
 // How many bytes were laid down; 0 where a refusal was given.
 pub fn length(w: Written) -> usize
-    ensures answer { result ≡ length_of w }
+    ensures { result ≡ length_of w }
 {
     match w {
         Written::Length(n) => n,
@@ -38,8 +40,8 @@ pub fn length(w: Written) -> usize
 
 // A text laid down from `place` on, whole. Refuses 8: place plus text length exceeds the line's length.
 pub fn write_text(text: &[u8], line: &mut [u8], place: usize) -> Written
-    ensures answer { result ≡ answerTo line.old place (Text text.now) }
-    ensures line { line.new ≡ lineTo line.old place (Text text.now) }
+    ensures answer { result ≡ answer_to line.old place (Text text.now) }
+    ensures line { line.new ≡ line_to line.old place (Text text.now) }
 {
     if lent::room(line.len(), place, text.len()) {
         lent::put_text(&mut line[place..], text);
@@ -50,14 +52,14 @@ pub fn write_text(text: &[u8], line: &mut [u8], place: usize) -> Written
 
 // How many bytes a sign takes: one for '-', else none.
 fn sign_length(minus: bool) -> usize
-    ensures answer { result ≡ length (signText minus) }
+    ensures { result ≡ length (sign_text minus) }
 {
     if minus { 1 } else { 0 }
 }
 
 // The sign at the front of a part; every other byte stays. Where it has no room nothing changes.
 fn put_sign(part: &mut [u8], minus: bool)
-    ensures line { part.new ≡ laid part.old (signText minus) }
+    ensures { part.new ≡ laid part.old (sign_text minus) }
 {
     if minus {
         lent::put_byte(part, b'-');
@@ -66,7 +68,7 @@ fn put_sign(part: &mut [u8], minus: bool)
 
 // A mark and the last k digits of n behind it, at the front of a part; every other byte stays. Where they have no room nothing changes.
 pub fn put_marked(part: &mut [u8], mark: u8, k: usize, n: u64)
-    ensures line { part.new ≡ laid part.old (mark ∷ digitsOf k n) }
+    ensures { part.new ≡ laid part.old (mark ∷ digits_of k n) }
 {
     if k < part.len() {
         lent::put_byte(part, mark);
@@ -76,16 +78,16 @@ pub fn put_marked(part: &mut [u8], mark: u8, k: usize, n: u64)
 
 // How many bytes a number has in `least` digits at least, its sign with it. Asks no more than 20.
 fn padded_length(minus: bool, least: usize, m: u64) -> usize
-    requires least { least ≤ 20 }
-    ensures answer { result ≡ length (paddedText minus least m) }
+    requires { least ≤ 20 }
+    ensures { result ≡ length (padded_text minus least m) }
 {
     sign_length(minus) + digits::width_of(least, m)
 }
 
 // A number in `least` digits at least, its sign with it, at the front of a part; every other byte stays. Asks room.
 fn put_padded(part: &mut [u8], minus: bool, least: usize, m: u64)
-    requires room { length (paddedText minus least m) ≤ length part.old }
-    ensures line { part.new ≡ laid part.old (paddedText minus least m) }
+    requires { length (padded_text minus least m) ≤ length part.old }
+    ensures { part.new ≡ laid part.old (padded_text minus least m) }
 {
     let at = sign_length(minus);
     let w = digits::width_of(least, m);
@@ -95,14 +97,14 @@ fn put_padded(part: &mut [u8], minus: bool, least: usize, m: u64)
 
 // How many bytes a number has, its sign with it.
 pub fn signed_length(minus: bool, m: u64) -> usize
-    ensures answer { result ≡ length (signedText minus m) }
+    ensures { result ≡ length (signed_text minus m) }
 {
     padded_length(minus, 1, m)
 }
 
 // A number at the front of a part, its sign with it; every other byte stays. Where it has no room nothing changes.
 pub fn put_signed(part: &mut [u8], minus: bool, m: u64)
-    ensures line { part.new ≡ laid part.old (signedText minus m) }
+    ensures { part.new ≡ laid part.old (signed_text minus m) }
 {
     if signed_length(minus, m) <= part.len() {
         put_padded(part, minus, 1, m);
@@ -111,21 +113,21 @@ pub fn put_signed(part: &mut [u8], minus: bool, m: u64)
 
 // How many bytes a field of two digits at least has, the mark before it with it.
 pub fn field_length(n: u64) -> usize
-    ensures answer { result ≡ 1 + length (decimal 2 n) }
+    ensures { result ≡ 1 + length (decimal 2 n) }
 {
     digits::width_of(2, n) + 1
 }
 
 // A field of two digits at least behind its mark, at the front of a part; every other byte stays. Where it has no room nothing changes.
 pub fn put_field(part: &mut [u8], mark: u8, n: u64)
-    ensures line { part.new ≡ laid part.old (fieldText mark n) }
+    ensures { part.new ≡ laid part.old (field_text mark n) }
 {
     put_marked(part, mark, digits::width_of(2, n), n);
 }
 
 // How many bytes hours, minutes and seconds have, two digits at least each and `:` between them, the sign with them.
 pub fn clock_length(minus: bool, hours: u64, minutes: u64, seconds: u64) -> usize
-    ensures answer { result ≡ length (clockText minus hours minutes seconds) }
+    ensures { result ≡ length (clock_text minus hours minutes seconds) }
 {
     padded_length(minus, 2, hours) + field_length(minutes) + field_length(seconds)
 }
@@ -133,7 +135,7 @@ pub fn clock_length(minus: bool, hours: u64, minutes: u64, seconds: u64) -> usiz
 // Hours, minutes and seconds at the front of a part, two digits at least each and `:` between them, the sign with them; every other
 // byte stays. Where they have no room nothing changes.
 pub fn put_clock(part: &mut [u8], minus: bool, hours: u64, minutes: u64, seconds: u64)
-    ensures line { part.new ≡ laid part.old (clockText minus hours minutes seconds) }
+    ensures { part.new ≡ laid part.old (clock_text minus hours minutes seconds) }
 {
     if clock_length(minus, hours, minutes, seconds) <= part.len() {
         let first = padded_length(minus, 2, hours);

@@ -7,7 +7,7 @@ use borrow.Author.Rules.{rules}
 use lib.IntN.{ℤ}
 use mir.Facts.{to_z-of_z}
 use Rattle.numbers.specs.Sign.{signed}
-use Rattle.numbers.specs.Nearest.{nearestN, nearestZ}
+use Rattle.numbers.specs.Nearest.{nearest_n, nearest_z}
 use Rattle.answers.specs.Refusals.{held}
 use Rattle.answers.proofs.nearest_count.Statement.{statement}
 use Rattle.answers.proofs.nearest_count.Tie as tie
@@ -17,8 +17,8 @@ returns c =
     let s = c.before.before.before.before in
     c.held.ensures
     ∙ ap₂ (λ (b : Bool) (k : ℕ). held (signed b k)) c.before.before.before.below-zero.ensures
-    (c.before.nearest.ensures ∙ ap (λ (m : ℕ). nearestN m s.args.n) c.before.before.magnitude.ensures)
-    ∙ ap (λ (z : ℤ). held (nearestZ z s.args.n)) (to_z-of_z s.ranges.x)
+    (c.before.nearest.ensures ∙ ap (λ (m : ℕ). nearest_n m s.args.n) c.before.before.magnitude.ensures)
+    ∙ ap (λ (z : ℤ). held (nearest_z z s.args.n)) (to_z-of_z s.ranges.x)
 
 pub nearest-count-spec : {M : Type 1} → statement M
 nearest-count-spec =

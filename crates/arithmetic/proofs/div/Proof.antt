@@ -11,42 +11,42 @@ use Rattle.answers.specs.declared.Verdict.TheVariants as verdict
 use Rattle.answers.specs.Order.{judged}
 use Rattle.answers.specs.OrderLaws.{judged-clear}
 use Rattle.timecodes.specs.Timecode.{moved_to}
-use Rattle.timecodes.specs.Admitted.{admitsLength}
-use Rattle.timecodes.specs.AdmittedLaws.{admitsLength-valid, valid-count-le, operated, not-operated}
-use Rattle.arithmetic.specs.Truncating.{quotientCounted, div_of}
-use Rattle.arithmetic.specs.Divisor.{badDivisor}
+use Rattle.timecodes.specs.Admitted.{admits_length}
+use Rattle.timecodes.specs.AdmittedLaws.{admits_length-valid, valid-count-le, operated, not-operated}
+use Rattle.arithmetic.specs.Truncating.{quotient_counted, div_of}
+use Rattle.arithmetic.specs.Divisor.{bad_divisor}
 use Rattle.arithmetic.proofs.div.Statement.{statement}
 use Rattle.arithmetic.proofs.div.Tie as tie
 
-passed : (c : tie.After-enum-told) → judged (admitsLength c.before.before.before.args.tc) ≡ verdict.Passed
+passed : (c : tie.After-enum-told) → judged (admits_length c.before.before.before.args.tc) ≡ verdict.Passed
 passed c = sym c.before.before.admit-length.ensures ∙ c.enum_told.given.1
 
 -- the count, as the machine reads it
-count-is : (c : tie.After-struct-told)
+count_is : (c : tie.After-struct-told)
     → to_z w64 (of_z w64 c.before.before.before.before.args.tc.count) ≡ c.before.before.before.before.args.tc.count
-count-is c = search rules
+count_is c = search rules
 
 quotient-requires : tie.Need-quotient-requires
 quotient-requires c κs =
     let tc = c.before.before.before.before.args.tc in
-    rw (count-is c) (valid-count-le tc (admitsLength-valid tc (judged-clear (admitsLength tc) (passed c.before))))
+    rw (count_is c) (valid-count-le tc (admits_length-valid tc (judged-clear (admits_length tc) (passed c.before))))
 
 returns : tie.Need-returns
-unfolding div_of quotientCounted
+unfolding div_of quotient_counted
 returns c =
     let p = c.before in
     let s = p.before.before.before.before.before in
     let tc = s.args.tc in
     c.moved.ensures
-    ∙ ap (moved_to tc tc.rate) (p.quotient.ensures ∙ ap₂ quotientCounted (count-is p.before) (to_z-of_z s.ranges.n))
-    ∙ operated (admitsLength tc) (badDivisor s.args.n ∷ []) tc tc.rate (quot_z tc.count s.args.n) (passed p.before.before)
+    ∙ ap (moved_to tc tc.rate) (p.quotient.ensures ∙ ap₂ quotient_counted (count_is p.before) (to_z-of_z s.ranges.n))
+    ∙ operated (admits_length tc) (bad_divisor s.args.n ∷ []) tc tc.rate (quot_z tc.count s.args.n) (passed p.before.before)
 
 returns-2 : tie.Need-returns-2
 unfolding div_of
 returns-2 c =
     let a = c.before.before.before.before.args in
     let tc = a.tc in
-    sym (not-operated (admitsLength tc) (badDivisor a.n ∷ []) _ _ (sym c.before.before.before.admit-length.ensures ∙ c.before.e.given.1))
+    sym (not-operated (admits_length tc) (bad_divisor a.n ∷ []) _ _ (sym c.before.before.before.admit-length.ensures ∙ c.before.e.given.1))
 
 pub div-spec : {M : Type 1} → statement M
 div-spec =

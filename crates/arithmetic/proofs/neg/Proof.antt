@@ -10,25 +10,25 @@ use Rattle.answers.specs.declared.Verdict.TheVariants as verdict
 use Rattle.answers.specs.Order.{judged}
 use Rattle.answers.specs.OrderLaws.{judged-clear}
 use Rattle.timecodes.specs.Timecode.{moved_to}
-use Rattle.timecodes.specs.Admitted.{admitsLength}
-use Rattle.timecodes.specs.AdmittedLaws.{admitsLength-valid, valid-count-le, operated, not-operated}
+use Rattle.timecodes.specs.Admitted.{admits_length}
+use Rattle.timecodes.specs.AdmittedLaws.{admits_length-valid, valid-count-le, operated, not-operated}
 use Rattle.arithmetic.specs.Count.{neg_of}
 use Rattle.answers.specs.declared.Counted.TheVariants.{Count}
 use Rattle.arithmetic.proofs.neg.Statement.{statement}
 use Rattle.arithmetic.proofs.neg.Tie as tie
 
-passed : (c : tie.After-enum-told) → judged (admitsLength c.before.before.before.args.tc) ≡ verdict.Passed
+passed : (c : tie.After-enum-told) → judged (admits_length c.before.before.before.args.tc) ≡ verdict.Passed
 passed c = sym c.before.before.admit-length.ensures ∙ c.enum_told.given.1
 
 -- the count, as the machine reads it
-count-is : (c : tie.After-struct-told)
+count_is : (c : tie.After-struct-told)
     → to_z w64 (of_z w64 c.before.before.before.before.args.tc.count) ≡ c.before.before.before.before.args.tc.count
-count-is c = search rules
+count_is c = search rules
 
 negated-requires : tie.Need-negated-requires
 negated-requires c κs =
     let tc = c.before.before.before.before.args.tc in
-    rw (count-is c) (valid-count-le tc (admitsLength-valid tc (judged-clear (admitsLength tc) (passed c.before))))
+    rw (count_is c) (valid-count-le tc (admits_length-valid tc (judged-clear (admits_length tc) (passed c.before))))
 
 returns : tie.Need-returns
 unfolding neg_of
@@ -37,14 +37,14 @@ returns c =
     let s = p.before.before.before.before.before in
     let tc = s.args.tc in
     c.moved.ensures
-    ∙ ap (moved_to tc tc.rate) (p.negated.ensures ∙ ap (λ (z : ℤ). Count (neg_ℤ z)) (count-is p.before))
-    ∙ operated (admitsLength tc) [] tc tc.rate (neg_ℤ tc.count) (passed p.before.before)
+    ∙ ap (moved_to tc tc.rate) (p.negated.ensures ∙ ap (λ (z : ℤ). Count (neg_ℤ z)) (count_is p.before))
+    ∙ operated (admits_length tc) [] tc tc.rate (neg_ℤ tc.count) (passed p.before.before)
 
 returns-2 : tie.Need-returns-2
 unfolding neg_of
 returns-2 c =
     let tc = c.before.before.before.before.args.tc in
-    sym (not-operated (admitsLength tc) [] _ _ (sym c.before.before.before.admit-length.ensures ∙ c.before.e.given.1))
+    sym (not-operated (admits_length tc) [] _ _ (sym c.before.before.before.admit-length.ensures ∙ c.before.e.given.1))
 
 pub neg-spec : {M : Type 1} → statement M
 neg-spec =

@@ -9,28 +9,28 @@ use mir.Syntax.{w64}
 use mir.Val.{to_z, of_z}
 use Rattle.numbers.proofs.Tests.{fails, passes}
 use Rattle.answers.specs.declared.Counted.TheVariants.{Count}
-use Rattle.rates.specs.Rates.{isRate}
+use Rattle.rates.specs.Rates.{is_rate}
 use Rattle.timecodes.specs.Timecode.{moved_to}
-use Rattle.timecodes.specs.Admitted.{admitsLength}
+use Rattle.timecodes.specs.Admitted.{admits_length}
 use Rattle.timecodes.specs.AdmittedLaws.{operated, not-operated}
-use Rattle.arithmetic.specs.Count.{rebaseOf}
+use Rattle.arithmetic.specs.Count.{rebase_of}
 use Rattle.arithmetic.proofs.rebase.Statement.{statement}
 use Rattle.arithmetic.proofs.rebase.Tie as tie
 
 returns : tie.Need-returns
-unfolding rebaseOf
+unfolding rebase_of
 returns c = simp (fails c.before.is-rate.ensures c.if1.true)
 
-rated : (c : tie.Else1) → isRate c.before.before.args.rate ≡ true
+rated : (c : tie.Else1) → is_rate c.before.before.args.rate ≡ true
 rated c = passes c.before.is-rate.ensures c.if1.false
 
 -- the count, as the machine reads it
-count-is : (c : tie.After-struct-told) → let tc = c.before.before.before.before.before.before.args.tc in
+count_is : (c : tie.After-struct-told) → let tc = c.before.before.before.before.before.before.args.tc in
     to_z w64 (of_z w64 tc.count) ≡ tc.count
-count-is c = search rules
+count_is c = search rules
 
 returns-2 : tie.Need-returns-2
-unfolding rebaseOf
+unfolding rebase_of
 returns-2 c =
     let t = c.before.before in
     let e = t.before.before.before in
@@ -38,16 +38,16 @@ returns-2 c =
     let rate = e.before.before.args.rate in
     simp (rated e)
     (c.moved.ensures
-    ∙ ap (λ (z : ℤ). moved_to tc rate (Count z)) (count-is c.before)
-    ∙ operated (admitsLength tc) [] tc rate tc.count (sym t.before.before.admit-length.ensures ∙ t.enum_told.given.1))
+    ∙ ap (λ (z : ℤ). moved_to tc rate (Count z)) (count_is c.before)
+    ∙ operated (admits_length tc) [] tc rate tc.count (sym t.before.before.admit-length.ensures ∙ t.enum_told.given.1))
 
 returns-3 : tie.Need-returns-3
-unfolding rebaseOf
+unfolding rebase_of
 returns-3 c =
     let m = c.before.before.before in
     let e = m.before in
     let tc = e.before.before.args.tc in
-    simp (rated e) (sym (not-operated (admitsLength tc) [] _ _ (sym m.admit-length.ensures ∙ c.before.e.given.1)))
+    simp (rated e) (sym (not-operated (admits_length tc) [] _ _ (sym m.admit-length.ensures ∙ c.before.e.given.1)))
 
 pub rebase-spec : {M : Type 1} → statement M
 rebase-spec =

@@ -10,42 +10,42 @@ use Rattle.answers.specs.declared.Verdict.TheVariants as verdict
 use Rattle.answers.specs.Order.{judged}
 use Rattle.answers.specs.OrderLaws.{judged-clear}
 use Rattle.timecodes.specs.Timecode.{moved_to}
-use Rattle.timecodes.specs.Admitted.{admitsLength}
-use Rattle.timecodes.specs.AdmittedLaws.{admitsLength-valid, valid-count-le, operated, not-operated}
-use Rattle.arithmetic.specs.Remainder.{left_of, leftWhen, leftCounted, remqOf}
+use Rattle.timecodes.specs.Admitted.{admits_length}
+use Rattle.timecodes.specs.AdmittedLaws.{admits_length-valid, valid-count-le, operated, not-operated}
+use Rattle.arithmetic.specs.Remainder.{left_of, left_when, left_counted, remq_of}
 use Rattle.arithmetic.proofs.remq.Statement.{statement}
 use Rattle.arithmetic.proofs.remq.Tie as tie
 
-passed : (c : tie.After-enum-told) → judged (admitsLength c.before.before.before.args.tc) ≡ verdict.Passed
+passed : (c : tie.After-enum-told) → judged (admits_length c.before.before.before.args.tc) ≡ verdict.Passed
 passed c = sym c.before.before.admit-length.ensures ∙ c.enum_told.given.1
 
 -- the count, as the machine reads it
-count-is : (c : tie.After-struct-told)
+count_is : (c : tie.After-struct-told)
     → to_z w64 (of_z w64 c.before.before.before.before.args.tc.count) ≡ c.before.before.before.before.args.tc.count
-count-is c = search rules
+count_is c = search rules
 
 remainder-by-requires : tie.Need-remainder-by-requires
 remainder-by-requires c κs =
     let tc = c.before.before.before.before.args.tc in
-    rw (count-is c) (valid-count-le tc (admitsLength-valid tc (judged-clear (admitsLength tc) (passed c.before))))
+    rw (count_is c) (valid-count-le tc (admits_length-valid tc (judged-clear (admits_length tc) (passed c.before))))
 
 returns : tie.Need-returns
-unfolding remqOf leftCounted
+unfolding remq_of left_counted
 returns c =
     let p = c.before in
     let s = p.before.before.before.before.before in
     let tc = s.args.tc in
     c.moved.ensures
-    ∙ ap (moved_to tc tc.rate) (p.remainder_by.ensures ∙ ap₂ (λ (x y : ℤ). leftCounted x y s.args.q) (count-is p.before) (to_z-of_z s.ranges.p))
-    ∙ operated (admitsLength tc) (leftWhen tc.count s.args.p s.args.q) tc tc.rate (left_of tc.count s.args.p s.args.q)
+    ∙ ap (moved_to tc tc.rate) (p.remainder_by.ensures ∙ ap₂ (λ (x y : ℤ). left_counted x y s.args.q) (count_is p.before) (to_z-of_z s.ranges.p))
+    ∙ operated (admits_length tc) (left_when tc.count s.args.p s.args.q) tc tc.rate (left_of tc.count s.args.p s.args.q)
     (passed p.before.before)
 
 returns-2 : tie.Need-returns-2
-unfolding remqOf
+unfolding remq_of
 returns-2 c =
     let a = c.before.before.before.before.args in
     let tc = a.tc in
-    sym (not-operated (admitsLength tc) (leftWhen tc.count a.p a.q) _ _ (sym c.before.before.before.admit-length.ensures ∙ c.before.e.given.1))
+    sym (not-operated (admits_length tc) (left_when tc.count a.p a.q) _ _ (sym c.before.before.before.admit-length.ensures ∙ c.before.e.given.1))
 
 pub remq-spec : {M : Type 1} → statement M
 remq-spec =

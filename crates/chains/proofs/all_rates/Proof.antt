@@ -8,13 +8,13 @@ use borrow.Author.Rules.{rules}
 use lib.ListN.{length, get_or, drop, drop_of_length-le}
 use Rattle.laws.specs.Every.{every}
 use Rattle.numbers.proofs.Tests.{fails, passes}
-use Rattle.rates.specs.Rates.{isRate}
+use Rattle.rates.specs.Rates.{is_rate}
 use Rattle.chains.proofs.Walk.{from-here}
 use Rattle.chains.proofs.all_rates.Statement.{statement}
 use Rattle.chains.proofs.all_rates.Tie as tie
 
 abbrev invariant-loop : tie.invariant-loop
-invariant-loop list i₀ i = (i ≤ length list) × (every isRate (drop i list) ≡ every isRate list)
+invariant-loop list i₀ i = (i ≤ length list) × (every is_rate (drop i list) ≡ every is_rate list)
 
 abbrev decreases-loop : tie.decreases-loop
 decreases-loop list i₀ i = length list - i
@@ -27,7 +27,7 @@ returns c =
     let k = c.before.before.before.before in
     let l = k.before.before.args.list.now in
     let below : k.loop.i < length l = search rules in
-    let none : isRate (get_or l k.loop.i 0) ≡ false = fails c.before.is-rate.ensures c.if1.true in
+    let none : is_rate (get_or l k.loop.i 0) ≡ false = fails c.before.is-rate.ensures c.if1.true in
     rw (from-here l k.loop.i below, none) at k.loop.invariant.1
 
 loop-again : tie.Need-loop-preserved invariant-loop decreases-loop
@@ -35,7 +35,7 @@ loop-again c =
     let k = c.before.before.before.before in
     let l = k.before.before.args.list.now in
     let below : k.loop.i < length l = search rules in
-    let one : isRate (get_or l k.loop.i 0) ≡ true = passes c.before.is-rate.ensures c.if1.false in
+    let one : is_rate (get_or l k.loop.i 0) ≡ true = passes c.before.is-rate.ensures c.if1.false in
     (omega arith, rw (from-here l k.loop.i below, one) at k.loop.invariant.1)
 
 returns-2 : tie.Need-returns-2 invariant-loop decreases-loop

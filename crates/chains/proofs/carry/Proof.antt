@@ -7,12 +7,12 @@ use native.Mathlib.Omega.{arith}
 use borrow.Author.Rules.{rules}
 use lib.ListN.{length, get_or, drop, drop_of_length-le}
 use Rattle.laws.specs.Every.{at_every}
-use Rattle.rates.specs.Rates.{isRate}
+use Rattle.rates.specs.Rates.{is_rate}
 use Rattle.timecodes.specs.declared.Answer.TheVariants.{At, Refused}
 use Rattle.timecodes.specs.declared.kinds.Kind.TheVariants.{Length}
 use Rattle.timecodes.specs.Admitted.{Valid}
 use Rattle.chains.specs.Chain.{step_of, carried}
-use Rattle.chains.specs.ChainLaws.{stepOf-valid, stepOf-kind, carried_none, carried-next, carried-stop}
+use Rattle.chains.specs.ChainLaws.{step_of-valid, step_of-kind, carried_none, carried-next, carried-stop}
 use Rattle.chains.proofs.Walk.{from-here}
 use Rattle.chains.proofs.carry.Statement.{statement}
 use Rattle.chains.proofs.carry.Tie as tie
@@ -28,10 +28,10 @@ loop-holds c = (omega arith, c.before.requires.0, refl, c.before.requires.1.0)
 
 -- the number at hand is a rate
 next-rate : (c : tie.In-loop invariant-loop decreases-loop) → let s = c.before.before.before in
-    isRate (get_or s.args.list.now c.before.loop.i 0) ≡ true
+    is_rate (get_or s.args.list.now c.before.loop.i 0) ≡ true
 next-rate c =
     let s = c.before.before.before in
-    at_every isRate s.args.list.now 0 s.requires.1.1 c.before.loop.i (search rules)
+    at_every is_rate s.args.list.now 0 s.requires.1.1 c.before.loop.i (search rules)
 
 step-requires : tie.Need-step-requires invariant-loop decreases-loop
 step-requires c κs = c.before.before.loop.invariant.1
@@ -55,10 +55,10 @@ loop-again c =
     let below : k.loop.i < length l = search rules in
     let took : step_of k.loop.at next ≡ At there = sym c.before.before.before.step.ensures ∙ c.before.s.given.1 in (
       omega arith,
-      stepOf-valid k.loop.at there next k.loop.invariant.3 (next-rate c.before.before.before.before.before) took,
+      step_of-valid k.loop.at there next k.loop.invariant.3 (next-rate c.before.before.before.before.before) took,
       sym (carried-next k.loop.at there next (drop (k.loop.i + 1) l) took)
           ∙ (rw (from-here l k.loop.i below) at k.loop.invariant.2),
-      stepOf-kind k.loop.at there next took ∙ k.loop.invariant.3,
+      step_of-kind k.loop.at there next took ∙ k.loop.invariant.3,
     )
 
 returns-2 : tie.Need-returns-2 invariant-loop decreases-loop

@@ -7,45 +7,45 @@ use Rattle.laws.specs.Every.{every}
 use Rattle.numbers.proofs.Tests.{fails, passes}
 use Rattle.answers.specs.Order.{Clear}
 use Rattle.answers.specs.OrderLaws.{judged-refused, judged-clear, unless-clear}
-use Rattle.rates.specs.Rates.{isRate}
+use Rattle.rates.specs.Rates.{is_rate}
 use Rattle.timecodes.specs.declared.Answer.TheVariants.{Refused}
-use Rattle.timecodes.specs.Admitted.{admitsLength}
-use Rattle.timecodes.specs.AdmittedLaws.{admitsLength-valid, admitsLength-length}
+use Rattle.timecodes.specs.Admitted.{admits_length}
+use Rattle.timecodes.specs.AdmittedLaws.{admits_length-valid, admits_length-length}
 use Rattle.chains.specs.Chain.{carried}
-use Rattle.chains.specs.ChainLaws.{convertOf-out, convertOf-in}
+use Rattle.chains.specs.ChainLaws.{convert_of-out, convert_of-in}
 use Rattle.chains.proofs.convert.Statement.{statement}
 use Rattle.chains.proofs.convert.Tie as tie
 
 returns : tie.Need-returns
 returns c =
     let a = c.before.before.before.args in
-    sym (convertOf-out a.tc a.list.now (fails c.before.all-rates.ensures c.if1.true))
+    sym (convert_of-out a.tc a.list.now (fails c.before.all-rates.ensures c.if1.true))
 
-listed : (c : tie.Else1) → every isRate c.before.before.before.args.list.now ≡ true
+listed : (c : tie.Else1) → every is_rate c.before.before.before.args.list.now ≡ true
 listed c = passes c.before.all-rates.ensures c.if1.false
 
 -- what is admitted is clear of the timecode's own conditions
-clear : (c : tie.After-enum-told) → Clear (admitsLength c.before.before.before.before.before.before.args.tc)
+clear : (c : tie.After-enum-told) → Clear (admits_length c.before.before.before.before.before.before.args.tc)
 clear c =
     let tc = c.before.before.before.before.before.before.args.tc in
-    judged-clear (admitsLength tc) (sym c.before.before.admit-length.ensures ∙ c.enum_told.given.1)
+    judged-clear (admits_length tc) (sym c.before.before.admit-length.ensures ∙ c.enum_told.given.1)
 
 carry-requires : tie.Need-carry-requires
-carry-requires c κs = (admitsLength-valid _ (clear c), (admitsLength-length _ (clear c), listed c.before.before.before))
+carry-requires c κs = (admits_length-valid _ (clear c), (admits_length-length _ (clear c), listed c.before.before.before))
 
 returns-2 : tie.Need-returns-2
 returns-2 c =
     let e = c.before.before.before.before in
     let a = e.before.before.before.args in
     c.carry.ensures
-    ∙ sym (convertOf-in a.tc a.list.now (listed e) ∙ unless-clear Refused (admitsLength a.tc) (carried a.tc a.list.now) (clear c.before))
+    ∙ sym (convert_of-in a.tc a.list.now (listed e) ∙ unless-clear Refused (admits_length a.tc) (carried a.tc a.list.now) (clear c.before))
 
 returns-3 : tie.Need-returns-3
 returns-3 c =
     let e = c.before.before.before.before in
     let a = e.before.before.before.args in
     let told = sym c.before.before.before.admit-length.ensures ∙ c.before.e.given.1 in
-    sym (convertOf-in a.tc a.list.now (listed e) ∙ judged-refused (admitsLength a.tc) _ told Refused (carried a.tc a.list.now))
+    sym (convert_of-in a.tc a.list.now (listed e) ∙ judged-refused (admits_length a.tc) _ told Refused (carried a.tc a.list.now))
 
 pub convert-spec : {M : Type 1} → statement M
 convert-spec =

@@ -5,7 +5,7 @@ use mathlib.Core.Path.{refl, sym}
 use borrow.Author.Rules.{rules}
 use lib.ListN.{length-set}
 use Rattle.lent.proofs.Laws.{laid_out}
-use Rattle.digits.specs.Digits.{digitsOf}
+use Rattle.digits.specs.Digits.{digits_of}
 use Rattle.digits.proofs.Values.{digits-length}
 use Rattle.digits.proofs.Spelling.{Spelling, spelling-pair, spelling-first, spelling-done}
 use Rattle.digits.proofs.put_digits.Statement.{statement}
@@ -18,7 +18,7 @@ abbrev decreases-loop : tie.decreases-loop
 decreases-loop part₀ k n i₀ rest₀ part i rest = i
 
 returns : tie.Need-returns invariant-loop decreases-loop
-returns c = let a = c.before.before.args in sym (laid_out _ (digitsOf a.k a.n) (omega (arith, digits-length a.k a.n)))
+returns c = let a = c.before.before.args in sym (laid_out _ (digits_of a.k a.n) (omega (arith, digits-length a.k a.n)))
 
 loop-holds : tie.Need-loop-init invariant-loop decreases-loop
 loop-holds c = record { long = refl; room = search rules; inside = search rules; left = refl }

@@ -6,7 +6,7 @@ use mathlib.Core.Bool.{true}
 use borrow.Author.Rules.{rules}
 use Prim.Native.Nat.{◌-◌, ◌<◌}
 use lib.ListN.{length, drop}
-use Rattle.digits.specs.Digits.{digitFirst}
+use Rattle.digits.specs.Digits.{digit_first}
 use Rattle.digits.proofs.Taking.{within, digit-here, Taking, taking-start, taking-turn, taking-done}
 use Rattle.digits.proofs.run_at.Statement.{statement}
 use Rattle.digits.proofs.run_at.Tie as tie
@@ -22,7 +22,7 @@ loop-holds c = taking-start _ _
 
 -- in a turn a digit stands at i, so i is within the text
 stands : (c : tie.Then1 invariant-loop decreases-loop)
-    → digitFirst (drop c.before.before.loop.i c.before.before.before.before.args.s.now) ≡ true
+    → digit_first (drop c.before.before.loop.i c.before.before.before.before.args.s.now) ≡ true
 stands c = sym c.before.digit_at.ensures ∙ c.if1.true
 
 inside : (c : tie.Then1 invariant-loop decreases-loop) → c.before.before.loop.i < length c.before.before.before.before.args.s.now

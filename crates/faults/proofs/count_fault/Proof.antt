@@ -1,16 +1,16 @@
 -- `faults::count_fault` meets its contract: each return is the definition by the test that led there.
 -- Assumes nothing.
 use Rattle.numbers.proofs.Tests.{tests}
-use Rattle.faults.specs.Faults.{countFault}
+use Rattle.faults.specs.Faults.{count_fault}
 use Rattle.faults.proofs.count_fault.Statement.{statement}
 use Rattle.faults.proofs.count_fault.Tie as tie
 
 returns : tie.Need-returns
-unfolding countFault
+unfolding count_fault
 returns c = search tests
 
 returns-2 : tie.Need-returns-2
-unfolding countFault
+unfolding count_fault
 returns-2 c = search tests
 
 pub count-fault-spec : {M : Type 1} → statement M

@@ -6,7 +6,7 @@ use mathlib.Core.Logic.{⊎_elim}
 use native.Mathlib.Omega.{arith}
 use lib.ListN.{take}
 use borrow.Author.Rules.{rules}
-use Rattle.lines.specs.Output.{answerText}
+use Rattle.lines.specs.Output.{answer_text}
 use Rattle.written.specs.Written.{length_of}
 use Rattle.feeding.proofs.Following.{laid-fits, answer-is}
 use Rattle.feeding.proofs.answer.Statement.{statement}
@@ -17,7 +17,7 @@ add-result c =
     let a = c.before.before.before.before.before.before.before.before.before.args in
     let e = c.length.ensures ∙ ap length_of c.before.before.before.answer.ensures.0 in
     ⊎_elim (λ h. omega (arith, e, h)) (λ h. omega (arith, e, h))
-    (laid-fits a.out.now a.used (answerText (take (c.before.before.before.before.before.before.least.result - 0) a.buffer.now)))
+    (laid-fits a.out.now a.used (answer_text (take (c.before.before.before.before.before.before.least.result - 0) a.buffer.now)))
 
 returns : tie.Need-returns
 returns c =

@@ -4,13 +4,13 @@ use Prim.Native.Nat.{ℕ}
 use mathlib.Core.Path.{ap, ap₂, ◌∙◌}
 use Rattle.faults.specs.declared.Field.TheVariants.{Frames}
 use Rattle.faults.specs.Faults.{under, leftmost}
-use Rattle.film.specs.Faults.{filmFault}
+use Rattle.film.specs.Faults.{film_fault}
 use borrow.Author.Rules.{rules}
 use Rattle.film.proofs.film_fault.Statement.{statement}
 use Rattle.film.proofs.film_fault.Tie as tie
 
 returns : tie.Need-returns
-unfolding filmFault
+unfolding film_fault
 returns c =
     let m = c.before in
     let u = m.before in

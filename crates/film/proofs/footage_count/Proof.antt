@@ -6,10 +6,10 @@ use Prim.Native.Nat.{ℕ, ◌<◌}
 use native.Mathlib.Decide.{dec_lt}
 use native.Mathlib.Omega.{arith}
 use Rattle.numbers.specs.Sign.{signed}
-use Rattle.answers.specs.Refusals.{mostCount, beyond, held}
+use Rattle.answers.specs.Refusals.{most_count, beyond, held}
 use Rattle.answers.specs.Laws.{held-past}
 use Rattle.film.specs.declared.FilmFormat.{FilmFormat}
-use Rattle.film.specs.Footage.{footageCount, footageOr, footageOr-in, footageOr-feet, footageOr-frames}
+use Rattle.film.specs.Footage.{footage_count, footage_or, footage_or-in, footage_or-feet, footage_or-frames}
 use Rattle.film.specs.FootageLaws.{count-ge}
 use borrow.Author.Rules.{rules}
 use Rattle.film.proofs.footage_count.Statement.{statement}
@@ -17,19 +17,19 @@ use Rattle.film.proofs.footage_count.Tie as tie
 
 -- what is answered is held as the count is
 held_same : (format : FilmFormat) (minus : Bool) (feet frames : ℕ)
-    → held (signed minus (footageOr format feet frames)) ≡ held (signed minus (footageCount format feet frames))
+    → held (signed minus (footage_or format feet frames)) ≡ held (signed minus (footage_count format feet frames))
 held_same format minus feet frames = by (dec_lt feet beyond) (dec_lt frames beyond)
   where
     -- both are above the largest count
-    past : footageOr format feet frames ≡ beyond → mostCount < footageCount format feet frames
-        → held (signed minus (footageOr format feet frames)) ≡ held (signed minus (footageCount format feet frames))
+    past : footage_or format feet frames ≡ beyond → most_count < footage_count format feet frames
+        → held (signed minus (footage_or format feet frames)) ≡ held (signed minus (footage_count format feet frames))
     past e h = ap (λ (m : ℕ). held (signed minus m)) e ∙ held-past minus beyond (omega arith) ∙ sym (held-past minus _ h)
 
     by : Dec (feet < beyond) → Dec (frames < beyond)
-        → held (signed minus (footageOr format feet frames)) ≡ held (signed minus (footageCount format feet frames))
-    by (yes h) (yes k) = ap (λ (m : ℕ). held (signed minus m)) (footageOr-in format feet frames h k)
-    by (yes h) (no k) = past (footageOr-frames format feet frames h (omega arith)) (omega (arith, count-ge format feet frames))
-    by (no h) k = past (footageOr-feet format feet frames (omega arith)) (omega (arith, count-ge format feet frames))
+        → held (signed minus (footage_or format feet frames)) ≡ held (signed minus (footage_count format feet frames))
+    by (yes h) (yes k) = ap (λ (m : ℕ). held (signed minus m)) (footage_or-in format feet frames h k)
+    by (yes h) (no k) = past (footage_or-frames format feet frames h (omega arith)) (omega (arith, count-ge format feet frames))
+    by (no h) k = past (footage_or-feet format feet frames (omega arith)) (omega (arith, count-ge format feet frames))
 
 returns : tie.Need-returns
 returns c =

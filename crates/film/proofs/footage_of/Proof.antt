@@ -3,7 +3,7 @@
 use native.Mathlib.Omega.{arith}
 use mathlib.Core.Path.{ap₂}
 use borrow.Author.Rules.{rules}
-use Rattle.film.specs.Footage.{footageOf, footageBy}
+use Rattle.film.specs.Footage.{footage_of, footage_by}
 use Rattle.film.specs.FormatLaws.{frame-perfs, foot-perfs}
 use Rattle.film.specs.FootageLaws.{perfs-le}
 use Rattle.film.proofs.footage_of.Statement.{statement}
@@ -28,8 +28,8 @@ div-t8 : tie.Need-nonzero-div-t8
 div-t8 c = omega (arith, frame-perfs c.before.before.args.format)
 
 returns : tie.Need-returns
-unfolding footageOf
-returns c = ap₂ (footageBy c.before.before.args.f) c.before.perfs-per-frame.ensures c.perfs-per-foot.ensures
+unfolding footage_of
+returns c = ap₂ (footage_by c.before.before.args.f) c.before.perfs-per-frame.ensures c.perfs-per-foot.ensures
 
 pub footage-of-spec : {M : Type 1} → statement M
 footage-of-spec =

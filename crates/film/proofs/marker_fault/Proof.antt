@@ -7,19 +7,19 @@ use borrow.Author.Tests.{not-true, not-false}
 use Rattle.faults.specs.declared.Field.TheVariants.{Marker}
 use Rattle.faults.specs.declared.Found.TheVariants.{NoFault}
 use Rattle.faults.specs.Faults.{exactly}
-use Rattle.film.specs.Faults.{markerFault}
+use Rattle.film.specs.Faults.{marker_fault}
 use borrow.Author.Rules.{rules}
 use Rattle.film.proofs.marker_fault.Statement.{statement}
 use Rattle.film.proofs.marker_fault.Tie as tie
 
 returns : tie.Need-returns
-unfolding markerFault
+unfolding marker_fault
 returns c =
     let a = c.before.args in
     sym (ap (λ (t : Bool). cond t (exactly Marker (a.feet % 3) a.marker) NoFault) (not-true a.marked c.if1.true))
 
 returns-2 : tie.Need-returns-2
-unfolding markerFault
+unfolding marker_fault
 returns-2 c =
     let e = c.before in
     let a = e.before.args in

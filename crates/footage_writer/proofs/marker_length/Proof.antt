@@ -4,7 +4,7 @@ use native.Mathlib.Omega.{arith}
 use mathlib.Core.Path.{sym, ap, ◌∙◌}
 use lib.ListN.{length}
 use borrow.Author.Rules.{rules}
-use Rattle.digits.proofs.Width.{decimal-length}
+use Rattle.digits.proofs.Width.{decimal_length}
 use Rattle.written.proofs.Parts.{wide-most}
 use Rattle.footage_writer.proofs.Laws.{marker-some, marker-none}
 use Rattle.footage_writer.proofs.marker_length.Statement.{statement}
@@ -19,7 +19,7 @@ returns : tie.Need-returns
 returns c =
     let a = c.before.before.before.args in
     let some = marker-some a.format a.perf (sym c.before.before.allows-perf-field.ensures ∙ c.before.if1.true) in
-    omega (arith, c.width_of_lem.ensures, ap length some, decimal-length 1 a.perf)
+    omega (arith, c.width_of_lem.ensures, ap length some, decimal_length 1 a.perf)
 
 returns-2 : tie.Need-returns-2
 returns-2 c =

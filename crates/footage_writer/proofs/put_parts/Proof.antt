@@ -5,14 +5,14 @@ use native.Mathlib.Omega.{arith}
 use lib.ListN.{length}
 use borrow.Author.Rules.{rules}
 use Rattle.lent.proofs.Laws.{laid-three}
-use Rattle.written.specs.Parts.{signedText, fieldText}
-use Rattle.footage_writer.specs.FootageText.{perfText, feetText}
+use Rattle.written.specs.Parts.{signed_text, field_text}
+use Rattle.footage_writer.specs.FootageText.{perf_text, feet_text}
 use Rattle.footage_writer.proofs.Laws.{feet-length}
 use Rattle.footage_writer.proofs.put_parts.Statement.{statement}
 use Rattle.footage_writer.proofs.put_parts.Tie as tie
 
 -- feet and frames lie within the room asked for
-fit : (c : tie.Start) → let a = c.args in length (signedText a.minus a.footage.feet) + length (fieldText 43 a.footage.frames) ≤ length a.part.now
+fit : (c : tie.Start) → let a = c.args in length (signed_text a.minus a.footage.feet) + length (field_text 43 a.footage.frames) ≤ length a.part.now
 fit c = let a = c.args in omega (arith, c.requires, feet-length a.minus a.format a.footage)
 
 add-second : tie.Need-overflow-add-second
@@ -31,12 +31,12 @@ part-put-marker-start : tie.Need-slice-bounds-put-marker-start
 part-put-marker-start c = omega (arith, fit c.before.before.before.before.before.before.before.before.before.before.before)
 
 returns : tie.Need-returns
-unfolding feetText
+unfolding feet_text
 returns c =
     let start = c.before.before.before.before.before.before.before.before.before.before.before.before.before.before.before in
     let a = start.args in
     let first = c.before.before.before.before.before.before.before.before.before.before.before.before.before.signed-length in
-    laid-three a.part.now _ _ _ (signedText a.minus a.footage.feet) (fieldText 43 a.footage.frames) (perfText a.format a.footage.perf)
+    laid-three a.part.now _ _ _ (signed_text a.minus a.footage.feet) (field_text 43 a.footage.frames) (perf_text a.format a.footage.perf)
     first.result _
     start.requires
     c.before.before.before.before.before.before.before.before.before.before.put-signed.ensures

@@ -5,14 +5,14 @@ use mathlib.Core.Path.{◌≡◌, refl, sym, ◌∙◌}
 use native.Mathlib.Omega.{arith}
 use lib.ListN.{length, drop}
 use borrow.Author.Rules.{rules}
-use Rattle.hex.specs.Digits.{allHexDigits}
+use Rattle.hex.specs.Digits.{all_hex_digits}
 use Rattle.hex.proofs.Pairs.{all-hex-stop, all-hex-on, all-hex-end}
 use Rattle.hex.proofs.all_hex_digits.Statement.{statement}
 use Rattle.hex.proofs.all_hex_digits.Tie as tie
 
 -- what is wanted from here is what is wanted from the start
 abbrev invariant-loop : tie.invariant-loop
-invariant-loop text i₀ i = allHexDigits text ≡ allHexDigits (drop i text)
+invariant-loop text i₀ i = all_hex_digits text ≡ all_hex_digits (drop i text)
 
 abbrev decreases-loop : tie.decreases-loop
 decreases-loop text i₀ i = length text - i

@@ -6,7 +6,7 @@ use native.Mathlib.Omega.{arith}
 use lib.ListN.{length}
 use borrow.Author.Rules.{rules}
 use Rattle.lent.proofs.Copying.{Copying, copying-done}
-use Rattle.hex.specs.Hex.{pairBytes}
+use Rattle.hex.specs.Hex.{pair_bytes}
 use Rattle.hex.proofs.Pairs.{pair-bytes-length}
 use Rattle.hex.proofs.Taking.{hex-pair}
 use Rattle.hex.proofs.Filling.{filling-turn}
@@ -14,7 +14,7 @@ use Rattle.hex.proofs.fill.Statement.{statement}
 use Rattle.hex.proofs.fill.Tie as tie
 
 abbrev invariant-loop : tie.invariant-loop
-invariant-loop text into₀ i₀ into i = Copying (pairBytes text) into₀ into i
+invariant-loop text into₀ i₀ into i = Copying (pair_bytes text) into₀ into i
 
 abbrev decreases-loop : tie.decreases-loop
 decreases-loop text into₀ i₀ into i = length text / 2 - i
@@ -53,7 +53,7 @@ returns : tie.Need-returns invariant-loop decreases-loop
 returns c =
     let b = c.before in
     let a = b.before.before.before.args in
-    copying-done (pairBytes a.text.now) a.into.now b.loop.into b.loop.i b.loop.invariant
+    copying-done (pair_bytes a.text.now) a.into.now b.loop.into b.loop.i b.loop.invariant
     (omega (arith, pair-bytes-length a.text.now, c.loop-test.false))
 
 pub fill_spec : {M : Type 1} → statement M

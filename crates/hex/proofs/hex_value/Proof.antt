@@ -4,28 +4,28 @@ use mathlib.Core.Path.{◌≡◌, sym, ◌∙◌}
 use mathlib.Core.Bool.{true, false}
 use native.Mathlib.Omega.{arith}
 use borrow.Author.Rules.{rules}
-use Rattle.hex.specs.Digits.{isFromTo}
+use Rattle.hex.specs.Digits.{is_from_to}
 use Rattle.hex.proofs.Digits.{from-to-bounds, value-figure, value-small, value-capital, value_none}
 use Rattle.hex.proofs.hex_value.Statement.{statement}
 use Rattle.hex.proofs.hex_value.Tie as tie
 
 -- what each test told
-is-figure : (c : tie.Then1) → isFromTo 48 57 c.before.before.args.b ≡ true
+is-figure : (c : tie.Then1) → is_from_to 48 57 c.before.before.args.b ≡ true
 is-figure c = sym c.before.is-from-to.ensures ∙ c.if1.true
 
-no-figure : (c : tie.Else1) → isFromTo 48 57 c.before.before.args.b ≡ false
+no-figure : (c : tie.Else1) → is_from_to 48 57 c.before.before.args.b ≡ false
 no-figure c = sym c.before.is-from-to.ensures ∙ c.if1.false
 
-is-small : (c : tie.Then2) → isFromTo 97 102 c.before.before.before.before.args.b ≡ true
+is-small : (c : tie.Then2) → is_from_to 97 102 c.before.before.before.before.args.b ≡ true
 is-small c = sym c.before.is-from-to2.ensures ∙ c.if2.true
 
-no-small : (c : tie.Else2) → isFromTo 97 102 c.before.before.before.before.args.b ≡ false
+no-small : (c : tie.Else2) → is_from_to 97 102 c.before.before.before.before.args.b ≡ false
 no-small c = sym c.before.is-from-to2.ensures ∙ c.if2.false
 
-is-capital : (c : tie.Then3) → isFromTo 65 70 c.before.before.before.before.before.before.args.b ≡ true
+is-capital : (c : tie.Then3) → is_from_to 65 70 c.before.before.before.before.before.before.args.b ≡ true
 is-capital c = sym c.before.is-from-to3.ensures ∙ c.if3.true
 
-no-capital : (c : tie.Else3) → isFromTo 65 70 c.before.before.before.before.before.before.args.b ≡ false
+no-capital : (c : tie.Else3) → is_from_to 65 70 c.before.before.before.before.before.before.args.b ≡ false
 no-capital c = sym c.before.is-from-to3.ensures ∙ c.if3.false
 
 sub-result : tie.Need-overflow-sub-result

@@ -5,14 +5,14 @@ use mathlib.Core.Path.{refl}
 use native.Mathlib.Omega.{arith}
 use lib.ListN.{length, length-set}
 use Rattle.lent.proofs.Copying.{Copying, copying-done}
-use Rattle.hex.specs.Hex.{digitPairs}
+use Rattle.hex.specs.Hex.{digit_pairs}
 use Rattle.hex.proofs.Pairs.{digit-pairs-length}
 use Rattle.hex.proofs.Filling.{putting-turn}
 use Rattle.hex.proofs.put_pairs.Statement.{statement}
 use Rattle.hex.proofs.put_pairs.Tie as tie
 
 abbrev invariant-loop : tie.invariant-loop
-invariant-loop part₀ bytes i₀ part i = Copying (digitPairs bytes) part₀ part (2 * i)
+invariant-loop part₀ bytes i₀ part i = Copying (digit_pairs bytes) part₀ part (2 * i)
 
 abbrev decreases-loop : tie.decreases-loop
 decreases-loop part₀ bytes i₀ part i = length bytes - i
@@ -54,7 +54,7 @@ returns : tie.Need-returns invariant-loop decreases-loop
 returns c =
     let b = c.before in
     let a = b.before.before.before.args in
-    copying-done (digitPairs a.bytes.now) a.part.now b.loop.part (2 * b.loop.i) b.loop.invariant
+    copying-done (digit_pairs a.bytes.now) a.part.now b.loop.part (2 * b.loop.i) b.loop.invariant
     (omega (arith, digit-pairs-length a.bytes.now, c.loop-test.false))
 
 pub put-pairs-spec : {M : Type 1} → statement M

@@ -3,13 +3,13 @@
 use mathlib.Core.Path.{◌≡◌, sym, ◌∙◌}
 use mathlib.Core.Bool.{true}
 use borrow.Author.Rules.{rules}
-use Rattle.hex.specs.Hex.{isHex}
+use Rattle.hex.specs.Hex.{is_hex}
 use Rattle.hex.proofs.Taking.{read-in, read_out, read_none}
 use Rattle.hex.proofs.read.Statement.{statement}
 use Rattle.hex.proofs.read.Tie as tie
 
 -- the text is HEX
-hex : (c : tie.Then1) → isHex c.before.before.before.before.args.text.now ≡ true
+hex : (c : tie.Then1) → is_hex c.before.before.before.before.args.text.now ≡ true
 hex c = sym c.before.is-hex.ensures ∙ c.if1.true
 
 fill-requires : tie.Need-fill-requires

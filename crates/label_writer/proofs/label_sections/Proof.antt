@@ -5,7 +5,7 @@ use lib.IntN.{nat_abs}
 use mir.Syntax.{w64}
 use mir.Val.{to_z, of_z}
 use borrow.Author.Rules.{rules}
-use Rattle.numbers.specs.Sign.{isNeg}
+use Rattle.numbers.specs.Sign.{is_neg}
 use Rattle.label_writer.proofs.Answers.{sections-made}
 use Rattle.label_writer.proofs.label_sections.Statement.{statement}
 use Rattle.label_writer.proofs.label_sections.Tie as tie
@@ -15,7 +15,7 @@ returns c =
     let start = c.before.before.before.before.before in
     let tc = start.args.tc in
     let back : to_z w64 (of_z w64 tc.count) ≡ tc.count = search rules in
-    sections-made tc _ _ _ start.requires (c.before.before.before.magnitude.ensures ∙ ap nat_abs back) (c.below-zero.ensures ∙ ap isNeg back)
+    sections-made tc _ _ _ start.requires (c.before.before.before.magnitude.ensures ∙ ap nat_abs back) (c.below-zero.ensures ∙ ap is_neg back)
     c.before.before.sections.ensures
 
 pub label-sections-spec : {M : Type 1} → statement M

@@ -7,7 +7,7 @@ use Rattle.answers.specs.OrderLaws.{judged-refused, judged-clear, unless-clear}
 use Rattle.timecodes.specs.Admitted.{admits}
 use Rattle.timecodes.specs.AdmittedLaws.{admits-valid}
 use Rattle.label_writer.specs.declared.Sectioned.TheVariants.{Sections, Refused}
-use Rattle.label_writer.specs.Sections.{labelSections, sectioned}
+use Rattle.label_writer.specs.Sections.{label_sections, sectioned}
 use Rattle.label_writer.proofs.sections.Statement.{statement}
 use Rattle.label_writer.proofs.sections.Tie as tie
 
@@ -21,7 +21,7 @@ returns : tie.Need-returns
 unfolding sectioned
 returns c =
     let tc = c.before.before.before.before.args.tc in
-    let text = Sections (labelSections tc.rate tc.count) in
+    let text = Sections (label_sections tc.rate tc.count) in
     ap Sections c.label-sections.ensures ∙ sym (unless-clear Refused (admits tc) text (clear c.before))
 
 returns-2 : tie.Need-returns-2
@@ -30,7 +30,7 @@ returns-2 c =
     let tc = c.before.before.before.before.args.tc in
     sym
     (judged-refused (admits tc) _ (sym c.before.before.before.admit.ensures ∙ c.before.e.given.1) Refused
-    (Sections (labelSections tc.rate tc.count)))
+    (Sections (label_sections tc.rate tc.count)))
 
 pub sections-spec : {M : Type 1} → statement M
 sections-spec =

@@ -4,24 +4,24 @@ use mathlib.Core.Path.{refl}
 use Prim.Native.Nat.{◌+◌, ◌*◌, ◌-◌, ◌/◌, ◌≤◌, ◌<◌}
 use native.Mathlib.Omega.{arith}
 use borrow.Author.Rules.{rules}
-use Rattle.labels.specs.Label.{labelCount, hoursIn, minutesIn, secondsIn, framesIn}
+use Rattle.labels.specs.Label.{label_count, hours_in, minutes_in, seconds_in, frames_in}
 use Rattle.labels.specs.LabelLaws.{dropped-le}
-use Rattle.labels.specs.Sections.{labelNumber}
+use Rattle.labels.specs.Sections.{label_number}
 use Rattle.labels.specs.BoundLaws.{number_short}
 use Rattle.labels.proofs.count_in.Statement.{statement}
 use Rattle.labels.proofs.count_in.Tie as tie
 
 -- the number of the fields is below 10 ^ 15, and what is taken from it is no more
-number_small : (c : tie.Start) → labelNumber c.args.timebase c.args.t1 < 1_000_000_000_000_000
+number_small : (c : tie.Start) → label_number c.args.timebase c.args.t1 < 1_000_000_000_000_000
 number_small c = number_short c.args.timebase (omega arith) c.args.t1 c.requires.0
 
 taken-small :
     (c : tie.Start)
-    → let m = 60 * hoursIn c.args.t1 + minutesIn c.args.t1 in
-    c.args.d * (m - m / 10) ≤ labelNumber c.args.timebase c.args.t1
+    → let m = 60 * hours_in c.args.t1 + minutes_in c.args.t1 in
+    c.args.d * (m - m / 10) ≤ label_number c.args.timebase c.args.t1
 taken-small c =
     let f = c.args.t1 in
-    dropped-le c.args.timebase c.args.d (omega arith) (hoursIn f) (minutesIn f) (secondsIn f) (framesIn f)
+    dropped-le c.args.timebase c.args.d (omega arith) (hours_in f) (minutes_in f) (seconds_in f) (frames_in f)
 
 mul-result-2 : tie.Need-overflow-mul-result-2
 mul-result-2 c = omega (arith, number_small c)
@@ -36,7 +36,7 @@ sub-result-2 : tie.Need-overflow-sub-result-2
 sub-result-2 c = omega (arith, taken-small c)
 
 returns : tie.Need-returns
-unfolding labelCount
+unfolding label_count
 returns c = refl
 
 pub count-in-spec : {M : Type 1} → statement M

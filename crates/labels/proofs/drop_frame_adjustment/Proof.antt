@@ -5,14 +5,14 @@ use Prim.Native.Nat.{ℕ, ◌+◌, ◌*◌, ◌-◌, ◌/◌, ◌%◌, ◌≤◌
 use native.Mathlib.Nat.{mul-le-mul, zero-div}
 use native.Mathlib.Omega.{arith}
 use borrow.Author.Rules.{rules}
-use Rattle.answers.specs.Refusals.{mostCount}
+use Rattle.answers.specs.Refusals.{most_count}
 use Rattle.labels.specs.BoundLaws.{minutes-le}
-use Rattle.labels.specs.Sections.{droppedBefore}
+use Rattle.labels.specs.Sections.{dropped_before}
 use Rattle.labels.proofs.drop_frame_adjustment.Statement.{statement}
 use Rattle.labels.proofs.drop_frame_adjustment.Tie as tie
 
 -- the minutes whose labels are dropped, and the labels, are bounded by the count
-module _ (timebase D n : ℕ) (small : timebase ≤ 60) (d : D < timebase) (h : n ≤ mostCount) where
+module _ (timebase D n : ℕ) (small : timebase ≤ 60) (d : D < timebase) (h : n ≤ most_count) where
   abbrev tens : ℕ
   tens = 600 * timebase - 9 * D
 
@@ -29,8 +29,8 @@ module _ (timebase D n : ℕ) (small : timebase ≤ 60) (d : D < timebase) (h : 
   all-labels = let l : D ≤ 60 = omega arith in mul-le-mul l all-minutes
 
   -- no minute more, where the rest is below D
-  none_more : n % tens < D → D * (9 * (n / tens)) ≡ droppedBefore timebase D n
-  unfolding droppedBefore
+  none_more : n % tens < D → D * (9 * (n / tens)) ≡ dropped_before timebase D n
+  unfolding dropped_before
   none_more l =
       let z : n % tens - D ≡ 0 = omega arith in
       rw (z, zero-div (60 * timebase - D)) (omega arith)
@@ -64,7 +64,7 @@ mul-result-5 c =
     omega (arith, all-labels a.timebase a.d a.n (omega arith) (omega arith) (omega arith))
 
 returns-2 : tie.Need-returns-2
-unfolding droppedBefore
+unfolding dropped_before
 returns-2 c = refl
 
 pub drop-frame-adjustment-spec : {M : Type 1} → statement M

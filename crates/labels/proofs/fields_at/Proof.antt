@@ -2,12 +2,12 @@
 -- Assumes nothing.
 use mathlib.Core.Path.{refl}
 use borrow.Author.Rules.{rules}
-use Rattle.labels.specs.Sections.{fieldsAt}
+use Rattle.labels.specs.Sections.{fields_at}
 use Rattle.labels.proofs.fields_at.Statement.{statement}
 use Rattle.labels.proofs.fields_at.Tie as tie
 
 returns : tie.Need-returns
-unfolding fieldsAt
+unfolding fields_at
 returns c = refl
 
 pub fields-at-spec : {M : Type 1} → statement M

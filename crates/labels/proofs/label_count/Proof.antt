@@ -10,28 +10,28 @@ use Rattle.numbers.specs.Sign.{signed}
 use Rattle.numbers.proofs.Tests.{fails, passes}
 use Rattle.answers.specs.Refusals.{beyond, held}
 use Rattle.answers.specs.Laws.{held-past}
-use Rattle.rates.specs.Rates.{isRate, rateRow, dropFrames}
+use Rattle.rates.specs.Rates.{is_rate, rate_row, drop_frames}
 use Rattle.rates.specs.Laws.{drop-small}
-use Rattle.labels.specs.Label.{countIn, isShort}
-use Rattle.labels.specs.BoundLaws.{isShort-out}
-use Rattle.labels.specs.AtRate.{labelFrames, framesOr, framesOr-in, framesOr-long, labelCounted-in, labelCounted-out}
+use Rattle.labels.specs.Label.{count_in, is_short}
+use Rattle.labels.specs.BoundLaws.{is_short-out}
+use Rattle.labels.specs.AtRate.{label_frames, frames_or, frames_or-in, frames_or-long, label_counted-in, label_counted-out}
 use Rattle.labels.proofs.label_count.Statement.{statement}
 use Rattle.labels.proofs.label_count.Tie as tie
 
 returns : tie.Need-returns
-returns c = sym (labelCounted-out _ _ _ (fails c.before.is-rate.ensures c.if1.true))
+returns c = sym (label_counted-out _ _ _ (fails c.before.is-rate.ensures c.if1.true))
 
 -- what is answered is held as the count is
-held_same : (rate : ℕ) (minus : Bool) (fields : List ℕ) → isRate rate ≡ true
-    → held (signed minus (framesOr rate fields)) ≡ held (labelFrames rate minus fields)
-held_same rate minus fields e = by (isShort fields) refl
+held_same : (rate : ℕ) (minus : Bool) (fields : List ℕ) → is_rate rate ≡ true
+    → held (signed minus (frames_or rate fields)) ≡ held (label_frames rate minus fields)
+held_same rate minus fields e = by (is_short fields) refl
   where
-    by : (t : Bool) → isShort fields ≡ t → held (signed minus (framesOr rate fields)) ≡ held (labelFrames rate minus fields)
-    by true f = ap (λ (m : ℕ). held (signed minus m)) (framesOr-in rate fields e f)
+    by : (t : Bool) → is_short fields ≡ t → held (signed minus (frames_or rate fields)) ≡ held (label_frames rate minus fields)
+    by true f = ap (λ (m : ℕ). held (signed minus m)) (frames_or-in rate fields e f)
     by false f =
-        ap (λ (m : ℕ). held (signed minus m)) (framesOr-long rate fields e f)
+        ap (λ (m : ℕ). held (signed minus m)) (frames_or-long rate fields e f)
         ∙ held-past minus beyond (omega arith)
-        ∙ sym (held-past minus (countIn (rateRow rate).timebase (dropFrames rate) fields) (isShort-out _ _ fields (drop-small rate e) f))
+        ∙ sym (held-past minus (count_in (rate_row rate).timebase (drop_frames rate) fields) (is_short-out _ _ fields (drop-small rate e) f))
 
 returns-2 : tie.Need-returns-2
 returns-2 c =
@@ -41,7 +41,7 @@ returns-2 c =
     c.held.ensures
     ∙ ap (λ (m : ℕ). held (signed a.minus m)) c.before.label-frames.ensures
     ∙ held_same a.rate a.minus a.fields e
-    ∙ sym (labelCounted-in a.rate a.minus a.fields e)
+    ∙ sym (label_counted-in a.rate a.minus a.fields e)
 
 pub label-count-spec : {M : Type 1} → statement M
 label-count-spec = tie.close (tie.spec (λ c κs. search rules) returns (λ c κs. search rules) (λ c κs. search rules) returns-2)

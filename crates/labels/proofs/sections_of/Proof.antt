@@ -5,7 +5,7 @@ use Prim.Native.Nat.{◌+◌}
 use native.Mathlib.Omega.{arith}
 use borrow.Author.Rules.{rules}
 use Rattle.labels.specs.BoundLaws.{dropped-short}
-use Rattle.labels.specs.Sections.{fieldsAt, sectionsOf}
+use Rattle.labels.specs.Sections.{fields_at, sections_of}
 use Rattle.labels.proofs.sections_of.Statement.{statement}
 use Rattle.labels.proofs.sections_of.Tie as tie
 
@@ -15,10 +15,10 @@ add-number c =
     omega (arith, c.drop-frame-adjustment.ensures, dropped-short a.timebase a.d a.n (omega arith) (omega arith))
 
 returns : tie.Need-returns
-unfolding sectionsOf
+unfolding sections_of
 returns c =
     let a = c.before.before.args in
-    c.fields_at.ensures ∙ ap (λ k. fieldsAt a.timebase (a.n + k)) c.before.drop-frame-adjustment.ensures
+    c.fields_at.ensures ∙ ap (λ k. fields_at a.timebase (a.n + k)) c.before.drop-frame-adjustment.ensures
 
 pub sections-of-spec : {M : Type 1} → statement M
 sections-of-spec =

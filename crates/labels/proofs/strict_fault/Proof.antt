@@ -3,12 +3,12 @@
 use mathlib.Core.Path.{◌∙◌, ap₂}
 use borrow.Author.Rules.{rules}
 use Rattle.faults.specs.Faults.{leftmost}
-use Rattle.labels.specs.Faults.{strictFault}
+use Rattle.labels.specs.Faults.{strict_fault}
 use Rattle.labels.proofs.strict_fault.Statement.{statement}
 use Rattle.labels.proofs.strict_fault.Tie as tie
 
 returns : tie.Need-returns
-unfolding strictFault
+unfolding strict_fault
 returns c =
     let seconds-on = c.before in
     let seconds = seconds-on.before in

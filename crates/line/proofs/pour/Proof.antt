@@ -2,7 +2,7 @@
 -- Assumes nothing.
 use mathlib.Core.Path.{ap}
 use borrow.Author.Rules.{rules}
-use Rattle.feeding.proofs.Statements.{taken-whole}
+use Rattle.feeding.proofs.Statements.{taken_whole}
 use Rattle.line.proofs.pour.Statement.{statement}
 use Rattle.line.proofs.pour.Tie as tie
 
@@ -12,7 +12,7 @@ returns c =
     let start = fed.before.before.before.before.before.before in
     let a = start.args in
     let e = fed.feed.ensures in
-    (taken-whole a.buffer.now a.out.now a.g a.chunk.now start.requires.1, (ap (λ z. z.gathered) e.0, e.1.0))
+    (taken_whole a.buffer.now a.out.now a.g a.chunk.now start.requires.1, (ap (λ z. z.gathered) e.0, e.1.0))
 
 pub pour-spec : {M : Type 1} → statement M
 pour-spec =

@@ -7,7 +7,7 @@ use Rattle.timecodes.specs.declared.Answer.TheVariants.{At, Refused}
 use Rattle.written.specs.Written.{Text}
 use Rattle.written.proofs.Laws.{meets-same}
 use Rattle.lines.specs.Input.{line_of}
-use Rattle.lines.specs.Output.{refusedText, heldText, answerText}
+use Rattle.lines.specs.Output.{refused_text, held_text, answer_text}
 use Rattle.lines.proofs.Held.{Sound, line-sound}
 use Rattle.lines.proofs.answer.Statement.{statement}
 use Rattle.lines.proofs.answer.Tie as tie
@@ -23,21 +23,21 @@ write-timecode-requires : tie.Need-write-timecode-requires
 write-timecode-requires c κs = subst Sound (held c.before.before) (line-sound c.before.before.before.before.before.before.before.args.input.now)
 
 returns : tie.Need-returns
-unfolding answerText
+unfolding answer_text
 returns c =
     let told = c.before.before.before.before.before in
     let a = told.before.before.before.before.before.args in
-    meets-same a.out.now a.place (Text (answerText a.input.now)) _ _ _
-    (ap (λ x. Text (heldText x)) (sym (held told))) c.before.before.write-timecode.ensures
+    meets-same a.out.now a.place (Text (answer_text a.input.now)) _ _ _
+    (ap (λ x. Text (held_text x)) (sym (held told))) c.before.before.write-timecode.ensures
 
 returns-2 : tie.Need-returns-2
-unfolding answerText
+unfolding answer_text
 returns-2 c =
     let number = c.before.before.before.before in
     let told = number.before.before in
     let a = told.before.before.before.before.before.args in
-    let same = ap (λ (n : ℕ). Text (refusedText n)) number.wide.ensures ∙ ap (λ x. Text (heldText x)) (sym (refused told)) in
-    meets-same a.out.now a.place (Text (answerText a.input.now)) _ _ _ same c.before.before.write-refused.ensures
+    let same = ap (λ (n : ℕ). Text (refused_text n)) number.wide.ensures ∙ ap (λ x. Text (held_text x)) (sym (refused told)) in
+    meets-same a.out.now a.place (Text (answer_text a.input.now)) _ _ _ same c.before.before.write-refused.ensures
 
 pub answer-spec : {M : Type 1} → statement M
 answer-spec =

@@ -4,9 +4,9 @@ use Prim.Native.Nat.{◌+◌, ◌≤◌}
 use native.Mathlib.Omega.{arith}
 use lib.ListN.{length}
 use borrow.Author.Rules.{rules}
-use Rattle.label_writer.specs.LabelText.{sectionsLength}
+use Rattle.label_writer.specs.LabelText.{sections_length}
 use Rattle.label_writer.proofs.Answers.{sections-most}
-use Rattle.written.specs.Parts.{signedText}
+use Rattle.written.specs.Parts.{signed_text}
 use Rattle.written.proofs.Parts.{padded-most}
 use Rattle.lines.proofs.Texts.{columns-length}
 use Rattle.lines.proofs.columns_length.Statement.{statement}
@@ -15,7 +15,7 @@ use Rattle.lines.proofs.columns_length.Tie as tie
 -- no sum on the way to it wraps
 short : (c : tie.Start)
     → let a = c.args.c in
-    length (signedText a.below a.count) + sectionsLength a.sections + length (signedText a.minus a.ticks) ≤ 126
+    length (signed_text a.below a.count) + sections_length a.sections + length (signed_text a.minus a.ticks) ≤ 126
 short c =
     let a = c.args.c in
     let s = a.sections in

@@ -5,7 +5,7 @@ use lib.IntN.{nat_abs}
 use mir.Syntax.{w64}
 use mir.Val.{to_z, of_z}
 use borrow.Author.Rules.{rules}
-use Rattle.numbers.specs.Sign.{isNeg}
+use Rattle.numbers.specs.Sign.{is_neg}
 use Rattle.lines.proofs.columns_of.Statement.{statement}
 use Rattle.lines.proofs.columns_of.Tie as tie
 
@@ -15,9 +15,9 @@ returns c =
     let instant = c.before.before.before.before.before.before.instant-of in
     let back : to_z w64 (of_z w64 a.tc.count) ≡ a.tc.count = search rules in
     let there : to_z w64 (of_z w64 instant.result) ≡ instant.result = search rules in
-    let below = c.before.before.before.before.below-zero.ensures ∙ ap isNeg back in
+    let below = c.before.before.before.before.below-zero.ensures ∙ ap is_neg back in
     let count = c.before.before.magnitude.ensures ∙ ap nat_abs back in
-    let minus = c.before.below-zero2.ensures ∙ ap isNeg (there ∙ instant.ensures) in
+    let minus = c.before.below-zero2.ensures ∙ ap is_neg (there ∙ instant.ensures) in
     let ticks = c.magnitude2.ensures ∙ ap nat_abs (there ∙ instant.ensures) in
     rw (below, count, minus, ticks)
 

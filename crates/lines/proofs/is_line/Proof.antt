@@ -6,7 +6,7 @@ use mathlib.Core.Path.{◌≡◌, sym, ◌∙◌}
 use mathlib.Core.Bool.{true}
 use borrow.Author.Tests.{not-true, not-false}
 use lib.ListN.{length, get_or}
-use Rattle.digits.specs.Digits.{isDigit}
+use Rattle.digits.specs.Digits.{is_digit}
 use Rattle.lines.proofs.Begun.{long-none, short_none, first-none, second_none, by-space}
 use borrow.Author.Rules.{rules}
 use Rattle.lines.proofs.is_line.Statement.{statement}
@@ -30,7 +30,7 @@ returns-3 c =
     let long = c.before.before.before in
     sym (first-none long.before.before.before.args.input.now (least long) (most long) (sym c.before.is_digit.ensures ∙ not-true _ c.if3.true))
 
-first : (c : tie.Else3) → isDigit (get_or c.before.before.before.before.before.before.args.input.now 0 0) ≡ true
+first : (c : tie.Else3) → is_digit (get_or c.before.before.before.before.before.before.args.input.now 0 0) ≡ true
 first c = sym c.before.is_digit.ensures ∙ not-false _ c.if3.false
 
 returns-4 : tie.Need-returns-4

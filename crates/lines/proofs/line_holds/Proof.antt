@@ -2,18 +2,18 @@
 -- Assumes nothing.
 use mathlib.Core.Path.{sym, ap}
 use borrow.Author.Rules.{rules}
-use Rattle.lines.specs.Input.{lineHolds}
+use Rattle.lines.specs.Input.{line_holds}
 use Rattle.lines.proofs.line_holds.Statement.{statement}
 use Rattle.lines.proofs.line_holds.Tie as tie
 
 returns : tie.Need-returns
-returns c = sym (ap lineHolds c.before.read.given.1)
+returns c = sym (ap line_holds c.before.read.given.1)
 
 returns-2 : tie.Need-returns-2
-returns-2 c = sym (ap lineHolds c.before.read2.given.1)
+returns-2 c = sym (ap line_holds c.before.read2.given.1)
 
 returns-3 : tie.Need-returns-3
-returns-3 c = sym (ap lineHolds c.before.read3.given.1)
+returns-3 c = sym (ap line_holds c.before.read3.given.1)
 
 pub line-holds-spec : {M : Type 1} → statement M
 line-holds-spec =

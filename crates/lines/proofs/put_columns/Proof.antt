@@ -5,17 +5,17 @@ use native.Mathlib.Omega.{arith}
 use lib.ListN.{length}
 use borrow.Author.Rules.{rules}
 use Rattle.lent.proofs.Laws.{laid-three}
-use Rattle.label_writer.specs.LabelText.{sectionsLength}
-use Rattle.written.specs.Parts.{signedText}
-use Rattle.lines.specs.Output.{endedText, labelColumn}
-use Rattle.lines.proofs.Texts.{ended-length, label-length, columns-length}
+use Rattle.label_writer.specs.LabelText.{sections_length}
+use Rattle.written.specs.Parts.{signed_text}
+use Rattle.lines.specs.Output.{ended_text, label_column}
+use Rattle.lines.proofs.Texts.{ended-length, label_length, columns-length}
 use Rattle.lines.proofs.put_columns.Statement.{statement}
 use Rattle.lines.proofs.put_columns.Tie as tie
 
 -- the columns lie within the room asked for
 fit : (c : tie.Start)
     → let a = c.args.c in
-    length (signedText a.below a.count) + sectionsLength a.sections + length (signedText a.minus a.ticks) + 3 ≤ length c.args.part.now
+    length (signed_text a.below a.count) + sections_length a.sections + length (signed_text a.minus a.ticks) + 3 ≤ length c.args.part.now
 fit c = omega (arith, c.requires, columns-length c.args.c)
 
 add-first : tie.Need-overflow-add-first
@@ -42,7 +42,7 @@ part-put-label-start c = omega (arith, fit c.before.before.before.before.before.
 put-label-requires : tie.Need-put-label-requires
 put-label-requires c κs =
     let start = c.before.before.before.before.before.before.before.before.before in
-    omega (arith, fit start, label-length start.args.c)
+    omega (arith, fit start, label_length start.args.c)
 
 sub-put-ended : tie.Need-overflow-sub-put-ended
 sub-put-ended c = omega (arith, fit c.before.before.before.before.before.before.before.before.before.before.before.before)
@@ -64,12 +64,12 @@ returns c =
     let first = second.before in
     let start = first.before.before.before in
     let a = start.args.c in
-    laid-three start.args.part.now _ _ _ (endedText a.below a.count 32) (labelColumn a) (endedText a.minus a.ticks 10) _ _
+    laid-three start.args.part.now _ _ _ (ended_text a.below a.count 32) (label_column a) (ended_text a.minus a.ticks 10) _ _
     start.requires
     number.put_ended.ensures
     (omega (arith, first.signed-length.ensures, ended-length a.below a.count 32))
     label.put-label.ensures
-    (omega (arith, second.sections-length.ensures, label-length a))
+    (omega (arith, second.sections-length.ensures, label_length a))
     c.before.before.put-ended2.ensures
 
 pub put-columns-spec : {M : Type 1} → statement M

@@ -7,16 +7,16 @@ use mathlib.Core.List.{[], ◌∷◌}
 use lib.ListN.{length, length-append}
 use borrow.Author.Rules.{rules}
 use Rattle.lent.proofs.Laws.{laid-lent}
-use Rattle.label_writer.specs.LabelText.{framesMark, sectionsText, sectionsLength}
+use Rattle.label_writer.specs.LabelText.{frames_mark, sections_text, sections_length}
 use Rattle.label_writer.proofs.Answers.{sections-same}
 use Rattle.lines.proofs.put_label.Statement.{statement}
 use Rattle.lines.proofs.put_label.Tie as tie
 
 -- the label lies within the room asked for
-fit : (c : tie.Start) → sectionsLength c.args.s ≤ length c.args.part.now
+fit : (c : tie.Start) → sections_length c.args.s ≤ length c.args.part.now
 fit c =
     let a = c.args in
-    omega (arith, c.requires, length-append (sectionsText (framesMark a.rate) a.s) (32 ∷ []), sections-same (framesMark a.rate) a.s)
+    omega (arith, c.requires, length-append (sections_text (frames_mark a.rate) a.s) (32 ∷ []), sections-same (frames_mark a.rate) a.s)
 
 sub-put-byte : tie.Need-overflow-sub-put-byte
 sub-put-byte c = omega (arith, fit c.before.before.before.before.before.before)
@@ -28,9 +28,9 @@ returns : tie.Need-returns
 returns c =
     let start = c.before.before.before.before.before.before.before.before.before.before in
     let a = start.args in
-    laid-lent a.part.now _ _ (sectionsText (framesMark a.rate) a.s) (32 ∷ []) _
-    c.before.before.before.before.before.before.put-sections.ensures
-    (c.before.before.before.before.before.before.before.before.sections-length.ensures ∙ sections-same (framesMark a.rate) a.s)
+    laid-lent a.part.now _ _ (sections_text (frames_mark a.rate) a.s) (32 ∷ []) _
+    c.before.before.before.before.before.before.put_sections.ensures
+    (c.before.before.before.before.before.before.before.before.sections-length.ensures ∙ sections-same (frames_mark a.rate) a.s)
     start.requires
     c.before.before.put_byte.ensures
 

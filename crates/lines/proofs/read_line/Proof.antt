@@ -10,9 +10,9 @@ use lib.Seq.{take_all}
 use borrow.Author.Rules.{rules}
 use Rattle.numbers.proofs.Tests.{fails, passes}
 use Rattle.reading.specs.declared.Stated.TheVariants.{Nothing}
-use Rattle.reading.specs.Reading.{readText}
+use Rattle.reading.specs.Reading.{read_text}
 use Rattle.reading.specs.ForLaws.{read_length}
-use Rattle.lines.specs.Input.{is_line, textIn, lineHolds}
+use Rattle.lines.specs.Input.{is_line, text_in, line_holds}
 use Rattle.lines.proofs.Begun.{line-least, not_line, line-held}
 use Rattle.lines.proofs.read_line.Statement.{statement}
 use Rattle.lines.proofs.read_line.Tie as tie
@@ -39,12 +39,12 @@ returns-2 : tie.Need-returns-2
 returns-2 c =
     let there = c.before.before.before.before in
     let l = there.before.before.before.args.input.now in
-    let rest : take (length l - 3) (drop 3 l) ≡ textIn l = take_all (length l - 3) (drop 3 l) (omega (arith, length-drop 3 l)) in
+    let rest : take (length l - 3) (drop 3 l) ≡ text_in l = take_all (length l - 3) (drop 3 l) (omega (arith, length-drop 3 l)) in
     c.line-holds.ensures
-    ∙ ap lineHolds
+    ∙ ap line_holds
     (c.before.read-text.ensures
     ∙ read_length _ Nothing _
-    ∙ ap₂ (λ (t : List ℕ) (r : ℕ). readText t Nothing r) rest c.before.before.before.rate-in.ensures)
+    ∙ ap₂ (λ (t : List ℕ) (r : ℕ). read_text t Nothing r) rest c.before.before.before.rate-in.ensures)
     ∙ sym (line-held l (line there))
 
 pub read-line-spec : {M : Type 1} → statement M

@@ -6,15 +6,15 @@ use lib.ListN.{length}
 use borrow.Author.Rules.{rules}
 use Rattle.lent.proofs.Laws.{part_length, fits-yes}
 use Rattle.written.proofs.Laws.{meets-in, meets-out}
-use Rattle.lines.specs.Output.{columnsText}
+use Rattle.lines.specs.Output.{columns_text}
 use Rattle.lines.proofs.write_columns.Statement.{statement}
 use Rattle.lines.proofs.write_columns.Tie as tie
 
 -- with room, the columns lie within the line
-fit : (c : tie.Then1) → let a = c.before.before.before.before.args in a.place + length (columnsText a.c) ≤ length a.out.now
+fit : (c : tie.Then1) → let a = c.before.before.before.before.args in a.place + length (columns_text a.c) ≤ length a.out.now
 fit c =
     let a = c.before.before.before.before.args in
-    fits-yes a.out.now a.place (columnsText a.c) _ _ c.before.before.columns-length.ensures c.before.room.ensures c.if1.true
+    fits-yes a.out.now a.place (columns_text a.c) _ _ c.before.before.columns-length.ensures c.before.room.ensures c.if1.true
 
 sub-put-columns : tie.Need-overflow-sub-put-columns
 sub-put-columns c = omega (arith, fit c)
@@ -29,13 +29,13 @@ returns : tie.Need-returns
 returns c =
     let tested = c.before.before.before.before in
     let a = tested.before.before.before.before.args in
-    meets-in a.out.now a.place (columnsText a.c) _ _ tested.before.before.columns-length.ensures tested.before.room.ensures _
+    meets-in a.out.now a.place (columns_text a.c) _ _ tested.before.before.columns-length.ensures tested.before.room.ensures _
     tested.if1.true c.before.before.put-columns.ensures
 
 returns-2 : tie.Need-returns-2
 returns-2 c =
     let a = c.before.before.before.before.args in
-    meets-out a.out.now a.place (columnsText a.c) _ _ c.before.before.columns-length.ensures c.before.room.ensures c.if1.false
+    meets-out a.out.now a.place (columns_text a.c) _ _ c.before.before.columns-length.ensures c.before.room.ensures c.if1.false
 
 pub write-columns-spec : {M : Type 1} → statement M
 write-columns-spec =

@@ -4,7 +4,7 @@ use mathlib.Core.Path.{sym, ap, ◌∙◌}
 use borrow.Author.Rules.{rules}
 use Rattle.written.specs.Written.{Text}
 use Rattle.written.proofs.Laws.{meets-same}
-use Rattle.lines.specs.Output.{columnsText}
+use Rattle.lines.specs.Output.{columns_text}
 use Rattle.lines.proofs.Texts.{sections-never, columns-are}
 use Rattle.lines.proofs.write_timecode.Statement.{statement}
 use Rattle.lines.proofs.write_timecode.Tie as tie
@@ -17,7 +17,7 @@ returns c =
     let start = label.before.before in
     let a = start.args in
     let there = sym label.sections.ensures ∙ told.s.given.1 in
-    let same = ap (λ k. Text (columnsText k)) columns.columns_of.ensures ∙ ap Text (columns-are a.tc start.requires _ there) in
+    let same = ap (λ k. Text (columns_text k)) columns.columns_of.ensures ∙ ap Text (columns-are a.tc start.requires _ there) in
     meets-same a.out.now a.place _ _ _ _ same c.before.before.write-columns.ensures
 
 returns-2 : tie.Need-returns-2

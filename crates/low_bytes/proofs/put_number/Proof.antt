@@ -5,7 +5,7 @@ use mathlib.Core.Path.{sym}
 use native.Mathlib.Omega.{arith}
 use borrow.Author.Rules.{rules}
 use Rattle.lent.proofs.Laws.{laid_out}
-use Rattle.low_bytes.specs.LowBytes.{lowBytes}
+use Rattle.low_bytes.specs.LowBytes.{low_bytes}
 use Rattle.low_bytes.specs.Laws.{low-length}
 use Rattle.low_bytes.proofs.Laying.{Laying, laying-start, laying-turn, laying-done}
 use Rattle.low_bytes.proofs.put_number.Statement.{statement}
@@ -18,7 +18,7 @@ abbrev decreases-loop : tie.decreases-loop
 decreases-loop part₀ width n rest₀ i₀ part rest i = width - i
 
 returns : tie.Need-returns invariant-loop decreases-loop
-returns c = let a = c.before.args in sym (laid_out _ (lowBytes a.width a.n) (omega (arith, low-length a.width a.n)))
+returns c = let a = c.before.args in sym (laid_out _ (low_bytes a.width a.n) (omega (arith, low-length a.width a.n)))
 
 loop-holds : tie.Need-loop-init invariant-loop decreases-loop
 loop-holds c = laying-start _ _ _ (omega arith)

@@ -3,7 +3,7 @@
 use mathlib.Core.Path.{ap, ◌∙◌}
 use borrow.Author.Rules.{rules}
 use Rattle.lent.specs.Line.{laid}
-use Rattle.low_bytes.specs.LowBytes.{lowBytes, twosOf}
+use Rattle.low_bytes.specs.LowBytes.{low_bytes, twos_of}
 use mir.Facts.{to_z-of_z}
 use Prim.Native.Nat.{ℕ}
 use Rattle.low_bytes.proofs.put_signed.Statement.{statement}
@@ -13,7 +13,7 @@ returns : tie.Need-returns
 returns c =
     let start = c.before.before.before.before.before.before in
     c.before.before.put-number.ensures
-    ∙ ap (λ (n : ℕ). laid start.args.part.now (lowBytes 4 n)) (c.before.before.before.twos-of.ensures ∙ ap (twosOf 4) (to_z-of_z start.ranges.z))
+    ∙ ap (λ (n : ℕ). laid start.args.part.now (low_bytes 4 n)) (c.before.before.before.twos-of.ensures ∙ ap (twos_of 4) (to_z-of_z start.ranges.z))
 
 pub put-signed-spec : {M : Type 1} → statement M
 put-signed-spec = tie.close (tie.spec (λ c κs. search rules) (λ c κs. search rules) (λ c. search rules) returns)

@@ -6,9 +6,9 @@ use native.Mathlib.Omega.{arith}
 use lib.IntN.{nat_abs}
 use borrow.Author.Rules.{rules}
 use mir.Facts.{to_z-of_z}
-use Rattle.numbers.specs.Sign.{isNeg}
+use Rattle.numbers.specs.Sign.{is_neg}
 use Rattle.numbers.proofs.Tests.{fails, passes}
-use Rattle.low_bytes.specs.LowBytes.{twosOf}
+use Rattle.low_bytes.specs.LowBytes.{twos_of}
 use Rattle.low_bytes.specs.Laws.{twos-pos, twos-neg}
 use Rattle.low_bytes.proofs.twos_of.Statement.{statement}
 use Rattle.low_bytes.proofs.twos_of.Tie as tie
@@ -17,11 +17,11 @@ use Rattle.low_bytes.proofs.twos_of.Tie as tie
 size : (c : tie.After-magnitude) → c.magnitude.result ≡ nat_abs c.before.args.z
 size c = c.magnitude.ensures ∙ ap nat_abs (to_z-of_z c.before.ranges.z)
 
-minus : (c : tie.After-below-zero) → c.below-zero.result ≡ isNeg c.before.before.args.z
-minus c = c.below-zero.ensures ∙ ap isNeg (to_z-of_z c.before.before.ranges.z)
+minus : (c : tie.After-below-zero) → c.below-zero.result ≡ is_neg c.before.before.args.z
+minus c = c.below-zero.ensures ∙ ap is_neg (to_z-of_z c.before.before.ranges.z)
 
 -- of a number below zero
-below : (c : tie.Else1) → twosOf 4 c.before.before.before.args.z ≡ 4294967296 - c.before.before.magnitude.result
+below : (c : tie.Else1) → twos_of 4 c.before.before.before.args.z ≡ 4294967296 - c.before.before.magnitude.result
 below c =
     twos-neg 4 c.before.before.before.args.z (passes (minus c.before) c.if1.false)
     ∙ ap (λ (m : ℕ). 4294967296 - m) (sym (size c.before.before))

@@ -9,16 +9,16 @@ use mir.Syntax.{w64}
 use mir.Val.{to_z}
 use Rattle.answers.specs.declared.Counted.TheVariants.{Count}
 use Rattle.numbers.proofs.Tests.{tests}
-use Rattle.minutes.specs.Minutes.{minuteAt}
+use Rattle.minutes.specs.Minutes.{minute_at}
 use Rattle.minutes.proofs.minute_start.Statement.{statement}
 use Rattle.minutes.proofs.minute_start.Tie as tie
 
 returns : tie.Need-returns
-unfolding minuteAt
+unfolding minute_at
 returns c = search tests
 
 returns-2 : tie.Need-returns-2
-unfolding minuteAt
+unfolding minute_at
 returns-2 c =
     let m = c.before.before.args.minute in
     let read : to_z w64 c.entry.result ≡ pos c.entry.result = to_z_pos w64 (search rules) in

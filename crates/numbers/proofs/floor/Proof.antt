@@ -10,7 +10,7 @@ use lib.IntN.{ℤ, nat_abs}
 use mir.Syntax.{w64}
 use mir.Val.{to_z, of_z}
 use mir.Facts.{to_z-of_z}
-use Rattle.numbers.specs.Floor.{floorZ}
+use Rattle.numbers.specs.Floor.{floor_z}
 use Rattle.numbers.specs.Total.{divided, divided-in, divided-out}
 use Rattle.numbers.proofs.Machine.{read-two}
 use Rattle.numbers.proofs.floor.Statement.{statement}
@@ -18,7 +18,7 @@ use Rattle.numbers.proofs.floor.Tie as tie
 
 -- the answer, and whether it fits
 abbrev answer : ℤ → ℤ → ℤ
-answer x d = divided x d (floorZ x d)
+answer x d = divided x d (floor_z x d)
 
 abbrev within : ℕ → ℕ → Bool
 within m n = ltb m (2 ^ 63) && ltb 0 n

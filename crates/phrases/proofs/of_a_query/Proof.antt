@@ -3,20 +3,20 @@
 use native.Mathlib.Omega.{arith}
 use mathlib.Core.Path.{refl}
 use borrow.Author.Rules.{rules}
-use Rattle.phrases.specs.Phrases.{phrases, phraseOf}
+use Rattle.phrases.specs.Phrases.{phrases, phrase_of}
 use Rattle.phrases.proofs.Laid.{meets-phrase}
 use Rattle.phrases.proofs.of_a_query.Statement.{statement}
 use Rattle.phrases.proofs.of_a_query.Tie as tie
 
 returns : tie.Need-returns
-unfolding phraseOf phrases
+unfolding phrase_of phrases
 returns c =
     let w = c.before.before in
     let a = w.before.before.before.before.before.args in
     meets-phrase a.line.now a.place a.number 16 _ _ _ refl (omega arith) w.write-text.ensures
 
 returns-2 : tie.Need-returns-2
-unfolding phraseOf phrases
+unfolding phrase_of phrases
 returns-2 c =
     let w = c.before.before in
     let a = w.before.before.before.before.before.args in

@@ -3,7 +3,7 @@
 use mathlib.Core.Path.{sym, ◌∙◌, ap}
 use borrow.Author.Rules.{rules}
 use Rattle.numbers.proofs.Tests.{fails, passes}
-use Rattle.faults.specs.Faults.{isNone}
+use Rattle.faults.specs.Faults.{is_none}
 use Rattle.reading.specs.ForLaws.{any-label, day-label, position-none}
 use Rattle.reading.proofs.is_label_of.Statement.{statement}
 use Rattle.reading.proofs.is_label_of.Tie as tie
@@ -19,7 +19,7 @@ returns-2 c =
     let e = f.before in
     let a = e.before.before.args in
     c.is_none.ensures
-    ∙ ap isNone f.position-fault.ensures
+    ∙ ap is_none f.position-fault.ensures
     ∙ position-none a.rate a.minus a.fields
     ∙ sym (day-label a.kind a.rate a.minus a.fields (passes e.before.is-position.ensures e.if1.false))
 

@@ -4,7 +4,7 @@ use mathlib.Core.Path.{sym, ◌∙◌, ap}
 use borrow.Author.Rules.{rules}
 use Rattle.numbers.proofs.Tests.{fails, passes}
 use Rattle.reading.specs.declared.Stated.TheVariants.{Nothing}
-use Rattle.reading.specs.For.{settledRead}
+use Rattle.reading.specs.For.{settled_read}
 use Rattle.reading.specs.ForLaws.{label-not-of, label_of}
 use Rattle.reading.proofs.label_for.Statement.{statement}
 use Rattle.reading.proofs.label_for.Tie as tie
@@ -22,7 +22,7 @@ returns-2 c =
     let e = c.before.before in
     let a = e.before.before.args in
     c.settled.ensures
-    ∙ ap (settledRead a.kind) c.before.read-label.ensures
+    ∙ ap (settled_read a.kind) c.before.read-label.ensures
     ∙ sym (label_of a.kind a.rate Nothing a.minus a.fields (passes e.before.is-label-of.ensures e.if1.false))
 
 pub label-for-spec : {M : Type 1} → statement M

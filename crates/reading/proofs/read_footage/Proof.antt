@@ -4,7 +4,7 @@
 use mathlib.Core.Path.{sym, ap, ◌∙◌}
 use borrow.Author.Rules.{rules}
 use Rattle.numbers.proofs.Tests.{fails, passes}
-use Rattle.reading.specs.Answer.{asFootage}
+use Rattle.reading.specs.Answer.{as_footage}
 use Rattle.reading.specs.ReadingLaws.{footage-marked, footage-off, footage-on}
 use Rattle.reading.proofs.read_footage.Statement.{statement}
 use Rattle.reading.proofs.read_footage.Tie as tie
@@ -28,7 +28,7 @@ returns-3 c =
     let taken = on.before.before in
     let a = taken.before.before.args in
     c.as-footage.ensures
-    ∙ ap (asFootage a.rate a.format) c.before.footage-count.ensures
+    ∙ ap (as_footage a.rate a.format) c.before.footage-count.ensures
     ∙ sym (footage-on a.rate a.format a.minus a.feet a.frames a.perf a.marker
     (passes taken.before.takes-perf.ensures taken.if1.false)
     (passes on.before.on-film.ensures on.if2.false))

@@ -3,17 +3,17 @@
 use Prim.Native.Nat.{ℕ}
 use mathlib.Core.Path.{◌≡◌, sym, ap, ◌∙◌}
 use borrow.Author.Rules.{rules}
-use Rattle.rates.specs.Rates.{dropFrames}
-use Rattle.labels.specs.Label.{droppedIn}
-use Rattle.labels.specs.AtRate.{labelCounted-in}
-use Rattle.reading.specs.Answer.{asLabel}
+use Rattle.rates.specs.Rates.{drop_frames}
+use Rattle.labels.specs.Label.{dropped_in}
+use Rattle.labels.specs.AtRate.{label_counted-in}
+use Rattle.reading.specs.Answer.{as_label}
 use Rattle.reading.specs.ReadingLaws.{label-dropped, label_kept}
 use Rattle.reading.proofs.read_label.Statement.{statement}
 use Rattle.reading.proofs.read_label.Tie as tie
 
 -- what the test told is of the rate's own D
-told : (c : tie.After-is-dropped) → let a = c.before.before.args in c.is-dropped.result ≡ droppedIn (dropFrames a.rate) a.fields
-told c = c.is-dropped.ensures ∙ ap (λ (d : ℕ). droppedIn d c.before.before.args.fields) c.before.drop-frames-per-minute.ensures
+told : (c : tie.After-is-dropped) → let a = c.before.before.args in c.is-dropped.result ≡ dropped_in (drop_frames a.rate) a.fields
+told c = c.is-dropped.ensures ∙ ap (λ (d : ℕ). dropped_in d c.before.before.args.fields) c.before.drop-frames-per-minute.ensures
 
 returns : tie.Need-returns
 returns c =
@@ -26,7 +26,7 @@ returns-2 c =
     let s = e.before.before.before in
     let a = s.args in
     c.as-label.ensures
-    ∙ ap (asLabel a.rate) (c.before.label-count.ensures ∙ labelCounted-in a.rate a.minus a.fields s.requires)
+    ∙ ap (as_label a.rate) (c.before.label-count.ensures ∙ label_counted-in a.rate a.minus a.fields s.requires)
     ∙ sym (label_kept a.rate a.minus a.fields (sym (told e.before) ∙ e.if1.false))
 
 pub read-label-spec : {M : Type 1} → statement M

@@ -3,7 +3,7 @@
 use mathlib.Core.Path.{sym, ap, ◌∙◌}
 use borrow.Author.Rules.{rules}
 use Rattle.reading.specs.declared.Stated.TheVariants.{Nothing}
-use Rattle.reading.specs.Taken.{shapedIn}
+use Rattle.reading.specs.Taken.{shaped_in}
 use Rattle.reading.specs.For.{read_by}
 use Rattle.reading.specs.TakenLaws.{label-by-taken}
 use Rattle.reading.proofs.read_label_only.Statement.{statement}
@@ -13,7 +13,7 @@ returns : tie.Need-returns
 returns c =
     let a = c.before.before.before.args in
     c.read_taken.ensures
-    ∙ ap (λ t. read_by a.kind Nothing a.rate (shapedIn t)) c.before.take-label.ensures
+    ∙ ap (λ t. read_by a.kind Nothing a.rate (shaped_in t)) c.before.take-label.ensures
     ∙ sym (label-by-taken a.kind a.text.now a.rate)
 
 pub read-label-only-spec : {M : Type 1} → statement M

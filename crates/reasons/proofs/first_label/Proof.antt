@@ -2,12 +2,12 @@
 -- Assumes nothing.
 use mathlib.Core.Path.{refl}
 use borrow.Author.Rules.{rules}
-use Rattle.reasons.specs.Facts.{firstLabel}
+use Rattle.reasons.specs.Facts.{first_label}
 use Rattle.reasons.proofs.first_label.Statement.{statement}
 use Rattle.reasons.proofs.first_label.Tie as tie
 
 returns : tie.Need-returns
-unfolding firstLabel
+unfolding first_label
 returns c = refl
 
 pub first-label-spec : {M : Type 1} → statement M

@@ -3,8 +3,8 @@
 use native.Mathlib.Omega.{arith}
 use mathlib.Core.Path.{sym, ap, ◌∙◌}
 use borrow.Author.Rules.{rules}
-use Rattle.faults.specs.Faults.{countFault}
-use Rattle.reasons.specs.Facts.{limitFrom}
+use Rattle.faults.specs.Faults.{count_fault}
+use Rattle.reasons.specs.Facts.{limit_from}
 use Rattle.reasons.proofs.Facts.{footage-five, footage-thirteen, footage-none}
 use Rattle.reasons.proofs.footage_fact.Statement.{statement}
 use Rattle.reasons.proofs.footage_fact.Tie as tie
@@ -13,14 +13,14 @@ returns : tie.Need-returns
 returns c =
     let a = c.before.before.before.before.args in
     c.limit-from.ensures
-    ∙ ap limitFrom (c.before.count-fault.ensures ∙ ap (countFault a.minus) c.before.before.footage-frames.ensures)
+    ∙ ap limit_from (c.before.count-fault.ensures ∙ ap (count_fault a.minus) c.before.before.footage-frames.ensures)
     ∙ sym (footage-five a.number a.format a.minus a.feet a.frames a.perf a.marker (omega arith))
 
 returns-2 : tie.Need-returns-2
 returns-2 c =
     let a = c.before.before.before.args in
     c.limit-from2.ensures
-    ∙ ap limitFrom c.before.film-fault.ensures
+    ∙ ap limit_from c.before.film-fault.ensures
     ∙ sym (footage-thirteen a.number a.format a.minus a.feet a.frames a.perf a.marker (omega arith))
 
 returns-3 : tie.Need-returns-3

@@ -2,9 +2,9 @@
 -- Assumes nothing.
 use mathlib.Core.Path.{refl, sym, ap, ◌∙◌}
 use borrow.Author.Rules.{rules}
-use Rattle.reading.specs.Taken.{shapedIn}
-use Rattle.reasons.specs.Facts.{factBy}
-use Rattle.reasons.specs.Why.{toldAs}
+use Rattle.reading.specs.Taken.{shaped_in}
+use Rattle.reasons.specs.Facts.{fact_by}
+use Rattle.reasons.specs.Why.{told_as}
 use Rattle.reasons.proofs.Told.{taken-short, told_is, line-is}
 use Rattle.reasons.proofs.why.Statement.{statement}
 use Rattle.reasons.proofs.why.Tie as tie
@@ -23,11 +23,11 @@ returns c =
     let t = r.before in
     let a = t.before.before.before.args in
     let f = c.fact-by.result in (
-      sym (ap (toldAs r.read_taken.result f) c.before.before.length.given.1)
+      sym (ap (told_as r.read_taken.result f) c.before.before.length.given.1)
           ∙ told_is a.kind a.text.now a.stated a.rate _ _ _ t.take-text.ensures r.read_taken.ensures n.number.ensures
-          a.line.now a.place f _ c.fact-by.ensures w.write-phrase.ensures.0,
+          a.line.now a.place f _ c.fact-by.ensures w.write_phrase.ensures.0,
       line-is a.kind a.text.now a.stated a.rate _ _ _ t.take-text.ensures r.read_taken.ensures n.number.ensures
-          a.line.now a.place _ w.write-phrase.ensures.1,
+          a.line.now a.place _ w.write_phrase.ensures.1,
     )
 
 returns-2 : tie.Need-returns-2
@@ -37,12 +37,12 @@ returns-2 c =
     let r = n.before in
     let t = r.before in
     let a = t.before.before.before.args in
-    let f = factBy n.number.result a.rate a.stated (shapedIn t.take-text.result) in (
-      sym (ap (toldAs r.read_taken.result f) c.before.e.given.1)
+    let f = fact_by n.number.result a.rate a.stated (shaped_in t.take-text.result) in (
+      sym (ap (told_as r.read_taken.result f) c.before.e.given.1)
           ∙ told_is a.kind a.text.now a.stated a.rate _ _ _ t.take-text.ensures r.read_taken.ensures n.number.ensures
-          a.line.now a.place f _ refl w.write-phrase.ensures.0,
+          a.line.now a.place f _ refl w.write_phrase.ensures.0,
       line-is a.kind a.text.now a.stated a.rate _ _ _ t.take-text.ensures r.read_taken.ensures n.number.ensures
-          a.line.now a.place _ w.write-phrase.ensures.1,
+          a.line.now a.place _ w.write_phrase.ensures.1,
     )
 
 pub why-spec : {M : Type 1} → statement M

@@ -7,13 +7,13 @@ use borrow.Author.Rules.{rules}
 use lib.IntN.{ℤ}
 use mir.Facts.{to_z-of_z}
 use Rattle.numbers.specs.Sign.{signed}
-use Rattle.numbers.specs.Nearest.{nearestZ}
+use Rattle.numbers.specs.Nearest.{nearest_z}
 use Rattle.numbers.specs.Total.{fitted-in}
 use Rattle.answers.specs.Refusals.{held}
 use Rattle.rates.specs.declared.Framerate.{Framerate}
-use Rattle.rates.specs.Rates.{rateRow}
+use Rattle.rates.specs.Rates.{rate_row}
 use Rattle.rates.specs.Rule.{sound}
-use Rattle.runtime_reading.specs.Reading.{wholeSeconds, timeIn, runtimeFrame}
+use Rattle.runtime_reading.specs.Reading.{whole_seconds, time_in, runtime_frame}
 use Rattle.runtime_reading.specs.ReadingLaws.{seconds-small, product_small, held-beyond}
 use Rattle.runtime_reading.proofs.nearest_frame.Statement.{statement}
 use Rattle.runtime_reading.proofs.nearest_frame.Tie as tie
@@ -33,17 +33,17 @@ add-seconds-2 c = omega (arith, seconds-small c.args.t3 c.args.millionths c.requ
 returns : tie.Need-returns
 returns c =
     let a = c.before.args in
-    sym (held-beyond a.rate a.minus (wholeSeconds a.t3) (timeIn a.t3 a.millionths) c.before.requires.0 (omega arith) c.if1.true)
+    sym (held-beyond a.rate a.minus (whole_seconds a.t3) (time_in a.t3 a.millionths) c.before.requires.0 (omega arith) c.if1.true)
 
 -- the row's numbers
-numerator-is : (c : tie.After-row) → c.row.result.numerator ≡ (rateRow c.before.before.args.rate).numerator
+numerator-is : (c : tie.After-row) → c.row.result.numerator ≡ (rate_row c.before.before.args.rate).numerator
 numerator-is c = ap (λ (r : Framerate). r.numerator) c.row.ensures
 
-denominator-is : (c : tie.After-row) → c.row.result.denominator ≡ (rateRow c.before.before.args.rate).denominator
+denominator-is : (c : tie.After-row) → c.row.result.denominator ≡ (rate_row c.before.before.args.rate).denominator
 denominator-is c = ap (λ (r : Framerate). r.denominator) c.row.ensures
 
 -- the frames of the time, not yet divided
-frames_small : (c : tie.After-row) → timeIn c.before.before.args.t3 c.before.before.args.millionths * c.row.result.numerator < 2_000_000_000_000_000_000
+frames_small : (c : tie.After-row) → time_in c.before.before.args.t3 c.before.before.args.millionths * c.row.result.numerator < 2_000_000_000_000_000_000
 frames_small c =
     let start = c.before.before in
     rw (numerator-is c)
@@ -56,17 +56,17 @@ mul-nearest-count : tie.Need-overflow-mul-nearest-count
 mul-nearest-count c =
     let row = c.before.before.before in
     let start = row.before.before in
-    record { fits = omega (arith, denominator-is row, (sound start.args.rate start.requires.0).denominator-most) }
+    record { fits = omega (arith, denominator-is row, (sound start.args.rate start.requires.0).denominator_most) }
 
 returns-2 : tie.Need-returns-2
-unfolding runtimeFrame
+unfolding runtime_frame
 returns-2 c =
     let signs = c.before.before in
     let row = signs.before.before in
     let a = row.before.before.args in
-    let time = timeIn a.t3 a.millionths in
+    let time = time_in a.t3 a.millionths in
     c.nearest-count.ensures
-    ∙ ap₂ (λ (z : ℤ) (d : ℕ). held (nearestZ z (1_000_000 * d)))
+    ∙ ap₂ (λ (z : ℤ) (d : ℕ). held (nearest_z z (1_000_000 * d)))
     (to_z-of_z (record { sfits = signs.with-sign.type-inv })
     ∙ signs.with-sign.ensures
     ∙ fitted-in _ (signed a.minus (time * row.row.result.numerator)) (omega (arith, frames_small row))

@@ -8,18 +8,18 @@ use Rattle.answers.specs.declared.Verdict.TheVariants.{Refused}
 use Rattle.answers.specs.Order.{judged}
 use Rattle.answers.specs.OrderLaws.{judged-refused, judged-clear, unless-clear}
 use Rattle.timecodes.specs.Admitted.{admits}
-use Rattle.runtime_writer.specs.RuntimeText.{badPrecision, runtimeWhen}
+use Rattle.runtime_writer.specs.RuntimeText.{bad_precision, runtime_when}
 use Rattle.runtime_writer.proofs.judge.Statement.{statement}
 use Rattle.runtime_writer.proofs.judge.Tie as tie
 
 -- where the timecode is admitted, the precision decides
 passed : (c : tie.After-enum-told)
     → let a = c.before.before.before.args in
-    judged (runtimeWhen a.tc a.precision) ≡ judged (badPrecision a.precision ∷ [])
+    judged (runtime_when a.tc a.precision) ≡ judged (bad_precision a.precision ∷ [])
 passed c =
     let a = c.before.before.before.args in
     let clear = judged-clear (admits a.tc) (sym c.before.before.admit.ensures ∙ c.enum_told.given.1) in
-    unless-clear Refused (admits a.tc) (judged (badPrecision a.precision ∷ [])) clear
+    unless-clear Refused (admits a.tc) (judged (bad_precision a.precision ∷ [])) clear
 
 returns : tie.Need-returns
 returns c =
@@ -29,7 +29,7 @@ returns c =
 returns-2 : tie.Need-returns-2
 returns-2 c =
     let a = c.before.before.before.before.args in
-    sym (judged-refused (admits a.tc) _ (sym c.before.before.before.admit.ensures ∙ c.before.e.given.1) Refused (judged (badPrecision a.precision ∷ [])))
+    sym (judged-refused (admits a.tc) _ (sym c.before.before.before.admit.ensures ∙ c.before.e.given.1) Refused (judged (bad_precision a.precision ∷ [])))
 
 returns-3 : tie.Need-returns-3
 returns-3 c =

@@ -6,8 +6,8 @@ use lib.ListN.{length}
 use mathlib.Core.List.{◌∷◌}
 use borrow.Author.Rules.{rules}
 use Rattle.lent.proofs.Laws.{laid-lent}
-use Rattle.digits.specs.Digits.{digitsOf}
-use Rattle.runtime_writer.specs.RuntimeText.{secondsText}
+use Rattle.digits.specs.Digits.{digits_of}
+use Rattle.runtime_writer.specs.RuntimeText.{seconds_text}
 use Rattle.runtime_writer.proofs.Laws.{tail-length}
 use Rattle.runtime_writer.proofs.put_parts.Statement.{statement}
 use Rattle.runtime_writer.proofs.put_parts.Tie as tie
@@ -26,7 +26,7 @@ returns : tie.Need-returns
 returns c =
     let start = c.before.before.before.before.before.before.before.before.before in
     let a = start.args in
-    laid-lent a.part.now _ _ (secondsText a.minus a.seconds) (46 ∷ digitsOf a.tail.width a.tail.value) a.at
+    laid-lent a.part.now _ _ (seconds_text a.minus a.seconds) (46 ∷ digits_of a.tail.width a.tail.value) a.at
     c.before.before.before.before.before.before.put-clock.ensures
     start.requires.0
     start.requires.1

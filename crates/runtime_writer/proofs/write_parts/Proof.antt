@@ -8,7 +8,7 @@ use borrow.Author.Rules.{rules}
 use Rattle.lent.proofs.Laws.{part_length, fits-yes}
 use Rattle.written.proofs.Parts.{clock-most}
 use Rattle.written.proofs.Laws.{meets-in, meets-out}
-use Rattle.runtime_writer.specs.RuntimeText.{clockHours, clockMinutes, clockSeconds, tailText}
+use Rattle.runtime_writer.specs.RuntimeText.{clock_hours, clock_minutes, clock_seconds, tail_text}
 use Rattle.runtime_writer.proofs.Laws.{tail-length}
 use Rattle.runtime_writer.proofs.write_parts.Statement.{statement}
 use Rattle.runtime_writer.proofs.write_parts.Tie as tie
@@ -20,13 +20,13 @@ short c =
     omega (
       arith,
       c.clock-length.ensures,
-      clock-most a.minus (clockHours a.seconds) (clockMinutes a.seconds) (clockSeconds a.seconds) (search rules) (search rules) (search rules),
+      clock-most a.minus (clock_hours a.seconds) (clock_minutes a.seconds) (clock_seconds a.seconds) (search rules) (search rules) (search rules),
     )
 
 -- what is tested for room is the length of the text
 long : (c : tie.After-struct-known)
     → let a = c.before.before.before.args in
-    c.before.clock-length.result + 1 + a.tail.width ≡ length (tailText a.minus a.seconds a.tail)
+    c.before.clock-length.result + 1 + a.tail.width ≡ length (tail_text a.minus a.seconds a.tail)
 long c =
     let a = c.before.before.before.args in
     omega (arith, c.before.clock-length.ensures, tail-length a.minus a.seconds a.tail)
@@ -34,10 +34,10 @@ long c =
 -- with room, the text lies within the line
 fit : (c : tie.Then1)
     → let a = c.before.before.before.before.before.args in
-    a.place + length (tailText a.minus a.seconds a.tail) ≤ length a.line.now
+    a.place + length (tail_text a.minus a.seconds a.tail) ≤ length a.line.now
 fit c =
     let a = c.before.before.before.before.before.args in
-    fits-yes a.line.now a.place (tailText a.minus a.seconds a.tail) _ _ (long c.before.before) c.before.room.ensures c.if1.true
+    fits-yes a.line.now a.place (tail_text a.minus a.seconds a.tail) _ _ (long c.before.before) c.before.room.ensures c.if1.true
 
 add-need : tie.Need-overflow-add-need
 add-need c = record { fits = omega (arith, short c) }
@@ -59,13 +59,13 @@ put-parts-requires c κs =
 returns : tie.Need-returns
 returns c =
     let a = c.before.before.before.before.before.before.before.before.before.args in
-    meets-in a.line.now a.place (tailText a.minus a.seconds a.tail) _ _ (long c.before.before.before.before.before.before)
+    meets-in a.line.now a.place (tail_text a.minus a.seconds a.tail) _ _ (long c.before.before.before.before.before.before)
     c.before.before.before.before.before.room.ensures _ c.before.before.before.before.if1.true c.before.before.put-parts.ensures
 
 returns-2 : tie.Need-returns-2
 returns-2 c =
     let a = c.before.before.before.before.before.args in
-    meets-out a.line.now a.place (tailText a.minus a.seconds a.tail) _ _ (long c.before.before) c.before.room.ensures c.if1.false
+    meets-out a.line.now a.place (tail_text a.minus a.seconds a.tail) _ _ (long c.before.before) c.before.room.ensures c.if1.false
 
 pub write-parts-spec : {M : Type 1} → statement M
 write-parts-spec =

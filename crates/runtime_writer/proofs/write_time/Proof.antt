@@ -7,11 +7,11 @@ use lib.IntN.{nat_abs}
 use mir.Syntax.{w64}
 use mir.Val.{to_z, of_z}
 use borrow.Author.Rules.{rules}
-use Rattle.numbers.specs.Sign.{isNeg}
+use Rattle.numbers.specs.Sign.{is_neg}
 use Rattle.timecodes.specs.AdmittedLaws.{valid-count-le}
 use Rattle.written.specs.Written.{Text}
 use Rattle.written.proofs.Laws.{meets-same}
-use Rattle.runtime_writer.specs.RuntimeText.{runtimeUnits}
+use Rattle.runtime_writer.specs.RuntimeText.{runtime_units}
 use Rattle.runtime_writer.proofs.Powers.{ten-pos}
 use Rattle.runtime_writer.proofs.Laws.{tail-short, tail-runtime}
 use Rattle.runtime_writer.proofs.write_time.Statement.{statement}
@@ -52,8 +52,8 @@ returns c =
     let start = sign.before.before.before in
     let a = start.args in
     let tc = a.tc in
-    let minus = sign.below-zero.ensures ∙ ap isNeg (back start) in
-    let units = rounded.units_of.ensures ∙ ap (runtimeUnits tc.rate a.precision) (size type_size) in
+    let minus = sign.below-zero.ensures ∙ ap is_neg (back start) in
+    let units = rounded.units_of.ensures ∙ ap (runtime_units tc.rate a.precision) (size type_size) in
     let same =
     ap Text (tail-runtime tc.rate a.precision tc.count _ _ _ _ minus units tail.before.power-of-ten.ensures tail.shortest.ensures) in
     meets-same a.line.now a.place _ _ _ _ same c.before.before.write-parts.ensures

@@ -6,17 +6,17 @@ use native.Mathlib.Omega.{arith}
 use lib.ListN.{length, drop}
 use borrow.Author.Rules.{rules}
 use Rattle.shot_lists.specs.declared.records.Entry.TheVariants.{Taken}
-use Rattle.shot_lists.specs.Entries.{inNumbers, entry_of}
+use Rattle.shot_lists.specs.Entries.{in_numbers, entry_of}
 use Rattle.shot_lists.specs.Reading.{read_of}
 use Rattle.shot_lists.specs.Walk.{Going, going-begin, going-turn, going-stop, going-over, going_done, going-nearer}
-use Rattle.shot_writer.specs.ListText.{measuredOf}
+use Rattle.shot_writer.specs.ListText.{measured_of}
 use Rattle.shot_writer.proofs.Lengths.{taken-bytes}
 use Rattle.shot_writer.proofs.Measuring.{measured, measured-more, measured-zero, nothing_left}
 use Rattle.shot_writer.proofs.measure.Statement.{statement}
 use Rattle.shot_writer.proofs.measure.Tie as tie
 
 abbrev invariant-loop : tie.invariant-loop
-invariant-loop given at₀ held₀ n₀ at held n = (n ≤ 3 * at) × Going inNumbers given (measuredOf (read_of inNumbers given)) (measured n) at held
+invariant-loop given at₀ held₀ n₀ at held n = (n ≤ 3 * at) × Going in_numbers given (measured_of (read_of in_numbers given)) (measured n) at held
 
 abbrev decreases-loop : tie.decreases-loop
 decreases-loop given at₀ held₀ n₀ at held n = length given - at
@@ -24,14 +24,14 @@ decreases-loop given at₀ held₀ n₀ at held n = length given - at
 loop-holds : tie.Need-loop-init invariant-loop decreases-loop
 loop-holds c =
     let l = c.args.given.now in
-    (omega arith, rw (← measured-zero (read_of inNumbers l)) (going-begin inNumbers l (measured 0)))
+    (omega arith, rw (← measured-zero (read_of in_numbers l)) (going-begin in_numbers l (measured 0)))
 
 -- a record was taken
 taken : (c : tie.After-known-told invariant-loop decreases-loop)
     → let k = c.before.before.before.before.before in
     let g = c.before.found.given.0 in
-    entry_of inNumbers k.loop.held (drop k.loop.at k.before.args.given.now) ≡ Taken g.0 g.1.0 g.1.1.0
-taken c = sym c.before.before.before.given-at.ensures ∙ c.before.found.given.1
+    entry_of in_numbers k.loop.held (drop k.loop.at k.before.args.given.now) ≡ Taken g.0 g.1.0 g.1.1.0
+taken c = sym c.before.before.before.given_at.ensures ∙ c.before.found.given.1
 
 nearer-now : (c : tie.After-known-told invariant-loop decreases-loop)
     → let k = c.before.before.before.before.before in
@@ -39,7 +39,7 @@ nearer-now : (c : tie.After-known-told invariant-loop decreases-loop)
     (0 < size) × (k.loop.at + size ≤ length k.before.args.given.now)
 nearer-now c =
     let k = c.before.before.before.before.before in
-    going-nearer inNumbers k.before.args.given.now k.loop.at k.loop.held _ _ _ (taken c)
+    going-nearer in_numbers k.before.args.given.now k.loop.at k.loop.held _ _ _ (taken c)
 
 -- what was counted stays below what the numbers allow
 bound : (c : tie.After-record-length invariant-loop decreases-loop)
@@ -59,7 +59,7 @@ loop-again c =
     let l = k.before.args.given.now in
     let n = k.loop.n in (
       bound c,
-      going-turn inNumbers l (measuredOf (read_of inNumbers l)) (measured n) (measured (n + c.record-length.result)) k.loop.at k.loop.held
+      going-turn in_numbers l (measured_of (read_of in_numbers l)) (measured n) (measured (n + c.record-length.result)) k.loop.at k.loop.held
           _ _ _ k.loop.invariant.1 (taken c.before)
           (λ t _. measured-more n _ t ∙ ap (λ (m : ℕ). measured (n + m) t) (sym c.record-length.ensures)),
     )
@@ -69,23 +69,23 @@ returns c =
     let k = c.before.before.before.before.before in
     let l = k.before.args.given.now in
     sym
-    (going-stop inNumbers l (measuredOf (read_of inNumbers l)) (measured k.loop.n) k.loop.at k.loop.held _ k.loop.invariant.1
-    (sym c.before.before.before.given-at.ensures ∙ c.before.e.given.1))
+    (going-stop in_numbers l (measured_of (read_of in_numbers l)) (measured k.loop.n) k.loop.at k.loop.held _ k.loop.invariant.1
+    (sym c.before.before.before.given_at.ensures ∙ c.before.e.given.1))
 
 returns-2 : tie.Need-returns-2 invariant-loop decreases-loop
 returns-2 c =
     let k = c.before.before.before.before in
     let l = k.before.args.given.now in
     sym
-    (going-over inNumbers l (measuredOf (read_of inNumbers l)) (measured k.loop.n) k.loop.at k.loop.held k.loop.invariant.1
-    (sym c.before.before.given-at.ensures ∙ c.enum_told.given.1)
+    (going-over in_numbers l (measured_of (read_of in_numbers l)) (measured k.loop.n) k.loop.at k.loop.held k.loop.invariant.1
+    (sym c.before.before.given_at.ensures ∙ c.enum_told.given.1)
     ∙ nothing_left k.loop.n)
 
 returns-3 : tie.Need-returns-3 invariant-loop decreases-loop
 returns-3 c =
     let k = c.before.loop in
     let l = c.before.before.args.given.now in
-    sym (going_done inNumbers l (measuredOf (read_of inNumbers l)) (measured k.n) k.at k.held k.invariant.1 (omega arith) ∙ nothing_left k.n)
+    sym (going_done in_numbers l (measured_of (read_of in_numbers l)) (measured k.n) k.at k.held k.invariant.1 (omega arith) ∙ nothing_left k.n)
 
 pub measure-spec : {M : Type 1} → statement M
 measure-spec =

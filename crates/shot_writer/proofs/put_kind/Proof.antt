@@ -5,7 +5,7 @@ use mathlib.Core.Path.{refl, sym}
 use mathlib.Core.List.{[], ◌∷◌}
 use borrow.Author.Rules.{rules}
 use Rattle.lent.proofs.Laws.{laid_out, laid-lent}
-use Rattle.low_bytes.specs.LowBytes.{lowBytes}
+use Rattle.low_bytes.specs.LowBytes.{low_bytes}
 use Rattle.low_bytes.specs.Laws.{low-length}
 use Rattle.shot_writer.proofs.put_kind.Statement.{statement}
 use Rattle.shot_writer.proofs.put_kind.Tie as tie
@@ -14,7 +14,7 @@ returns : tie.Need-returns
 returns c =
     let test = c.before.before.before.before.before.before.before.before in
     let a = test.before.before.args in
-    laid-lent a.part.now _ _ (a.kind ∷ []) (lowBytes a.width a.n) 1
+    laid-lent a.part.now _ _ (a.kind ∷ []) (low_bytes a.width a.n) 1
     c.before.before.before.before.before.before.put_byte.ensures
     refl
     (omega (arith, test.if1.true, low-length a.width a.n))
@@ -23,7 +23,7 @@ returns c =
 returns-2 : tie.Need-returns-2
 returns-2 c =
     let a = c.before.before.args in
-    sym (laid_out a.part.now (a.kind ∷ lowBytes a.width a.n) (omega (arith, low-length a.width a.n)))
+    sym (laid_out a.part.now (a.kind ∷ low_bytes a.width a.n) (omega (arith, low-length a.width a.n)))
 
 pub put-kind-spec : {M : Type 1} → statement M
 put-kind-spec =

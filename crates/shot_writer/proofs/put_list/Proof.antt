@@ -6,9 +6,9 @@ use native.Mathlib.Omega.{arith}
 use lib.ListN.{length, drop}
 use borrow.Author.Rules.{rules}
 use Rattle.shot_lists.specs.declared.records.Entry.TheVariants.{Taken}
-use Rattle.shot_lists.specs.Entries.{inNumbers, entry_of}
+use Rattle.shot_lists.specs.Entries.{in_numbers, entry_of}
 use Rattle.shot_lists.specs.Walk.{going-nearer}
-use Rattle.shot_writer.specs.ListText.{recordBytes}
+use Rattle.shot_writer.specs.ListText.{record_bytes}
 use Rattle.shot_writer.proofs.Putting.{Putting, putting-start, putting-room, putting-turn, putting-never, putting-over, putting-done}
 use Rattle.shot_writer.proofs.put_list.Statement.{statement}
 use Rattle.shot_writer.proofs.put_list.Tie as tie
@@ -26,8 +26,8 @@ loop-holds c = let start = c.before in putting-start _ _ start.requires.0 start.
 taken : (c : tie.After-known-told invariant-loop decreases-loop)
     → let k = c.before.before.before.before.before in
     let g = c.before.found.given.0 in
-    entry_of inNumbers k.loop.held (drop k.loop.at k.before.before.args.given.now) ≡ Taken g.0 g.1.0 g.1.1.0
-taken c = sym c.before.before.before.given-at.ensures ∙ c.before.found.given.1
+    entry_of in_numbers k.loop.held (drop k.loop.at k.before.before.args.given.now) ≡ Taken g.0 g.1.0 g.1.1.0
+taken c = sym c.before.before.before.given_at.ensures ∙ c.before.found.given.1
 
 nearer-now : (c : tie.After-known-told invariant-loop decreases-loop)
     → let k = c.before.before.before.before.before in
@@ -35,12 +35,12 @@ nearer-now : (c : tie.After-known-told invariant-loop decreases-loop)
     (0 < size) × (k.loop.at + size ≤ length k.before.before.args.given.now)
 nearer-now c =
     let k = c.before.before.before.before.before in
-    going-nearer inNumbers k.before.before.args.given.now k.loop.at k.loop.held _ _ _ (taken c)
+    going-nearer in_numbers k.before.before.args.given.now k.loop.at k.loop.held _ _ _ (taken c)
 
 -- the record has room
 room : (c : tie.After-known-told invariant-loop decreases-loop)
     → let k = c.before.before.before.before.before in
-    k.loop.to + length (recordBytes c.before.found.given.0.0) ≤ length k.loop.part
+    k.loop.to + length (record_bytes c.before.found.given.0.0) ≤ length k.loop.part
 room c =
     let k = c.before.before.before.before.before in
     putting-room _ _ _ _ _ _ k.loop.invariant _ _ _ (taken c)
@@ -69,7 +69,7 @@ same_length c = c.before.before.before.before.loop.invariant.long
 returns : tie.Need-returns invariant-loop decreases-loop
 returns c =
     let k = c.before.before.before.before in
-    absurd (putting-never _ _ _ _ _ _ k.loop.invariant _ (sym c.before.before.given-at.ensures ∙ c.enum_told.given.1))
+    absurd (putting-never _ _ _ _ _ _ k.loop.invariant _ (sym c.before.before.given_at.ensures ∙ c.enum_told.given.1))
 
 same-length-2 : tie.Need-same-length-2 invariant-loop decreases-loop
 same-length-2 c = c.before.before.before.before.loop.invariant.long
@@ -77,7 +77,7 @@ same-length-2 c = c.before.before.before.before.loop.invariant.long
 returns-2 : tie.Need-returns-2 invariant-loop decreases-loop
 returns-2 c =
     let k = c.before.before.before.before in
-    putting-over _ _ _ _ _ _ k.loop.invariant (sym c.before.before.given-at.ensures ∙ c.enum-told2.given.1)
+    putting-over _ _ _ _ _ _ k.loop.invariant (sym c.before.before.given_at.ensures ∙ c.enum-told2.given.1)
 
 same-length-3 : tie.Need-same-length-3 invariant-loop decreases-loop
 same-length-3 c = c.before.loop.invariant.long

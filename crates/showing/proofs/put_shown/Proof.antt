@@ -4,8 +4,8 @@ use mir.Syntax.{w64}
 use mir.Val.{to_z, of_z}
 use mathlib.Core.Path.{◌≡◌, subst}
 use borrow.Author.Rules.{rules}
-use Rattle.streams.specs.Sheet.{sheet, putOn}
-use Rattle.showing.specs.Shown.{countText, frontOn, secondOn, firstOn}
+use Rattle.streams.specs.Sheet.{sheet, put_on}
+use Rattle.showing.specs.Shown.{count_text, front_on, second_on, first_on}
 use Rattle.showing.proofs.Putting.{Leaves, leaves-on, leaves-same, parts_none, parts-one, parts-two}
 use Rattle.showing.proofs.put_shown.Statement.{statement}
 use Rattle.showing.proofs.put_shown.Tie as tie
@@ -25,15 +25,15 @@ back c = search rules
 -- the word and the first number
 first : (c : tie.After-put-number)
     → let a = c.before.before.before.before.before.before.before.before.before.before.args in
-    Leaves (firstOn (sheet a.out.now a.used) a.s) c.put-number.result c.put-number.new.0
+    Leaves (first_on (sheet a.out.now a.used) a.s) c.put-number.result c.put-number.new.0
 first c =
     let w = c.before.before.before.before.before in
     let a = w.before.before.before.before.before.args in
     let s = sheet a.out.now a.used in
     let q =
-    subst (λ x. Leaves (putOn (sheet w.put_front.new.0 w.put_front.result) (countText x)) c.put-number.result c.put-number.new.0)
+    subst (λ x. Leaves (put_on (sheet w.put_front.new.0 w.put_front.result) (count_text x)) c.put-number.result c.put-number.new.0)
     (back c) c.put-number.ensures in
-    leaves-on (frontOn s a.s.word a.s.position) (λ z. putOn z (countText a.s.x)) _ _ _ _ w.put_front.ensures q
+    leaves-on (front_on s a.s.word a.s.position) (λ z. put_on z (count_text a.s.x)) _ _ _ _ w.put_front.ensures q
 
 returns-2 : tie.Need-returns-2
 returns-2 c =
@@ -50,7 +50,7 @@ returns-3 c =
     let a = tested.before.before.before.args in
     let s = sheet a.out.now a.used in
     leaves-same _ _ _ _ (parts-two s a.s tested.if1.false more.if2.false)
-    (leaves-on (firstOn s a.s) (λ z. secondOn z a.s.mark a.s.y) _ _ _ _ (first one) c.before.before.put_second.ensures)
+    (leaves-on (first_on s a.s) (λ z. second_on z a.s.mark a.s.y) _ _ _ _ (first one) c.before.before.put_second.ensures)
 
 pub put-shown-spec : {M : Type 1} → statement M
 put-shown-spec =

@@ -2,8 +2,8 @@
 -- Assumes nothing.
 use mathlib.Core.List.{[], ◌∷◌}
 use borrow.Author.Rules.{rules}
-use Rattle.streams.specs.Sheet.{sheet, putOn}
-use Rattle.showing.specs.Shown.{lengthOn}
+use Rattle.streams.specs.Sheet.{sheet, put_on}
+use Rattle.showing.specs.Shown.{length_on}
 use Rattle.showing.proofs.Putting.{leaves-on, leaves-same, written_is}
 use Rattle.showing.proofs.show_written.Statement.{statement}
 use Rattle.showing.proofs.show_written.Tie as tie
@@ -15,13 +15,13 @@ returns c =
     let two = three.before.before.before.before in
     let one = two.before.before.before.before in
     let a = one.before.before.before.before.args in
-    let s = lengthOn (sheet a.out.now a.used) a.w in
-    let space = putOn s (32 ∷ []) in
-    let all = putOn space a.line.now in
+    let s = length_on (sheet a.out.now a.used) a.w in
+    let space = put_on s (32 ∷ []) in
+    let all = put_on space a.line.now in
     leaves-same _ _ _ _ (written_is (sheet a.out.now a.used) a.w a.line.now)
-    (leaves-on all (λ z. putOn z (10 ∷ [])) _ _ _ _
-    (leaves-on space (λ z. putOn z a.line.now) _ _ _ _
-    (leaves-on s (λ z. putOn z (32 ∷ [])) _ _ _ _ one.put-length.ensures two.put_byte.ensures)
+    (leaves-on all (λ z. put_on z (10 ∷ [])) _ _ _ _
+    (leaves-on space (λ z. put_on z a.line.now) _ _ _ _
+    (leaves-on s (λ z. put_on z (32 ∷ [])) _ _ _ _ one.put-length.ensures two.put_byte.ensures)
     three.put-text.ensures)
     four.put-byte2.ensures)
 

@@ -7,7 +7,7 @@ use borrow.Author.Rules.{rules}
 use lib.IntN.{nat_abs}
 use mir.Facts.{to_z-of_z}
 use Rattle.numbers.proofs.Tests.{tests}
-use Rattle.time.specs.Bounds.{isFraction}
+use Rattle.time.specs.Bounds.{is_fraction}
 use Rattle.time.proofs.is_fraction.Statement.{statement}
 use Rattle.time.proofs.is_fraction.Tie as tie
 
@@ -16,28 +16,28 @@ m-is : (c : tie.After-magnitude) → c.magnitude.result ≡ nat_abs c.before.arg
 m-is c = rw (to_z-of_z c.before.ranges.p) at c.magnitude.ensures
 
 returns : tie.Need-returns
-unfolding isFraction
+unfolding is_fraction
 returns c =
     let s = c.before.before in
     let large : s.args.most < nat_abs s.args.p = omega (arith, m-is c.before) in
     search tests
 
 returns-2 : tie.Need-returns-2
-unfolding isFraction
+unfolding is_fraction
 returns-2 c =
     let s = c.before.before.before in
     let small : nat_abs s.args.p ≤ s.args.most = omega (arith, m-is c.before.before) in
     search tests
 
 returns-3 : tie.Need-returns-3
-unfolding isFraction
+unfolding is_fraction
 returns-3 c =
     let s = c.before.before.before.before in
     let small : nat_abs s.args.p ≤ s.args.most = omega (arith, m-is c.before.before.before) in
     search tests
 
 returns-4 : tie.Need-returns-4
-unfolding isFraction
+unfolding is_fraction
 returns-4 c =
     let s = c.before.before.before.before in
     let small : nat_abs s.args.p ≤ s.args.most = omega (arith, m-is c.before.before.before) in

@@ -7,22 +7,22 @@ use Rattle.answers.specs.OrderLaws.{judged-refused, judged-clear, unless-clear}
 use Rattle.timecodes.specs.Admitted.{admits}
 use Rattle.timecodes.specs.AdmittedLaws.{admits-valid}
 use Rattle.timecodes.specs.Instant.{instant}
-use Rattle.timecodes.specs.InstantLaws.{instantIn-valid}
+use Rattle.timecodes.specs.InstantLaws.{instant_in-valid}
 use Rattle.time.specs.declared.Ticked.TheVariants.{Ticks, Refused}
-use Rattle.time.specs.Ticks.{ticksOf}
+use Rattle.time.specs.Ticks.{ticks_of}
 use Rattle.time.proofs.premiere_ticks.Statement.{statement}
 use Rattle.time.proofs.premiere_ticks.Tie as tie
 
 returns : tie.Need-returns
-unfolding ticksOf
+unfolding ticks_of
 returns c =
     let tc = c.before.before.before.before.args.tc in
     let clear = judged-clear (admits tc) (sym c.before.before.before.admit.ensures ∙ c.before.enum_told.given.1) in
-    ap Ticks (to_z-of_z (record { sfits = c.instant-of.type-inv }) ∙ c.instant-of.ensures ∙ instantIn-valid tc (admits-valid tc clear))
+    ap Ticks (to_z-of_z (record { sfits = c.instant-of.type-inv }) ∙ c.instant-of.ensures ∙ instant_in-valid tc (admits-valid tc clear))
     ∙ sym (unless-clear Refused (admits tc) (Ticks (instant tc)) clear)
 
 returns-2 : tie.Need-returns-2
-unfolding ticksOf
+unfolding ticks_of
 returns-2 c =
     let tc = c.before.before.before.before.args.tc in
     sym (judged-refused (admits tc) _ (sym c.before.before.before.admit.ensures ∙ c.before.e.given.1) Refused (Ticks (instant tc)))

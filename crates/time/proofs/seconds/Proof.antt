@@ -14,7 +14,7 @@ use Rattle.answers.specs.OrderLaws.{judged-clear}
 use Rattle.timecodes.specs.Admitted.{admits, Valid}
 use Rattle.timecodes.specs.AdmittedLaws.{admits-valid}
 use Rattle.timecodes.specs.Instant.{instant}
-use Rattle.timecodes.specs.InstantLaws.{instant-abs-le, instantIn-valid}
+use Rattle.timecodes.specs.InstantLaws.{instant-abs-le, instant_in-valid}
 use Rattle.time.specs.declared.Timed.TheVariants.{Refused}
 use Rattle.time.specs.Seconds.{IsSeconds}
 use Rattle.time.proofs.seconds.Statement.{statement}
@@ -28,7 +28,7 @@ valid c = let tc = c.before.before.before.args.tc in admits-valid tc (judged-cle
 
 -- the ticks, as the machine reads them
 ticks-is : (c : tie.After-instant-of) → to_z w64 (of_z w64 c.instant-of.result) ≡ instant c.before.before.before.before.args.tc
-ticks-is c = to_z-of_z (record { sfits = c.instant-of.type-inv }) ∙ c.instant-of.ensures ∙ instantIn-valid _ (valid c.before)
+ticks-is c = to_z-of_z (record { sfits = c.instant-of.type-inv }) ∙ c.instant-of.ensures ∙ instant_in-valid _ (valid c.before)
 
 in-seconds-requires : tie.Need-in-seconds-requires
 in-seconds-requires c κs = rw (ticks-is c) (omega (arith, instant-abs-le _ (valid c.before)))

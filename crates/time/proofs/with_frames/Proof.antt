@@ -11,7 +11,7 @@ use Rattle.timecodes.specs.declared.Answer.TheVariants.{At, Refused}
 use Rattle.timecodes.specs.Timecode.{timecode}
 use Rattle.timecodes.specs.Made.{made, settled}
 use Rattle.timecodes.specs.Admitted.{admits}
-use Rattle.time.specs.Frames.{framesAt}
+use Rattle.time.specs.Frames.{frames_at}
 use Rattle.time.proofs.with_frames.Statement.{statement}
 use Rattle.time.proofs.with_frames.Tie as tie
 
@@ -23,7 +23,7 @@ asked : (c : tie.After-admit) → judged (admits (timecode c.before.before.args.
 asked c = sym (c.admit.ensures ∙ ap (λ (tc : Timecode). judged (admits tc)) (tested c.before))
 
 returns : tie.Need-returns
-unfolding framesAt
+unfolding frames_at
 returns c =
     let t = c.before in
     let s = t.before.before.before.before in
@@ -34,7 +34,7 @@ returns c =
     (sym (unless-clear Refused (admits tc) (At tc) (judged-clear (admits tc) (asked t.before.before ∙ t.enum_told.given.1))))
 
 returns-2 : tie.Need-returns-2
-unfolding framesAt
+unfolding frames_at
 returns-2 c =
     let a = c.before.before.before.before.before.args in
     let tc = timecode a.count a.rate in

@@ -5,23 +5,23 @@ use mathlib.Core.Path.{◌∙◌, ap, ap₂}
 use borrow.Author.Rules.{rules}
 use lib.IntN.{ℤ}
 use mir.Facts.{to_z-of_z}
-use Rattle.numbers.specs.Nearest.{nearestZ}
+use Rattle.numbers.specs.Nearest.{nearest_z}
 use Rattle.numbers.proofs.Tests.{fails, passes}
 use Rattle.answers.specs.Refusals.{held}
 use Rattle.rates.specs.declared.Framerate.{Framerate}
 use Rattle.timecodes.specs.Timecode.{placed}
 use Rattle.timecodes.specs.Made.{settled}
 use Rattle.timecodes.specs.AdmittedLaws.{placed-held}
-use Rattle.time.specs.Frames.{ticksFrame, ticksAt}
+use Rattle.time.specs.Frames.{ticks_frame, ticks_at}
 use Rattle.time.proofs.with_premiere_ticks.Statement.{statement}
 use Rattle.time.proofs.with_premiere_ticks.Tie as tie
 
 returns : tie.Need-returns
-unfolding ticksAt
+unfolding ticks_at
 returns c = simp (fails c.before.is-rate.ensures c.if1.true)
 
 returns-2 : tie.Need-returns-2
-unfolding ticksAt
+unfolding ticks_at
 returns-2 c =
     let p = c.before in
     let r = p.before.before in
@@ -33,8 +33,8 @@ returns-2 c =
     (p.placed.ensures
     ∙ ap (placed rate)
     (p.before.nearest-count.ensures
-    ∙ ap₂ (λ (z : ℤ) (n : ℕ). held (nearestZ z n)) (to_z-of_z s.ranges.ticks) (ap (λ (f : Framerate). f.ticks) r.row.ensures))
-    ∙ placed-held rate (ticksFrame s.args.ticks rate)))
+    ∙ ap₂ (λ (z : ℤ) (n : ℕ). held (nearest_z z n)) (to_z-of_z s.ranges.ticks) (ap (λ (f : Framerate). f.ticks) r.row.ensures))
+    ∙ placed-held rate (ticks_frame s.args.ticks rate)))
 
 pub with-premiere-ticks-spec : {M : Type 1} → statement M
 with-premiere-ticks-spec =

@@ -4,9 +4,9 @@ use mathlib.Core.Path.{◌≡◌, sym, ◌∙◌}
 use mathlib.Core.Bool.{true, false}
 use borrow.Author.Rules.{rules}
 use Rattle.numbers.proofs.Tests.{fails, passes}
-use Rattle.rates.specs.Rates.{isRate}
+use Rattle.rates.specs.Rates.{is_rate}
 use Rattle.timecodes.specs.declared.kinds.Mixed.TheVariants.{Of, Never}
-use Rattle.timecodes.specs.Kinds.{mixedKinds}
+use Rattle.timecodes.specs.Kinds.{mixed_kinds}
 use Rattle.timecodes.specs.KindLaws.{both-within}
 use Rattle.timecodes.proofs.admit_both.Statement.{statement}
 use Rattle.timecodes.proofs.admit_both.Tie as tie
@@ -14,13 +14,13 @@ use Rattle.timecodes.proofs.admit_both.Tie as tie
 returns : tie.Need-returns
 returns c = simp (fails c.before.is-rate.ensures c.if1.true)
 
-left-rated : (c : tie.Else1) → isRate c.before.before.args.a.rate ≡ true
+left-rated : (c : tie.Else1) → is_rate c.before.before.args.a.rate ≡ true
 left-rated c = passes c.before.is-rate.ensures c.if1.false
 
 returns-2 : tie.Need-returns-2
 returns-2 c = simp (left-rated c.before.before, fails c.before.is-rate2.ensures c.if2.true)
 
-right-rated : (c : tie.Else2) → isRate c.before.before.before.before.args.b.rate ≡ true
+right-rated : (c : tie.Else2) → is_rate c.before.before.before.before.args.b.rate ≡ true
 right-rated c = passes c.before.is-rate2.ensures c.if2.false
 
 -- two that are never mixed
@@ -29,13 +29,13 @@ returns-3 c =
     let m = c.before.before in
     let e = m.before in
     let a = e.before.before.before.before.args in
-    let never : mixedKinds a.joining a.a.kind a.b.kind ≡ Never = sym m.mix.ensures ∙ c.enum_told.given.1 in
+    let never : mixed_kinds a.joining a.a.kind a.b.kind ≡ Never = sym m.mix.ensures ∙ c.enum_told.given.1 in
     simp (left-rated e.before.before, right-rated e, never)
 
 -- two that are mixed
 mixed-is : (c : tie.After-mixed)
     → (let a = c.before.before.before.before.before.before.before.args in
-    mixedKinds a.joining a.a.kind a.b.kind ≡ Of c.mixed.given.0.0)
+    mixed_kinds a.joining a.a.kind a.b.kind ≡ Of c.mixed.given.0.0)
 mixed-is c = sym c.before.before.mix.ensures ∙ c.mixed.given.1
 
 returns-4 : tie.Need-returns-4

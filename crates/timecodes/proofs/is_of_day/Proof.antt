@@ -7,24 +7,24 @@ use borrow.Author.Rules.{rules}
 use lib.Dec.{ltb}
 use lib.IntN.{nat_abs}
 use mir.Facts.{to_z-of_z}
-use Rattle.numbers.specs.Sign.{isNeg}
-use Rattle.rates.specs.Day.{dayFrames}
-use Rattle.timecodes.specs.Admitted.{isOfDay}
+use Rattle.numbers.specs.Sign.{is_neg}
+use Rattle.rates.specs.Day.{day_frames}
+use Rattle.timecodes.specs.Admitted.{is_of_day}
 use Rattle.timecodes.proofs.is_of_day.Statement.{statement}
 use Rattle.timecodes.proofs.is_of_day.Tie as tie
 
 -- what the calls told is of the count itself
-sign-is : (c : tie.After-below-zero) → c.below-zero.result ≡ isNeg c.before.args.count
-sign-is c = c.below-zero.ensures ∙ ap isNeg (to_z-of_z c.before.ranges.count)
+sign-is : (c : tie.After-below-zero) → c.below-zero.result ≡ is_neg c.before.args.count
+sign-is c = c.below-zero.ensures ∙ ap is_neg (to_z-of_z c.before.ranges.count)
 
 size_is : (c : tie.After-magnitude) → c.magnitude.result ≡ nat_abs c.before.before.before.args.count
 size_is c = c.magnitude.ensures ∙ ap nat_abs (to_z-of_z c.before.before.before.ranges.count)
 
 -- the definition, by its two tests
-by_tests : (c : tie.After-below-zero) (t : Bool) → isNeg c.before.args.count ≡ t
-    → isOfDay c.before.args.rate c.before.args.count ≡ (not t && ltb (nat_abs c.before.args.count) (dayFrames c.before.args.rate))
-unfolding isOfDay
-by_tests c t e = ap (λ (b : Bool). not b && ltb (nat_abs c.before.args.count) (dayFrames c.before.args.rate)) e
+by_tests : (c : tie.After-below-zero) (t : Bool) → is_neg c.before.args.count ≡ t
+    → is_of_day c.before.args.rate c.before.args.count ≡ (not t && ltb (nat_abs c.before.args.count) (day_frames c.before.args.rate))
+unfolding is_of_day
+by_tests c t e = ap (λ (b : Bool). not b && ltb (nat_abs c.before.args.count) (day_frames c.before.args.rate)) e
 
 returns : tie.Need-returns
 returns c = sym (by_tests c.before true (sym (sign-is c.before) ∙ c.if1.true))

@@ -6,8 +6,8 @@ use borrow.Author.Rules.{rules}
 use lib.IntN.{ℤ}
 use mir.Syntax.{w64}
 use mir.Val.{to_z, of_z}
-use Rattle.answers.specs.Refusals.{isCount}
-use Rattle.timecodes.specs.Admitted.{isOfDay}
+use Rattle.answers.specs.Refusals.{is_count}
+use Rattle.timecodes.specs.Admitted.{is_of_day}
 use Rattle.timecodes.specs.AdmittedLaws.{within-length, within-position}
 use Rattle.timecodes.proofs.is_within.Statement.{statement}
 use Rattle.timecodes.proofs.is_within.Tie as tie
@@ -18,7 +18,7 @@ returns c =
     let tc = t.before.before.args.tc in
     let back : to_z w64 (of_z w64 tc.count) ≡ tc.count = search rules in
     c.is-of-day.ensures
-    ∙ ap (λ (z : ℤ). isOfDay tc.rate z) back
+    ∙ ap (λ (z : ℤ). is_of_day tc.rate z) back
     ∙ sym (within-position tc.kind tc.rate tc.count (sym t.before.is-position.ensures ∙ t.if1.true))
 
 returns-2 : tie.Need-returns-2
@@ -27,7 +27,7 @@ returns-2 c =
     let tc = t.before.before.args.tc in
     let back : to_z w64 (of_z w64 tc.count) ≡ tc.count = search rules in
     c.is-count.ensures
-    ∙ ap isCount back
+    ∙ ap is_count back
     ∙ sym (within-length tc.kind tc.rate tc.count (sym t.before.is-position.ensures ∙ t.if1.false))
 
 pub is-within-spec : {M : Type 1} → statement M

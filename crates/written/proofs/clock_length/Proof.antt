@@ -4,13 +4,13 @@ use Prim.Native.Nat.{◌+◌, ◌≤◌}
 use native.Mathlib.Omega.{arith}
 use lib.ListN.{length}
 use borrow.Author.Rules.{rules}
-use Rattle.written.specs.Parts.{paddedText, fieldText}
+use Rattle.written.specs.Parts.{padded_text, field_text}
 use Rattle.written.proofs.Parts.{clock-length, clock-most}
 use Rattle.written.proofs.clock_length.Statement.{statement}
 use Rattle.written.proofs.clock_length.Tie as tie
 
 -- no sum on the way to it wraps
-short : (c : tie.Start) → let a = c.args in length (paddedText a.minus 2 a.hours) + length (fieldText 58 a.minutes) + length (fieldText 58 a.seconds) ≤ 63
+short : (c : tie.Start) → let a = c.args in length (padded_text a.minus 2 a.hours) + length (field_text 58 a.minutes) + length (field_text 58 a.seconds) ≤ 63
 short c =
     let a = c.args in
     let most = clock-most a.minus a.hours a.minutes a.seconds (search rules) (search rules) (search rules) in

@@ -6,8 +6,8 @@ use mathlib.Core.Path.{sym}
 use lib.ListN.{length}
 use borrow.Author.Rules.{rules}
 use Rattle.lent.proofs.Laws.{laid_out, laid-three}
-use Rattle.written.specs.Parts.{paddedText, fieldText}
-use Rattle.written.specs.Clock.{clockText}
+use Rattle.written.specs.Parts.{padded_text, field_text}
+use Rattle.written.specs.Clock.{clock_text}
 use Rattle.written.proofs.Parts.{clock-length}
 use Rattle.written.proofs.put_clock.Statement.{statement}
 use Rattle.written.proofs.put_clock.Tie as tie
@@ -15,7 +15,7 @@ use Rattle.written.proofs.put_clock.Tie as tie
 -- with room, the parts lie within it
 fit : (c : tie.Then1)
     → let a = c.before.before.before.args in
-    length (paddedText a.minus 2 a.hours) + length (fieldText 58 a.minutes) + length (fieldText 58 a.seconds) ≤ length a.part.now
+    length (padded_text a.minus 2 a.hours) + length (field_text 58 a.minutes) + length (field_text 58 a.seconds) ≤ length a.part.now
 fit c =
     let a = c.before.before.before.args in
     omega (arith, clock-length a.minus a.hours a.minutes a.seconds, c.before.clock-length.ensures)
@@ -39,12 +39,12 @@ part-put-field-start-2 : tie.Need-slice-bounds-put-field-start-2
 part-put-field-start-2 c = omega (arith, fit c.before.before.before.before.before.before.before.before.before.before)
 
 returns : tie.Need-returns
-unfolding clockText
+unfolding clock_text
 returns c =
     let test = c.before.before.before.before.before.before.before.before.before.before.before.before.before.before in
     let a = test.before.before.before.args in
     let first = c.before.before.before.before.before.before.before.before.before.before.before.before.before.padded-length in
-    laid-three a.part.now _ _ _ (paddedText a.minus 2 a.hours) (fieldText 58 a.minutes) (fieldText 58 a.seconds) first.result _
+    laid-three a.part.now _ _ _ (padded_text a.minus 2 a.hours) (field_text 58 a.minutes) (field_text 58 a.seconds) first.result _
     (omega (arith, fit test, clock-length a.minus a.hours a.minutes a.seconds))
     c.before.before.before.before.before.before.before.before.before.before.put-padded.ensures
     first.ensures
@@ -55,7 +55,7 @@ returns c =
 returns-2 : tie.Need-returns-2
 returns-2 c =
     let a = c.before.before.before.args in
-    sym (laid_out a.part.now (clockText a.minus a.hours a.minutes a.seconds) (omega arith))
+    sym (laid_out a.part.now (clock_text a.minus a.hours a.minutes a.seconds) (omega arith))
 
 pub put-clock-spec : {M : Type 1} → statement M
 put-clock-spec =

@@ -8,13 +8,13 @@ use borrow.Author.Rules.{rules}
 use Rattle.lent.specs.Line.{laid}
 use Rattle.lent.proofs.Laws.{laid-lent}
 use Rattle.digits.specs.Digits.{decimal}
-use Rattle.written.specs.Parts.{signText}
+use Rattle.written.specs.Parts.{sign_text}
 use Rattle.written.proofs.Parts.{decimal-wide, padded-length}
 use Rattle.written.proofs.put_padded.Statement.{statement}
 use Rattle.written.proofs.put_padded.Tie as tie
 
 -- the sign lies within the room asked for
-fit : (c : tie.Start) → length (signText c.args.minus) ≤ length c.args.part.now
+fit : (c : tie.Start) → length (sign_text c.args.minus) ≤ length c.args.part.now
 fit c = omega (arith, c.requires, padded-length c.args.minus c.args.least c.args.m)
 
 sub-put-digits : tie.Need-overflow-sub-put-digits
@@ -29,7 +29,7 @@ returns c =
     let a = start.args in
     let w = c.before.before.before.before.before.before.before.before.width_of_lem in
     let sign = c.before.before.before.before.before.before.before.before.before.sign-length in
-    laid-lent a.part.now _ _ (signText a.minus) (decimal a.least a.m) sign.result
+    laid-lent a.part.now _ _ (sign_text a.minus) (decimal a.least a.m) sign.result
     c.before.before.before.before.before.before.put-sign.ensures
     sign.ensures
     start.requires

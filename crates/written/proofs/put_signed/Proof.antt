@@ -4,12 +4,12 @@ use native.Mathlib.Omega.{arith}
 use mathlib.Core.Path.{sym}
 use borrow.Author.Rules.{rules}
 use Rattle.lent.proofs.Laws.{laid_out}
-use Rattle.written.specs.Parts.{signedText}
+use Rattle.written.specs.Parts.{signed_text}
 use Rattle.written.proofs.put_signed.Statement.{statement}
 use Rattle.written.proofs.put_signed.Tie as tie
 
 returns-2 : tie.Need-returns-2
-returns-2 c = let a = c.before.before.before.args in sym (laid_out a.part.now (signedText a.minus a.m) (omega arith))
+returns-2 c = let a = c.before.before.before.args in sym (laid_out a.part.now (signed_text a.minus a.m) (omega arith))
 
 pub put-signed-spec : {M : Type 1} → statement M
 put-signed-spec =

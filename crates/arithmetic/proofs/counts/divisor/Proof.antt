@@ -7,13 +7,13 @@ use borrow.Author.Tests.{lt-ltb, le-ltb}
 use lib.IntN.{ℤ, nat_abs}
 use mir.Facts.{to_z-of_z}
 use Rattle.numbers.proofs.Tests.{fails, passes}
-use Rattle.time.specs.Bounds.{mostFactor, isFraction}
+use Rattle.time.specs.Bounds.{most_factor, is_fraction}
 use Rattle.arithmetic.proofs.counts.divisor.Statement.{statement}
 use Rattle.arithmetic.proofs.counts.divisor.Tie as tie
 
 -- what the test told is of p itself
-told : (c : tie.After-is-fraction) → c.is-fraction.result ≡ isFraction mostFactor c.before.args.p c.before.args.q
-told c = c.is-fraction.ensures ∙ ap (λ (z : ℤ). isFraction mostFactor z c.before.args.q) (to_z-of_z c.before.ranges.p)
+told : (c : tie.After-is-fraction) → c.is-fraction.result ≡ is_fraction most_factor c.before.args.p c.before.args.q
+told c = c.is-fraction.ensures ∙ ap (λ (z : ℤ). is_fraction most_factor z c.before.args.q) (to_z-of_z c.before.ranges.p)
 
 returns : tie.Need-returns
 returns c = simp (fails (told c.before) c.if1.true)

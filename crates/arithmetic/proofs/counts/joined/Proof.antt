@@ -5,7 +5,7 @@ use mathlib.Core.Path.{◌∙◌, ap, ap₂}
 use borrow.Author.Rules.{rules}
 use lib.IntN.{ℤ, nat_abs, ◌+ℤ◌, ◌-ℤ◌}
 use mir.Facts.{to_z-of_z}
-use Rattle.numbers.specs.Nearest.{nearestZ}
+use Rattle.numbers.specs.Nearest.{nearest_z}
 use Rattle.numbers.specs.Total.{fitted, fitted-in}
 use Rattle.answers.specs.Refusals.{held}
 use Rattle.rates.specs.declared.Framerate.{Framerate}
@@ -19,7 +19,7 @@ returns c =
     let s = r.before in
     rw i.if1.true
     (c.nearest-count.ensures
-    ∙ ap₂ (λ (z : ℤ) (n : ℕ). held (nearestZ z n))
+    ∙ ap₂ (λ (z : ℤ) (n : ℕ). held (nearest_z z n))
     (to_z-of_z (record { sfits = c.before.difference.type-inv })
     ∙ c.before.difference.ensures
     ∙ ap₂ (λ (x y : ℤ). fitted (nat_abs x + nat_abs y) (x -ℤ y)) (to_z-of_z s.ranges.x) (to_z-of_z s.ranges.y)
@@ -33,7 +33,7 @@ returns-2 c =
     let s = r.before in
     rw i.if1.false
     (c.nearest-count2.ensures
-    ∙ ap₂ (λ (z : ℤ) (n : ℕ). held (nearestZ z n))
+    ∙ ap₂ (λ (z : ℤ) (n : ℕ). held (nearest_z z n))
     (to_z-of_z (record { sfits = c.before.sum.type-inv })
     ∙ c.before.sum.ensures
     ∙ ap₂ (λ (x y : ℤ). fitted (nat_abs x + nat_abs y) (x +ℤ y)) (to_z-of_z s.ranges.x) (to_z-of_z s.ranges.y)

@@ -10,7 +10,7 @@ use lib.Signed.{rem_z}
 use mir.Facts.{to_z-of_z}
 use Rattle.numbers.specs.Total.{divided, divided-in}
 use Rattle.answers.specs.declared.Counted.TheVariants.{Count}
-use Rattle.arithmetic.specs.Truncating.{remainderCounted}
+use Rattle.arithmetic.specs.Truncating.{remainder_counted}
 use Rattle.arithmetic.proofs.counts.remainder.Statement.{statement}
 use Rattle.arithmetic.proofs.counts.remainder.Tie as tie
 
@@ -19,11 +19,11 @@ m-is : (c : tie.After-magnitude) → c.magnitude.result ≡ nat_abs c.before.arg
 m-is c = rw (to_z-of_z c.before.ranges.n) at c.magnitude.ensures
 
 returns : tie.Need-returns
-unfolding remainderCounted
+unfolding remainder_counted
 returns c = simp (le-ltb 0 (nat_abs c.before.before.args.n) (omega (arith, m-is c.before)))
 
 returns-2 : tie.Need-returns-2
-unfolding remainderCounted
+unfolding remainder_counted
 returns-2 c =
     let s = c.before.before.before in
     let x = s.args.count in

@@ -7,22 +7,22 @@ use lib.Signed.{rem_z}
 use mir.Syntax.{w64}
 use mir.Val.{to_z, of_z}
 use mir.Facts.{to_z-of_z}
-use Rattle.numbers.specs.Nearest.{nearestZ}
+use Rattle.numbers.specs.Nearest.{nearest_z}
 use Rattle.numbers.specs.Total.{divided, divided-in}
 use Rattle.answers.specs.declared.Verdict.TheVariants as verdict
 use Rattle.answers.specs.Order.{judged}
 use Rattle.answers.specs.Refusals.{held}
-use Rattle.arithmetic.specs.Divisor.{divisorWhen}
-use Rattle.arithmetic.specs.Remainder.{left_of, leftCounted}
+use Rattle.arithmetic.specs.Divisor.{divisor_when}
+use Rattle.arithmetic.specs.Remainder.{left_of, left_counted}
 use Rattle.arithmetic.proofs.Dividing.{divisor-within, divisor-nonzero, dividend-lt, held-divided, divided-refused}
 use Rattle.arithmetic.proofs.counts.remainder_by.Statement.{statement}
 use Rattle.arithmetic.proofs.counts.remainder_by.Tie as tie
 
 -- what the test told is of p itself
-told : (c : tie.After-divisor) → c.divisor.result ≡ judged (divisorWhen c.before.args.p c.before.args.q)
-told c = c.divisor.ensures ∙ ap (λ (z : ℤ). judged (divisorWhen z c.before.args.q)) (to_z-of_z c.before.ranges.p)
+told : (c : tie.After-divisor) → c.divisor.result ≡ judged (divisor_when c.before.args.p c.before.args.q)
+told c = c.divisor.ensures ∙ ap (λ (z : ℤ). judged (divisor_when z c.before.args.q)) (to_z-of_z c.before.ranges.p)
 
-passed : (c : tie.After-enum-told) → let a = c.before.before.before.args in judged (divisorWhen a.p a.q) ≡ verdict.Passed
+passed : (c : tie.After-enum-told) → let a = c.before.before.before.args in judged (divisor_when a.p a.q) ≡ verdict.Passed
 passed c = sym (told c.before.before) ∙ c.enum_told.given.1
 
 scaled-requires : tie.Need-scaled-requires
@@ -38,14 +38,14 @@ dividend-is c =
     to_z-of_z (record { sfits = c.scaled.type-inv }) ∙ c.scaled.ensures ∙ ap (λ (z : ℤ). z *ℤ pos s.args.q) (to_z-of_z s.ranges.count)
 
 returns : tie.Need-returns
-unfolding leftCounted
+unfolding left_counted
 returns c =
     let r = c.before in
     let t = r.before.before in
     let s = t.before.before.before in
     let a = s.args in
     c.nearest-count.ensures
-    ∙ ap (λ (z : ℤ). held (nearestZ z a.q))
+    ∙ ap (λ (z : ℤ). held (nearest_z z a.q))
     (to_z-of_z (record { sfits = r.remainder.type-inv })
     ∙ r.remainder.ensures
     ∙ ap₂ (λ (x y : ℤ). divided x y (rem_z x y)) (dividend-is r.before) (to_z-of_z s.ranges.p)
@@ -53,7 +53,7 @@ returns c =
     ∙ held-divided a.p a.q (passed t) (left_of a.count a.p a.q)
 
 returns-2 : tie.Need-returns-2
-unfolding leftCounted
+unfolding left_counted
 returns-2 c =
     let d = c.before.before.before in
     let a = d.before.args in

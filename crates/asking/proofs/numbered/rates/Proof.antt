@@ -7,7 +7,7 @@ use lib.ListN.{length, length-set}
 use borrow.Author.Rules.{rules}
 use mir.Syntax.{w64}
 use mir.Val.{to_z, of_z}
-use Rattle.numbers.specs.Sign.{upFrom}
+use Rattle.numbers.specs.Sign.{up_from}
 use Rattle.asking.proofs.Listing.{Lists, lists-start, lists-other, lists-full, lists-turn}
 use Rattle.asking.proofs.numbered.rates.Statement.{statement}
 use Rattle.asking.proofs.numbered.rates.Tie as tie
@@ -43,7 +43,7 @@ loop-again c =
     let read = found.before.before in
     let turn = read.before in
     lists-turn _ _ _ _ _ _ turn.before.loop.invariant _ _ _ turn.loop-test.true
-    (sym read.number.ensures ∙ found.w.given.1) (c.up_from.ensures ∙ ap upFrom (back c.before))
+    (sym read.number.ensures ∙ found.w.given.1) (c.up_from.ensures ∙ ap up_from (back c.before))
 
 same-length-2 : tie.Need-same-length-2 invariant-loop decreases-loop
 same-length-2 c = c.before.loop.invariant.long

@@ -7,7 +7,7 @@ use lib.ListN.{length, length-set}
 use borrow.Author.Rules.{rules}
 use mir.Syntax.{w64}
 use mir.Val.{to_z, of_z}
-use Rattle.asking.specs.RecordWords.{dueBehind}
+use Rattle.asking.specs.RecordWords.{due_behind}
 use Rattle.asking.proofs.Recording.{Recording, recording-start, recording-other, recording-full, recording-turn}
 use Rattle.asking.proofs.recorded.records.Statement.{statement}
 use Rattle.asking.proofs.recorded.records.Tie as tie
@@ -47,7 +47,7 @@ loop-again c =
     let turn = read.before in
     rw (back c.before)
     (recording-turn _ _ _ _ _ _ _ turn.before.loop.invariant _ _ _ turn.loop-test.true
-    (sym read.next-at.ensures ∙ found.w.given.1) (c.due-behind.ensures ∙ ap (dueBehind _) (back c.before)))
+    (sym read.next-at.ensures ∙ found.w.given.1) (c.due-behind.ensures ∙ ap (due_behind _) (back c.before)))
 
 same-length-2 : tie.Need-same-length-2 invariant-loop decreases-loop
 same-length-2 c = c.before.before.loop.invariant.long

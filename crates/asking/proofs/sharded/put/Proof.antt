@@ -6,7 +6,7 @@ use lib.Seq.{set_out}
 use borrow.Author.Rules.{rules}
 use mir.Syntax.{w64}
 use mir.Val.{to_z, of_z}
-use Rattle.numbers.specs.Sign.{upFrom}
+use Rattle.numbers.specs.Sign.{up_from}
 use Rattle.asking.proofs.sharded.put.Statement.{statement}
 use Rattle.asking.proofs.sharded.put.Tie as tie
 
@@ -14,7 +14,7 @@ returns : tie.Need-returns
 returns c =
     let a = c.before.before.before.args in
     let back : to_z w64 (of_z w64 a.z) ≡ a.z = search rules in
-    ap (set a.list.now a.n) (c.up_from.ensures ∙ ap upFrom back)
+    ap (set a.list.now a.n) (c.up_from.ensures ∙ ap up_from back)
 
 returns-2 : tie.Need-returns-2
 returns-2 c = sym (set_out _ _ _ c.if1.false)

@@ -8,9 +8,9 @@ use borrow.Author.Tests.{not-true, not-false}
 use borrow.Author.Rules.{rules}
 use mir.Syntax.{w64}
 use mir.Val.{to_z, of_z}
-use Rattle.numbers.specs.Sign.{upFrom}
+use Rattle.numbers.specs.Sign.{up_from}
 use Rattle.asking.specs.declared.sharded.Range.TheVariants.{Of}
-use Rattle.asking.specs.ShardWords.{rangeAt}
+use Rattle.asking.specs.ShardWords.{range_at}
 use Rattle.asking.proofs.Numbers.{stands-within}
 use Rattle.asking.proofs.Ranges.{Ranging, ranging-start, ranging-none, ranging-over, ranging-turn, range-past}
 use Rattle.asking.proofs.sharded.ranges.Statement.{statement}
@@ -26,10 +26,10 @@ loop-holds : tie.Need-loop-init invariant-loop decreases-loop
 loop-holds c = ranging-start _ _ _ _
 
 same_length : tie.Need-same-length invariant-loop decreases-loop
-same_length c = c.before.before.before.loop.invariant.firsts-long
+same_length c = c.before.before.before.loop.invariant.firsts_long
 
 same-length-2 : tie.Need-same-length-2 invariant-loop decreases-loop
-same-length-2 c = c.before.before.before.loop.invariant.ends-long
+same-length-2 c = c.before.before.before.loop.invariant.ends_long
 
 returns : tie.Need-returns invariant-loop decreases-loop
 returns c =
@@ -40,7 +40,7 @@ returns c =
 found : (c : tie.After-known-told invariant-loop decreases-loop)
     → let read = c.before.before.before in
     let range = c.before.r.given.0 in
-    rangeAt read.before.before.before.before.before.args.line.now read.before.loop.at ≡ Of range.0 range.1.0 range.1.1.0
+    range_at read.before.before.before.before.before.args.line.now read.before.loop.at ≡ Of range.0 range.1.0 range.1.1.0
 found c = sym c.before.before.before.range_at.ensures ∙ c.before.r.given.1
 
 -- it ends behind the place, within the line
@@ -63,46 +63,46 @@ add-n c =
     omega (arith, past known, known.before.before.before.before.loop.invariant.few)
 
 -- the lists with the range in them
-firsts-are : (c : tie.After-stands invariant-loop decreases-loop)
+firsts_are : (c : tie.After-stands invariant-loop decreases-loop)
     → let put = c.before.before.before.before.before.before.before in
     let known = put.before.before in
     let s = known.before.before.before.before in
-    put.put.new.0 ≡ set s.loop.firsts s.loop.n (upFrom known.before.r.given.0.0)
-firsts-are c =
+    put.put.new.0 ≡ set s.loop.firsts s.loop.n (up_from known.before.r.given.0.0)
+firsts_are c =
     let put = c.before.before.before.before.before.before.before in
     let known = put.before.before in
     let s = known.before.before.before.before in
-    put.put.ensures ∙ ap (λ x. set s.loop.firsts s.loop.n (upFrom x)) (first_back known)
+    put.put.ensures ∙ ap (λ x. set s.loop.firsts s.loop.n (up_from x)) (first_back known)
 
-ends-are : (c : tie.After-stands invariant-loop decreases-loop)
+ends_are : (c : tie.After-stands invariant-loop decreases-loop)
     → let put = c.before.before.before in
     let known = put.before.before.before.before.before.before in
     let s = known.before.before.before.before in
-    put.put2.new.0 ≡ set s.loop.ends s.loop.n (upFrom known.before.r.given.0.1.0)
-ends-are c =
+    put.put2.new.0 ≡ set s.loop.ends s.loop.n (up_from known.before.r.given.0.1.0)
+ends_are c =
     let put = c.before.before.before in
     let known = put.before.before.before.before.before.before in
     let s = known.before.before.before.before in
-    put.put2.ensures ∙ ap (λ x. set s.loop.ends s.loop.n (upFrom x)) (end_back known)
+    put.put2.ensures ∙ ap (λ x. set s.loop.ends s.loop.n (up_from x)) (end_back known)
 
 same-length-3 : tie.Need-same-length-3 invariant-loop decreases-loop
 same-length-3 c =
     let stood = c.before.before in
     let s = stood.before.before.before.before.before.before.before.before.before.before.before.before.before in
-    ap length (firsts-are stood) ∙ simp length-set s.loop.invariant.firsts-long
+    ap length (firsts_are stood) ∙ simp length-set s.loop.invariant.firsts_long
 
 same-length-4 : tie.Need-same-length-4 invariant-loop decreases-loop
 same-length-4 c =
     let stood = c.before.before in
     let s = stood.before.before.before.before.before.before.before.before.before.before.before.before.before in
-    ap length (ends-are stood) ∙ simp length-set s.loop.invariant.ends-long
+    ap length (ends_are stood) ∙ simp length-set s.loop.invariant.ends_long
 
 returns-2 : tie.Need-returns-2 invariant-loop decreases-loop
 returns-2 c =
     let stood = c.before.before in
     let known = stood.before.before.before.before.before.before.before.before.before in
     let turn = known.before.before.before.before in
-    ranging-over _ _ _ _ _ _ _ _ turn.loop.invariant _ _ _ (found known) _ _ (firsts-are stood) (ends-are stood)
+    ranging-over _ _ _ _ _ _ _ _ turn.loop.invariant _ _ _ (found known) _ _ (firsts_are stood) (ends_are stood)
     (sym stood.stands.ensures ∙ not-true _ c.before.if1.true) _ c.is-over.ensures
 
 add_at : tie.Need-overflow-add-at invariant-loop decreases-loop
@@ -121,7 +121,7 @@ loop-again c =
     let stood = c.before in
     let known = stood.before.before.before.before.before.before.before.before.before in
     let turn = known.before.before.before.before in
-    ranging-turn _ _ _ _ _ _ _ _ turn.loop.invariant _ _ _ (found known) _ _ (firsts-are stood) (ends-are stood)
+    ranging-turn _ _ _ _ _ _ _ _ turn.loop.invariant _ _ _ (found known) _ _ (firsts_are stood) (ends_are stood)
     (sym stood.stands.ensures ∙ not-false _ c.if1.false)
 
 pub ranges-spec : {M : Type 1} → statement M

@@ -2,19 +2,19 @@
 -- Assumes nothing.
 use borrow.Author.Tests.{not-true, not-false}
 use borrow.Author.Rules.{rules}
-use Rattle.asking.specs.ShardWords.{shardsOf}
+use Rattle.asking.specs.ShardWords.{shards_of}
 use Rattle.asking.proofs.Ranges.{shards-ill, shards-well}
 use Rattle.asking.proofs.sharded.shards.Statement.{statement}
 use Rattle.asking.proofs.sharded.shards.Tie as tie
 
 returns : tie.Need-returns
-unfolding shardsOf
+unfolding shards_of
 returns c =
     let f = c.before.before.before.before.before.before.spelled.ensures in
     (shards-ill _ _ _ _ _ f.0 (not-true _ c.if1.true), f.1)
 
 returns-2 : tie.Need-returns-2
-unfolding shardsOf
+unfolding shards_of
 returns-2 c =
     let f = c.before.before.before.before.before.before.before.spelled.ensures in
     (shards-well _ _ _ _ _ f.0 (not-false _ c.before.if1.false) _ c.both_hold.ensures, f.1)

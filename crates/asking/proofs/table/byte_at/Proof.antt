@@ -2,12 +2,12 @@
 -- Assumes nothing.
 use borrow.Author.Rules.{rules}
 use mathlib.Core.Path.{refl}
-use Rattle.asking.specs.Table.{rows, filled, bytesIn, tableBytes}
+use Rattle.asking.specs.Table.{rows, filled, bytes_in, table_bytes}
 use Rattle.asking.proofs.table.byte_at.Statement.{statement}
 use Rattle.asking.proofs.table.byte_at.Tie as tie
 
 returns : tie.Need-returns
-unfolding rows filled bytesIn tableBytes
+unfolding rows filled bytes_in table_bytes
 returns c = refl
 
 pub byte-at-spec : {M : Type 1} → statement M

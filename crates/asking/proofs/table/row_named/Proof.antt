@@ -4,7 +4,7 @@ use Prim.Native.Nat.{◌-◌}
 use mathlib.Core.Path.{refl, sym, ◌∙◌}
 use native.Mathlib.Omega.{arith}
 use borrow.Author.Rules.{rules}
-use Rattle.asking.specs.Table.{rowCount}
+use Rattle.asking.specs.Table.{row_count}
 use Rattle.asking.proofs.Named.{Seeking, seeking-found, seeking-turn, seeking-none}
 use Rattle.asking.proofs.table.row_named.Statement.{statement}
 use Rattle.asking.proofs.table.row_named.Tie as tie
@@ -13,7 +13,7 @@ abbrev invariant-loop : tie.invariant-loop
 invariant-loop word i₀ i = Seeking word i
 
 abbrev decreases-loop : tie.decreases-loop
-decreases-loop word i₀ i = rowCount - i
+decreases-loop word i₀ i = row_count - i
 
 loop-holds : tie.Need-loop-init invariant-loop decreases-loop
 loop-holds c = record { within = omega arith; same_from = refl }

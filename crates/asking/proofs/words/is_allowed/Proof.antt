@@ -4,14 +4,14 @@ use mathlib.Core.Bool.{not}
 use mathlib.Core.Path.{ap, ◌∙◌}
 use borrow.Author.Rules.{rules}
 use mir.Facts.{to_z-of_z}
-use Rattle.numbers.specs.Sign.{isNeg}
+use Rattle.numbers.specs.Sign.{is_neg}
 use Rattle.asking.specs.Asked.{is_room}
 use Rattle.asking.proofs.Taken.{allowed-place, allowed-room, allowed-wide, allowed-any}
 use Rattle.asking.proofs.words.is_allowed.Statement.{statement}
 use Rattle.asking.proofs.words.is_allowed.Tie as tie
 
 returns : tie.Need-returns
-returns c = ap not (c.below-zero.ensures ∙ ap isNeg (to_z-of_z c.before.before.ranges.z)) ∙ allowed-place _ _ c.before.if1.true
+returns c = ap not (c.below-zero.ensures ∙ ap is_neg (to_z-of_z c.before.before.ranges.z)) ∙ allowed-place _ _ c.before.if1.true
 
 returns-2 : tie.Need-returns-2
 returns-2 c =

@@ -3,8 +3,8 @@
 use mathlib.Core.Path.{ap, ◌∙◌}
 use native.Mathlib.Omega.{arith}
 use borrow.Author.Rules.{rules}
-use Rattle.asking.specs.Table.{rowNamed}
-use Rattle.asking.specs.Asked.{wordsFrom, noValues}
+use Rattle.asking.specs.Table.{row_named}
+use Rattle.asking.specs.Asked.{words_from, no_values}
 use Rattle.asking.proofs.Taken.{word-within, word-part, part-plain, asked-known, asked-unknown}
 use Rattle.asking.proofs.words.understand.Statement.{statement}
 use Rattle.asking.proofs.words.understand.Tie as tie
@@ -20,14 +20,14 @@ returns c =
     let named = c.before.before in
     let ended = named.before.before in
     c.words.ensures
-    ∙ ap (λ n. wordsFrom 5 named.row_named.result ended.before.before.args.line.now n 0 noValues) ended.word-end.ensures
-    ∙ asked-known _ _ (named.row_named.ensures ∙ ap rowNamed (word-part _ _ ended.word-end.ensures)) c.before.if1.true
+    ∙ ap (λ n. words_from 5 named.row_named.result ended.before.before.args.line.now n 0 no_values) ended.word-end.ensures
+    ∙ asked-known _ _ (named.row_named.ensures ∙ ap row_named (word-part _ _ ended.word-end.ensures)) c.before.if1.true
 
 returns-2 : tie.Need-returns-2
 returns-2 c =
     let named = c.before.before in
     c.not-understood.ensures
-    ∙ asked-unknown _ _ (named.row_named.ensures ∙ ap rowNamed (word-part _ _ named.before.before.word-end.ensures)) c.before.if1.false
+    ∙ asked-unknown _ _ (named.row_named.ensures ∙ ap row_named (word-part _ _ named.before.before.word-end.ensures)) c.before.if1.false
 
 pub understand-spec : {M : Type 1} → statement M
 understand-spec =

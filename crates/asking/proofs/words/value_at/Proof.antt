@@ -5,8 +5,8 @@ use mathlib.Core.Path.{sym, ap, ◌∙◌}
 use native.Mathlib.Omega.{arith}
 use lib.Seq.{drop-drop}
 use borrow.Author.Rules.{rules}
-use Rattle.asking.specs.Numbers.{signedAt}
-use Rattle.asking.proofs.Taken.{unstated-within, position-within, value-unstated, value-marked, value-plain}
+use Rattle.asking.specs.Numbers.{signed_at}
+use Rattle.asking.proofs.Taken.{unstated-within, position_within, value-unstated, value-marked, value-plain}
 use Rattle.asking.proofs.words.value_at.Statement.{statement}
 use Rattle.asking.proofs.words.value_at.Tie as tie
 
@@ -21,7 +21,7 @@ returns c = sym (value-unstated _ _ _ (sym c.before.is-unstated.ensures ∙ c.if
 add-signed-at : tie.Need-overflow-add-signed-at
 add-signed-at c =
     let a = c.before.before.before.before.before.args in
-    omega (arith, position-within a.kind a.line.now a.at (sym c.before.is-position.ensures ∙ c.if2.true))
+    omega (arith, position_within a.kind a.line.now a.at (sym c.before.is-position.ensures ∙ c.if2.true))
 
 returns-2 : tie.Need-returns-2
 returns-2 c =
@@ -29,7 +29,7 @@ returns-2 c =
     let stated = read.before in
     let a = stated.before.before.before.args in
     c.signed-at.ensures
-    ∙ ap (signedAt (a.at + 2)) (sym (drop-drop 2 a.at a.line.now))
+    ∙ ap (signed_at (a.at + 2)) (sym (drop-drop 2 a.at a.line.now))
     ∙ sym
     (value-marked _ _ _ (sym stated.before.is-unstated.ensures ∙ stated.if1.false) (sym read.is-position.ensures ∙ c.before.if2.true))
 

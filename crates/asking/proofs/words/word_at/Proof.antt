@@ -4,7 +4,7 @@ use mathlib.Core.Path.{◌≡◌, sym, ap, ◌∙◌}
 use borrow.Author.Rules.{rules}
 use mir.Syntax.{w64}
 use mir.Val.{to_z, of_z}
-use Rattle.asking.specs.Asked.{isInRange, allowed}
+use Rattle.asking.specs.Asked.{is_in_range, allowed}
 use Rattle.asking.proofs.Taken.{word-shards, word_number, allowed-yes, allowed-no}
 use Rattle.asking.proofs.words.word_at.Statement.{statement}
 use Rattle.asking.proofs.words.word_at.Tie as tie
@@ -32,7 +32,7 @@ returns-3 c =
     let a = read.before.before.before.args in
     sym
     (ap (allowed a.kind) (sym read.value-at.ensures ∙ found.w.given.1)
-    ∙ allowed-yes _ _ _ (sym (ap (isInRange a.kind) (back c.before.before)) ∙ sym c.before.is-allowed.ensures ∙ c.if2.true))
+    ∙ allowed-yes _ _ _ (sym (ap (is_in_range a.kind) (back c.before.before)) ∙ sym c.before.is-allowed.ensures ∙ c.if2.true))
     ∙ word_number a.kind a.line.now a.at read.before.if1.false
 
 returns-4 : tie.Need-returns-4
@@ -42,7 +42,7 @@ returns-4 c =
     let a = read.before.before.before.args in
     sym
     (ap (allowed a.kind) (sym read.value-at.ensures ∙ found.w.given.1)
-    ∙ allowed-no _ _ _ (sym (ap (isInRange a.kind) (back c.before.before)) ∙ sym c.before.is-allowed.ensures ∙ c.if2.false))
+    ∙ allowed-no _ _ _ (sym (ap (is_in_range a.kind) (back c.before.before)) ∙ sym c.before.is-allowed.ensures ∙ c.if2.false))
     ∙ word_number a.kind a.line.now a.at read.before.if1.false
 
 pub word-at-spec : {M : Type 1} → statement M

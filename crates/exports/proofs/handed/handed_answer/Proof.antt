@@ -3,13 +3,13 @@
 use mathlib.Core.Path.{◌≡◌}
 use mir.Syntax.{w64}
 use mir.Val.{to_z, of_z}
-use Rattle.exports.specs.Handed.{handedAnswer}
+use Rattle.exports.specs.Handed.{handed_answer}
 use borrow.Author.Rules.{rules}
 use Rattle.exports.proofs.handed.handed_answer.Statement.{statement}
 use Rattle.exports.proofs.handed.handed_answer.Tie as tie
 
 returns : tie.Need-returns
-unfolding handedAnswer
+unfolding handed_answer
 returns c =
     let there = c.before.before.before in
     let z = there.a.given.0.0.count in
@@ -17,7 +17,7 @@ returns c =
     simp (back, c.before.is-position.ensures, there.a.given.1)
 
 returns-2 : tie.Need-returns-2
-unfolding handedAnswer
+unfolding handed_answer
 returns-2 c = simp (c.wide.ensures, c.before.before.a2.given.1)
 
 pub handed-answer-spec : {M : Type 1} → statement M

@@ -1,16 +1,16 @@
 -- `exports::handed_length` meets its contract: each arm gives the numbers of its case.
 -- Assumes nothing.
-use Rattle.exports.specs.Handed.{handedLength}
+use Rattle.exports.specs.Handed.{handed_length}
 use borrow.Author.Rules.{rules}
 use Rattle.exports.proofs.handed.handed_length.Statement.{statement}
 use Rattle.exports.proofs.handed.handed_length.Tie as tie
 
 returns : tie.Need-returns
-unfolding handedLength
+unfolding handed_length
 returns c = simp c.before.a.given.1
 
 returns-2 : tie.Need-returns-2
-unfolding handedLength
+unfolding handed_length
 returns-2 c = simp (c.wide.ensures, c.before.before.a2.given.1)
 
 pub handed-length-spec : {M : Type 1} → statement M

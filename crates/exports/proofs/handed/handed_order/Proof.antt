@@ -3,20 +3,20 @@
 use mathlib.Core.Path.{◌≡◌}
 use mir.Syntax.{w64}
 use mir.Val.{to_z, of_z}
-use Rattle.exports.specs.Handed.{handedOrder}
+use Rattle.exports.specs.Handed.{handed_order}
 use borrow.Author.Rules.{rules}
 use Rattle.exports.proofs.handed.handed_order.Statement.{statement}
 use Rattle.exports.proofs.handed.handed_order.Tie as tie
 
 returns : tie.Need-returns
-unfolding handedOrder
+unfolding handed_order
 returns c =
     let z = c.before.a.given.0.0 in
     let back : to_z w64 (of_z w64 z) ≡ z = search rules in
     simp (back, c.before.a.given.1)
 
 returns-2 : tie.Need-returns-2
-unfolding handedOrder
+unfolding handed_order
 returns-2 c = simp (c.wide.ensures, c.before.before.a2.given.1)
 
 pub handed-order-spec : {M : Type 1} → statement M

@@ -1,16 +1,16 @@
 -- `exports::handed_rate` meets its contract: each arm gives the numbers of its case.
 -- Assumes nothing.
-use Rattle.exports.specs.Handed.{handedRate}
+use Rattle.exports.specs.Handed.{handed_rate}
 use borrow.Author.Rules.{rules}
 use Rattle.exports.proofs.handed.handed_rate.Statement.{statement}
 use Rattle.exports.proofs.handed.handed_rate.Tie as tie
 
 returns : tie.Need-returns
-unfolding handedRate
+unfolding handed_rate
 returns c = simp c.before.a.given.1
 
 returns-2 : tie.Need-returns-2
-unfolding handedRate
+unfolding handed_rate
 returns-2 c = simp (c.wide.ensures, c.before.before.a2.given.1)
 
 pub handed-rate-spec : {M : Type 1} → statement M

@@ -3,13 +3,13 @@
 use mathlib.Core.Path.{◌≡◌}
 use mir.Syntax.{w64}
 use mir.Val.{to_z, of_z}
-use Rattle.exports.specs.Handed.{handedRead}
+use Rattle.exports.specs.Handed.{handed_read}
 use borrow.Author.Rules.{rules}
 use Rattle.exports.proofs.handed.handed_read.Statement.{statement}
 use Rattle.exports.proofs.handed.handed_read.Tie as tie
 
 returns : tie.Need-returns
-unfolding handedRead
+unfolding handed_read
 returns c =
     let there = c.before.before.before in
     let z = there.a.given.0.0.count in
@@ -17,7 +17,7 @@ returns c =
     simp (back, c.before.is-position.ensures, there.a.given.1)
 
 returns-2 : tie.Need-returns-2
-unfolding handedRead
+unfolding handed_read
 returns-2 c =
     let numbered = c.before.before in
     let there = numbered.before.before in
@@ -26,7 +26,7 @@ returns-2 c =
     simp (back, numbered.number.ensures, c.before.is-position2.ensures, there.a2.given.1)
 
 returns-3 : tie.Need-returns-3
-unfolding handedRead
+unfolding handed_read
 returns-3 c = simp (c.wide.ensures, c.before.before.a3.given.1)
 
 pub handed-read-spec : {M : Type 1} → statement M

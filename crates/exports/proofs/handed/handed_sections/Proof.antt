@@ -1,16 +1,16 @@
 -- `exports::handed_sections` meets its contract: each arm gives the numbers of its case.
 -- Assumes nothing.
-use Rattle.exports.specs.Handed.{handedSections}
+use Rattle.exports.specs.Handed.{handed_sections}
 use borrow.Author.Rules.{rules}
 use Rattle.exports.proofs.handed.handed_sections.Statement.{statement}
 use Rattle.exports.proofs.handed.handed_sections.Tie as tie
 
 returns : tie.Need-returns
-unfolding handedSections
+unfolding handed_sections
 returns c = simp c.before.a.given.1
 
 returns-2 : tie.Need-returns-2
-unfolding handedSections
+unfolding handed_sections
 returns-2 c = simp (c.wide.ensures, c.before.before.a2.given.1)
 
 pub handed-sections-spec : {M : Type 1} → statement M

@@ -3,17 +3,17 @@
 use mathlib.Core.Path.{◌≡◌}
 use mir.Syntax.{w64}
 use mir.Val.{to_z, of_z}
-use Rattle.exports.specs.HandedLists.{handedRecord}
+use Rattle.exports.specs.HandedLists.{handed_record}
 use borrow.Author.Rules.{rules}
 use Rattle.exports.proofs.lists.handed_record.Statement.{statement}
 use Rattle.exports.proofs.lists.handed_record.Tie as tie
 
 returns : tie.Need-returns
-unfolding handedRecord
+unfolding handed_record
 returns c = simp c.before.found.given.1
 
 returns-2 : tie.Need-returns-2
-unfolding handedRecord
+unfolding handed_record
 returns-2 c =
     let g = c.before.found2.given in
     let first_back : to_z w64 (of_z w64 g.0.0) ≡ g.0.0 = search rules in
@@ -21,7 +21,7 @@ returns-2 c =
     simp (first_back, end_back, g.1)
 
 returns-3 : tie.Need-returns-3
-unfolding handedRecord
+unfolding handed_record
 returns-3 c = simp c.before.found3.given.1
 
 pub handed-record-spec : {M : Type 1} → statement M

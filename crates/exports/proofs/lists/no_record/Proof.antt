@@ -1,12 +1,12 @@
 -- `exports::no_record` meets its contract: by its definition.
 -- Assumes nothing.
 use mathlib.Core.Path.{refl}
-use Rattle.exports.specs.HandedLists.{recordOfKind}
+use Rattle.exports.specs.HandedLists.{record_of_kind}
 use Rattle.exports.proofs.lists.no_record.Statement.{statement}
 use Rattle.exports.proofs.lists.no_record.Tie as tie
 
 returns : tie.Need-returns
-unfolding recordOfKind
+unfolding record_of_kind
 returns c = refl
 
 pub no-record-spec : {M : Type 1} → statement M

@@ -3,8 +3,8 @@
 use mathlib.Core.Path.{ap, ◌∙◌}
 use Rattle.timecodes.specs.declared.kinds.Kind.{Kind}
 use Rattle.reading.specs.declared.Stated.TheVariants.{Nothing}
-use Rattle.reading.specs.For.{readFor}
-use Rattle.exports.specs.Handed.{handedRead}
+use Rattle.reading.specs.For.{read_for}
+use Rattle.exports.specs.Handed.{handed_read}
 use borrow.Author.Rules.{rules}
 use Rattle.exports.proofs.reads.tzq_read.Statement.{statement}
 use Rattle.exports.proofs.reads.tzq_read.Tie as tie
@@ -13,8 +13,8 @@ returns : tie.Need-returns
 returns c =
     let a = c.before.before.before.before.args in
     c.handed-read.ensures
-    ∙ ap handedRead
-    (c.before.read-text.ensures ∙ ap (λ (k : Kind). readFor k a.text.now Nothing a.rate) c.before.before.from.ensures)
+    ∙ ap handed_read
+    (c.before.read-text.ensures ∙ ap (λ (k : Kind). read_for k a.text.now Nothing a.rate) c.before.before.from.ensures)
 
 pub tzq-read-spec : {M : Type 1} → statement M
 tzq-read-spec = tie.close (tie.spec (λ c κs. search rules) (λ c κs. search rules) (λ c κs. search rules) returns)

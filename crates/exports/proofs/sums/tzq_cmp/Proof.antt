@@ -1,8 +1,8 @@
 -- `exports::tzq_cmp` meets its contract: the answer of `arithmetic::cmp`, handed over.
 -- Assumes nothing.
 use mathlib.Core.Path.{ap, ap₂, ◌∙◌}
-use Rattle.arithmetic.specs.Compare.{compareOf}
-use Rattle.exports.specs.Handed.{handedOrder}
+use Rattle.arithmetic.specs.Compare.{compare_of}
+use Rattle.exports.specs.Handed.{handed_order}
 use borrow.Author.Rules.{rules}
 use Rattle.exports.proofs.sums.tzq_cmp.Statement.{statement}
 use Rattle.exports.proofs.sums.tzq_cmp.Tie as tie
@@ -10,7 +10,7 @@ use Rattle.exports.proofs.sums.tzq_cmp.Tie as tie
 returns : tie.Need-returns
 returns c =
     c.handed-order.ensures
-    ∙ ap handedOrder (c.before.cmp.ensures ∙ ap₂ compareOf c.before.before.before.timecode-from.ensures c.before.before.timecode-from2.ensures)
+    ∙ ap handed_order (c.before.cmp.ensures ∙ ap₂ compare_of c.before.before.before.timecode-from.ensures c.before.before.timecode-from2.ensures)
 
 pub tzq-cmp-spec : {M : Type 1} → statement M
 tzq-cmp-spec =

@@ -6,7 +6,7 @@ use mir.Syntax.{w64}
 use mir.Val.{to_z, of_z}
 use Rattle.timecodes.specs.declared.Timecode.{Timecode}
 use Rattle.arithmetic.specs.Truncating.{div_of}
-use Rattle.exports.specs.Handed.{handedAnswer}
+use Rattle.exports.specs.Handed.{handed_answer}
 use borrow.Author.Rules.{rules}
 use Rattle.exports.proofs.sums.tzq_div.Statement.{statement}
 use Rattle.exports.proofs.sums.tzq_div.Tie as tie
@@ -16,7 +16,7 @@ returns c =
     let a = c.before.before.before.args in
     let back : to_z w64 (of_z w64 a.n) ≡ a.n = search rules in
     c.handed-answer.ensures
-    ∙ ap handedAnswer (c.before.div.ensures ∙ ap₂ (λ (t : Timecode) (z : ℤ). div_of t z) c.before.before.timecode-from.ensures back)
+    ∙ ap handed_answer (c.before.div.ensures ∙ ap₂ (λ (t : Timecode) (z : ℤ). div_of t z) c.before.before.timecode-from.ensures back)
 
 pub tzq-div-spec : {M : Type 1} → statement M
 tzq-div-spec = tie.close (tie.spec (λ c κs. search rules) (λ c κs. search rules) (λ c κs. search rules) returns)

@@ -2,8 +2,8 @@
 -- Assumes nothing.
 use mathlib.Core.Path.{ap, ◌∙◌}
 use Rattle.timecodes.specs.declared.Timecode.{Timecode}
-use Rattle.arithmetic.specs.Count.{rebaseOf}
-use Rattle.exports.specs.Handed.{handedAnswer}
+use Rattle.arithmetic.specs.Count.{rebase_of}
+use Rattle.exports.specs.Handed.{handed_answer}
 use borrow.Author.Rules.{rules}
 use Rattle.exports.proofs.sums.tzq_rebase.Statement.{statement}
 use Rattle.exports.proofs.sums.tzq_rebase.Tie as tie
@@ -11,7 +11,7 @@ use Rattle.exports.proofs.sums.tzq_rebase.Tie as tie
 returns : tie.Need-returns
 returns c =
     c.handed-answer.ensures
-    ∙ ap handedAnswer (c.before.rebase.ensures ∙ ap (λ (t : Timecode). rebaseOf t c.before.before.before.args.rate) c.before.before.timecode-from.ensures)
+    ∙ ap handed_answer (c.before.rebase.ensures ∙ ap (λ (t : Timecode). rebase_of t c.before.before.before.args.rate) c.before.before.timecode-from.ensures)
 
 pub tzq-rebase-spec : {M : Type 1} → statement M
 tzq-rebase-spec =

@@ -6,8 +6,8 @@ use mir.Syntax.{w64}
 use mir.Val.{to_z, of_z}
 use Rattle.timecodes.specs.declared.kinds.Kind.{Kind}
 use Rattle.timecodes.specs.Made.{settled}
-use Rattle.time.specs.Frames.{ticksAt}
-use Rattle.exports.specs.Handed.{handedAnswer}
+use Rattle.time.specs.Frames.{ticks_at}
+use Rattle.exports.specs.Handed.{handed_answer}
 use borrow.Author.Rules.{rules}
 use Rattle.exports.proofs.times.tzq_with_premiere_ticks.Statement.{statement}
 use Rattle.exports.proofs.times.tzq_with_premiere_ticks.Tie as tie
@@ -17,8 +17,8 @@ returns c =
     let a = c.before.before.before.args in
     let back : to_z w64 (of_z w64 a.ticks) ≡ a.ticks = search rules in
     c.handed-answer.ensures
-    ∙ ap handedAnswer
-    (c.before.with-premiere-ticks.ensures ∙ ap₂ (λ (k : Kind) (z : ℤ). settled k (ticksAt z a.rate)) c.before.before.from.ensures back)
+    ∙ ap handed_answer
+    (c.before.with_premiere_ticks.ensures ∙ ap₂ (λ (k : Kind) (z : ℤ). settled k (ticks_at z a.rate)) c.before.before.from.ensures back)
 
 pub tzq-with-premiere-ticks-spec : {M : Type 1} → statement M
 tzq-with-premiere-ticks-spec =

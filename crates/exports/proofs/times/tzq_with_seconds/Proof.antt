@@ -6,8 +6,8 @@ use mir.Syntax.{w64}
 use mir.Val.{to_z, of_z}
 use Rattle.timecodes.specs.declared.kinds.Kind.{Kind}
 use Rattle.timecodes.specs.Made.{settled}
-use Rattle.time.specs.Frames.{secondsAt}
-use Rattle.exports.specs.Handed.{handedAnswer}
+use Rattle.time.specs.Frames.{seconds_at}
+use Rattle.exports.specs.Handed.{handed_answer}
 use borrow.Author.Rules.{rules}
 use Rattle.exports.proofs.times.tzq_with_seconds.Statement.{statement}
 use Rattle.exports.proofs.times.tzq_with_seconds.Tie as tie
@@ -17,8 +17,8 @@ returns c =
     let a = c.before.before.before.args in
     let back : to_z w64 (of_z w64 a.p) ≡ a.p = search rules in
     c.handed-answer.ensures
-    ∙ ap handedAnswer
-    (c.before.with-seconds.ensures ∙ ap₂ (λ (k : Kind) (z : ℤ). settled k (secondsAt z a.q a.rate)) c.before.before.from.ensures back)
+    ∙ ap handed_answer
+    (c.before.with_seconds.ensures ∙ ap₂ (λ (k : Kind) (z : ℤ). settled k (seconds_at z a.q a.rate)) c.before.before.from.ensures back)
 
 pub tzq-with-seconds-spec : {M : Type 1} → statement M
 tzq-with-seconds-spec = tie.close (tie.spec (λ c κs. search rules) (λ c κs. search rules) (λ c κs. search rules) returns)

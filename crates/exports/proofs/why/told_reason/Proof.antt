@@ -8,7 +8,7 @@ use mir.Val.{to_z, of_z}
 use Rattle.exports.specs.declared.handed.TzqRead.{TzqRead}
 use Rattle.exports.specs.declared.why.FactNumbers.{FactNumbers}
 use Rattle.exports.specs.declared.why.TzqReason.{TzqReason}
-use Rattle.exports.specs.HandedWhy.{toldReason}
+use Rattle.exports.specs.HandedWhy.{told_reason}
 use borrow.Author.Rules.{rules}
 use Rattle.exports.proofs.why.told_reason.Statement.{statement}
 use Rattle.exports.proofs.why.told_reason.Tie as tie
@@ -35,7 +35,7 @@ told a n count limit value length =
     }
 
 returns : tie.Need-returns
-unfolding toldReason
+unfolding told_reason
 returns c =
     let n = c.before.before.fact-numbers in
     let a = c.before.before.before.handed-read in

@@ -2,10 +2,10 @@
 -- Assumes nothing.
 use mathlib.Core.Path.{ap, ap₂, ◌∙◌}
 use Rattle.timecodes.specs.declared.kinds.Kind.{Kind}
-use Rattle.written.specs.Written.{Text, lineTo}
+use Rattle.written.specs.Written.{Text, line_to}
 use Rattle.reading.specs.declared.Stated.{Stated}
-use Rattle.reasons.specs.Why.{phraseFor, whyOf}
-use Rattle.exports.specs.HandedWhy.{handedReason}
+use Rattle.reasons.specs.Why.{phrase_for, why_of}
+use Rattle.exports.specs.HandedWhy.{handed_reason}
 use borrow.Author.Rules.{rules}
 use Rattle.exports.proofs.why.tzq_why.Statement.{statement}
 use Rattle.exports.proofs.why.tzq_why.Tie as tie
@@ -17,11 +17,11 @@ returns c =
     let said = kind.before in
     let a = said.before.before.before.args in (
       c.handed-reason.ensures
-          ∙ ap handedReason
+          ∙ ap handed_reason
           (w.why.ensures.0
-          ∙ ap₂ (λ (k : Kind) (s : Stated). whyOf k a.text.now s a.rate a.line.now a.place) kind.from.ensures said.stated-from.ensures),
+          ∙ ap₂ (λ (k : Kind) (s : Stated). why_of k a.text.now s a.rate a.line.now a.place) kind.from.ensures said.stated-from.ensures),
       w.why.ensures.1
-          ∙ ap₂ (λ (k : Kind) (s : Stated). lineTo a.line.now a.place (Text (phraseFor k a.text.now s a.rate))) kind.from.ensures
+          ∙ ap₂ (λ (k : Kind) (s : Stated). line_to a.line.now a.place (Text (phrase_for k a.text.now s a.rate))) kind.from.ensures
           said.stated-from.ensures,
     )
 

@@ -2,9 +2,9 @@
 -- Assumes nothing.
 use mathlib.Core.Path.{ap, ◌∙◌}
 use Rattle.timecodes.specs.declared.Timecode.{Timecode}
-use Rattle.written.specs.Written.{answerTo, lineTo}
-use Rattle.label_writer.specs.LabelText.{labelDraft}
-use Rattle.exports.specs.Handed.{handedLength}
+use Rattle.written.specs.Written.{answer_to, line_to}
+use Rattle.label_writer.specs.LabelText.{label_draft}
+use Rattle.exports.specs.Handed.{handed_length}
 use borrow.Author.Rules.{rules}
 use Rattle.exports.proofs.writes.tzq_write_label.Statement.{statement}
 use Rattle.exports.proofs.writes.tzq_write_label.Tie as tie
@@ -12,10 +12,10 @@ use Rattle.exports.proofs.writes.tzq_write_label.Tie as tie
 returns : tie.Need-returns
 returns c =
     let a = c.before.before.before.before.before.before.before.args in
-    let w = c.before.before.before.write-label.ensures in
+    let w = c.before.before.before.write_label.ensures in
     let same = c.before.before.before.before.before.timecode-from.ensures in (
-      c.handed-length.ensures ∙ ap handedLength (w.0 ∙ ap (λ (t : Timecode). answerTo a.line.now a.place (labelDraft t)) same),
-      w.1 ∙ ap (λ (t : Timecode). lineTo a.line.now a.place (labelDraft t)) same,
+      c.handed-length.ensures ∙ ap handed_length (w.0 ∙ ap (λ (t : Timecode). answer_to a.line.now a.place (label_draft t)) same),
+      w.1 ∙ ap (λ (t : Timecode). line_to a.line.now a.place (label_draft t)) same,
     )
 
 pub tzq-write-label-spec : {M : Type 1} → statement M

@@ -3,7 +3,7 @@
 use mathlib.Core.Path.{sym, ap, ◌∙◌}
 use native.Mathlib.Omega.{arith}
 use borrow.Author.Rules.{rules}
-use Rattle.film.specs.OnFilm.{framesInFoot}
+use Rattle.film.specs.OnFilm.{frames_in_foot}
 use Rattle.film.proofs.OnFilm.{three-perf-two, three-perf-other}
 use Rattle.film.proofs.FilmFormat.frames_in_foot.Statement.{statement}
 use Rattle.film.proofs.FilmFormat.frames_in_foot.Tie as tie
@@ -11,12 +11,12 @@ use Rattle.film.proofs.FilmFormat.frames_in_foot.Tie as tie
 returns : tie.Need-returns
 returns c =
     let feet = c.before.before.before.args.feet in
-    sym (ap (λ f. framesInFoot f feet) c.before.enum-told2.given.1 ∙ three-perf-two feet (omega arith))
+    sym (ap (λ f. frames_in_foot f feet) c.before.enum-told2.given.1 ∙ three-perf-two feet (omega arith))
 
 returns-3 : tie.Need-returns-3
 returns-3 c =
     let feet = c.before.before.before.args.feet in
-    sym (ap (λ f. framesInFoot f feet) c.before.enum-told2.given.1 ∙ three-perf-other feet (omega arith))
+    sym (ap (λ f. frames_in_foot f feet) c.before.enum-told2.given.1 ∙ three-perf-other feet (omega arith))
 
 pub frames-in-foot-spec : {M : Type 1} → statement M
 frames-in-foot-spec =

@@ -8,7 +8,7 @@ use native.Mathlib.Omega.{arith}
 use borrow.Author.Rules.{rules}
 use lib.IntN.{pos, neg_ℤ, nat_abs}
 use mir.Facts.{to_z-of_z}
-use Rattle.numbers.specs.Sign.{isNeg}
+use Rattle.numbers.specs.Sign.{is_neg}
 use Rattle.numbers.specs.FloorLaws.{floor-alike, floor-whole, floor-part, quotient-below}
 use Rattle.numbers.proofs.exact.floor.Statement.{statement}
 use Rattle.numbers.proofs.exact.floor.Tie as tie
@@ -21,12 +21,12 @@ n-is : (c : tie.After-magnitude2) → c.magnitude2.result ≡ nat_abs c.before.b
 n-is c = rw (to_z-of_z c.before.before.ranges.d) at c.magnitude2.ensures
 
 alike : (c : tie.After-below-zero2)
-    → beq (isNeg c.before.before.before.before.args.x) (isNeg c.before.before.before.before.args.d)
+    → beq (is_neg c.before.before.before.before.args.x) (is_neg c.before.before.before.before.args.d)
     ≡ beq c.before.below-zero.result c.below-zero2.result
 alike c =
     let s = c.before.before.before.before in
     sym
-    (ap₂ beq (c.before.below-zero.ensures ∙ ap isNeg (to_z-of_z s.ranges.x)) (c.below-zero2.ensures ∙ ap isNeg (to_z-of_z s.ranges.d)))
+    (ap₂ beq (c.before.below-zero.ensures ∙ ap is_neg (to_z-of_z s.ranges.x)) (c.below-zero2.ensures ∙ ap is_neg (to_z-of_z s.ranges.d)))
 
 -- the quotient is below the bound that the magnitude is
 q-below : (c : tie.After-magnitude2) → c.before.magnitude.result / c.magnitude2.result < 9223372036854775808

@@ -7,7 +7,7 @@ use native.Mathlib.Nat.{mod-lt}
 use native.Mathlib.Omega.{arith}
 use borrow.Author.Rules.{rules}
 use Rattle.numbers.specs.Sign.{signed}
-use Rattle.numbers.specs.Modulo.{reducedZ}
+use Rattle.numbers.specs.Modulo.{reduced_z}
 use Rattle.numbers.specs.ModuloLaws.{reduced-plain, reduced-below, reduced-whole}
 use Rattle.numbers.proofs.exact.reduced.Statement.{statement}
 use Rattle.numbers.proofs.exact.reduced.Tie as tie
@@ -26,13 +26,13 @@ returns-2 : tie.Need-returns-2
 returns-2 c =
     let s = c.before.before in
     sym
-    (ap (λ (t : Bool). reducedZ (signed t s.args.m) s.args.n) c.if2.true
+    (ap (λ (t : Bool). reduced_z (signed t s.args.m) s.args.n) c.if2.true
     ∙ reduced-below s.args.m s.args.n s.requires (some c.before))
 
 returns-3 : tie.Need-returns-3
 returns-3 c =
     let s = c.before.before in
-    sym (ap (λ (t : Bool). reducedZ (signed t s.args.m) s.args.n) c.if2.false ∙ reduced-plain s.args.m s.args.n s.requires)
+    sym (ap (λ (t : Bool). reduced_z (signed t s.args.m) s.args.n) c.if2.false ∙ reduced-plain s.args.m s.args.n s.requires)
 
 pub reduced-spec : {M : Type 1} → statement M
 reduced-spec = tie.close (tie.spec (λ c. search rules) returns sub-result returns-2 returns-3)

@@ -3,30 +3,30 @@
 use Prim.Native.Nat.{ℕ}
 use mathlib.Core.Path.{◌≡◌, sym, ap, ◌∙◌}
 use borrow.Author.Rules.{rules}
-use Rattle.footage_scan.specs.Footage.{footageScan}
+use Rattle.footage_scan.specs.Footage.{footage_scan}
 use Rattle.reading.specs.declared.Stated.TheVariants.{Nothing}
 use Rattle.reading.specs.declared.taking.Taken.TheVariants.{Neither}
-use Rattle.reading.specs.Shaped.{Shaped, footageShaped, labelOr, shape_of}
+use Rattle.reading.specs.Shaped.{Shaped, footage_shaped, label_or, shape_of}
 use Rattle.reading.specs.Taken.{taken_of}
-use Rattle.reading.proofs.Scans.{label-fits, label-long, label-other}
+use Rattle.reading.proofs.Scans.{label_fits, label-long, label-other}
 use Rattle.reading.proofs.taking.label_or_footage.Statement.{statement}
 use Rattle.reading.proofs.taking.label_or_footage.Tie as tie
 
 -- what the text is where it is no label
 abbrev other : tie.After-scan-label → (stop : ℕ) → Shaped
-other c stop = footageShaped stop (footageScan c.before.before.args.text.now)
+other c stop = footage_shaped stop (footage_scan c.before.before.args.text.now)
 
 -- the shape that the scan gives is that of the text
-scanned-as : (c : tie.After-scan-label) (x : Shaped) → labelOr (other c) c.scan-label.result ≡ x
+scanned-as : (c : tie.After-scan-label) (x : Shaped) → label_or (other c) c.scan-label.result ≡ x
     → taken_of x ≡ taken_of (shape_of Nothing c.before.before.args.text.now)
-scanned-as c x e = ap taken_of (sym e ∙ ap (labelOr (other c)) c.scan-label.ensures)
+scanned-as c x e = ap taken_of (sym e ∙ ap (label_or (other c)) c.scan-label.ensures)
 
 returns : tie.Need-returns
 returns c =
     let told = c.before.before in
     let scanned = told.before.before in
     c.taken-label.ensures
-    ∙ scanned-as scanned _ (label-fits (other scanned) scanned.scan-label.result told.enum_told.given.1)
+    ∙ scanned-as scanned _ (label_fits (other scanned) scanned.scan-label.result told.enum_told.given.1)
 
 returns-2 : tie.Need-returns-2
 returns-2 c =

@@ -5,7 +5,7 @@ use mathlib.Core.Path.{◌≡◌, refl, sym, ap, ◌∙◌}
 use native.Mathlib.Omega.{arith}
 use borrow.Author.Rules.{rules}
 use lib.ListN.{length, get_or, set}
-use Rattle.router.specs.Tested.{copied, keptOf}
+use Rattle.router.specs.Tested.{copied, kept_of}
 use Rattle.router.specs.TestedLaws.{copied_none, copied-length, copied_more}
 use Rattle.router.proofs.many.kept.Statement.{statement}
 use Rattle.router.proofs.many.kept.Tie as tie

@@ -8,10 +8,10 @@ use borrow.Author.Rules.{rules}
 use lib.IntN.{nat_abs}
 use lib.Signed.{nat_abs-le}
 use mir.Facts.{to_z-of_z}
-use Rattle.answers.specs.Refusals.{mostCount}
+use Rattle.answers.specs.Refusals.{most_count}
 use Rattle.numbers.proofs.Tests.{fails, passes}
 use Rattle.router.specs.declared.query.Ranged.TheVariants.{Frames}
-use Rattle.router.specs.Query.{isLength, rangeAt}
+use Rattle.router.specs.Query.{is_length, range_at}
 use Rattle.router.specs.QueryLaws.{length-told, range-out, range-past, range-in}
 use Rattle.router.proofs.query.range_at.Statement.{statement}
 use Rattle.router.proofs.query.range_at.Tie as tie
@@ -20,11 +20,11 @@ returns : tie.Need-returns
 returns c =
     let start = c.before.before in
     let a = start.args in
-    sym (range-out a.rate a.length a.count (sym (ap isLength (to_z-of_z start.ranges.length)) ∙ fails c.before.is-length.ensures c.if1.true))
+    sym (range-out a.rate a.length a.count (sym (ap is_length (to_z-of_z start.ranges.length)) ∙ fails c.before.is-length.ensures c.if1.true))
 
 -- the length is within its bounds
-held : (c : tie.Else1) → isLength c.before.before.args.length ≡ true
-held c = sym (ap isLength (to_z-of_z c.before.before.ranges.length)) ∙ passes c.before.is-length.ensures c.if1.false
+held : (c : tie.Else1) → is_length c.before.before.args.length ≡ true
+held c = sym (ap is_length (to_z-of_z c.before.before.ranges.length)) ∙ passes c.before.is-length.ensures c.if1.false
 
 -- what the magnitudes are of
 count_of : (c : tie.After-magnitude) → c.magnitude.result ≡ nat_abs c.before.before.before.args.count

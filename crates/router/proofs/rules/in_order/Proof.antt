@@ -2,7 +2,7 @@
 -- Assumes nothing.
 use Prim.Native.Nat.{ℕ, ◌+◌, ◌-◌, ◌/◌, ◌≤◌, ◌<◌}
 use lib.ListN.{length, drop, get_or}
-use Rattle.router.specs.Directory.{inOrder}
+use Rattle.router.specs.Directory.{in_order}
 use Rattle.router.specs.RuleLaws.{uneven, order-low, order-empty, order-past, order-on, order-end}
 use native.Mathlib.Omega.{arith}
 use mathlib.Core.Path.{◌≡◌, refl, sym, ap, ◌∙◌}
@@ -11,7 +11,7 @@ use Rattle.router.proofs.rules.in_order.Statement.{statement}
 use Rattle.router.proofs.rules.in_order.Tie as tie
 
 abbrev invariant-loop : tie.invariant-loop
-invariant-loop day firsts ends i₀ low₀ i low = (i ≤ length firsts) × (length firsts ≡ length ends) × (inOrder day 0 firsts ends ≡ inOrder day low (drop i firsts) (drop i ends))
+invariant-loop day firsts ends i₀ low₀ i low = (i ≤ length firsts) × (length firsts ≡ length ends) × (in_order day 0 firsts ends ≡ in_order day low (drop i firsts) (drop i ends))
 
 abbrev decreases-loop : tie.decreases-loop
 decreases-loop day firsts ends i₀ low₀ i low = length firsts - i

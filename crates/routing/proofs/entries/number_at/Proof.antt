@@ -3,9 +3,9 @@
 use mathlib.Core.Path.{◌≡◌, sym, ap, ◌∙◌}
 use mir.Syntax.{w64}
 use mir.Val.{to_z, of_z}
-use Rattle.numbers.specs.Sign.{upFrom}
+use Rattle.numbers.specs.Sign.{up_from}
 use Rattle.routing.specs.declared.entries.Found.TheVariants.{Number}
-use Rattle.routing.proofs.Reading.{foundBy, found-minus, found_plain}
+use Rattle.routing.proofs.Reading.{found_by, found-minus, found_plain}
 use borrow.Author.Rules.{rules}
 use Rattle.routing.proofs.entries.number_at.Statement.{statement}
 use Rattle.routing.proofs.entries.number_at.Tie as tie
@@ -23,15 +23,15 @@ returns-2 c =
     let z = k.before in
     let s = z.before.before in
     let e = s.before in
-    ap (λ n. Number n z.z.given.0.1.0) (c.up_from.ensures ∙ ap upFrom (back k))
-    ∙ ap foundBy (sym z.z.given.1 ∙ s.signed-at.ensures)
+    ap (λ n. Number n z.z.given.0.1.0) (c.up_from.ensures ∙ ap up_from (back k))
+    ∙ ap found_by (sym z.z.given.1 ∙ s.signed-at.ensures)
     ∙ found_plain _ _ (sym e.before.stands.ensures ∙ e.if1.false)
 
 returns-3 : tie.Need-returns-3
 returns-3 c =
     let s = c.before.before in
     let e = s.before in
-    ap foundBy (sym c.enum_told.given.1 ∙ s.signed-at.ensures) ∙ found_plain _ _ (sym e.before.stands.ensures ∙ e.if1.false)
+    ap found_by (sym c.enum_told.given.1 ∙ s.signed-at.ensures) ∙ found_plain _ _ (sym e.before.stands.ensures ∙ e.if1.false)
 
 pub number-at-spec : {M : Type 1} → statement M
 number-at-spec =

@@ -4,14 +4,14 @@ use Prim.Native.Nat.{◌-◌}
 use mathlib.Core.Path.{◌≡◌, refl, sym, ◌∙◌}
 use lib.ListN.{length, drop}
 use borrow.Author.Tests.{not-true, not-false}
-use Rattle.routing.specs.Entries.{pastBlanks}
+use Rattle.routing.specs.Entries.{past_blanks}
 use Rattle.routing.proofs.Reading.{blanks-turn, blanks-stop, blanks-end}
 use borrow.Author.Rules.{rules}
 use Rattle.routing.proofs.entries.past_blanks.Statement.{statement}
 use Rattle.routing.proofs.entries.past_blanks.Tie as tie
 
 abbrev invariant-loop : tie.invariant-loop
-invariant-loop line at i₀ i = pastBlanks (drop at line) ≡ pastBlanks (drop i line)
+invariant-loop line at i₀ i = past_blanks (drop at line) ≡ past_blanks (drop i line)
 
 abbrev decreases-loop : tie.decreases-loop
 decreases-loop line at i₀ i = length line - i

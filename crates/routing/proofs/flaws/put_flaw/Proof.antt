@@ -1,9 +1,9 @@
 -- `routing::flaws::put_flaw` meets its contract: case by case.
 -- Assumes nothing.
 use mathlib.Core.Path.{sym, ap}
-use Rattle.streams.specs.Sheet.{sheet, putOn}
+use Rattle.streams.specs.Sheet.{sheet, put_on}
 use Rattle.streams.proofs.Pieces.{leaves-same}
-use Rattle.routing.specs.Flaws.{flawText}
+use Rattle.routing.specs.Flaws.{flaw_text}
 use borrow.Author.Rules.{rules}
 use Rattle.routing.proofs.flaws.put_flaw.Statement.{statement}
 use Rattle.routing.proofs.flaws.put_flaw.Tie as tie
@@ -13,56 +13,56 @@ returns c =
     let p = c.before.before in
     let t = p.before.before.before in
     let a = t.before.before.before.args in
-    leaves-same _ _ _ _ (sym (ap (λ z. putOn (sheet a.out.now a.used) (flawText z)) t.enum_told.given.1)) p.put-text.ensures
+    leaves-same _ _ _ _ (sym (ap (λ z. put_on (sheet a.out.now a.used) (flaw_text z)) t.enum_told.given.1)) p.put-text.ensures
 
 returns-2 : tie.Need-returns-2
 returns-2 c =
     let p = c.before.before in
     let t = p.before.before.before in
     let a = t.before.before.before.args in
-    leaves-same _ _ _ _ (sym (ap (λ z. putOn (sheet a.out.now a.used) (flawText z)) t.enum-told2.given.1)) p.put-text2.ensures
+    leaves-same _ _ _ _ (sym (ap (λ z. put_on (sheet a.out.now a.used) (flaw_text z)) t.enum-told2.given.1)) p.put-text2.ensures
 
 returns-3 : tie.Need-returns-3
 returns-3 c =
     let p = c.before.before in
     let t = p.before.before.before in
     let a = t.before.before.before.args in
-    leaves-same _ _ _ _ (sym (ap (λ z. putOn (sheet a.out.now a.used) (flawText z)) t.enum-told3.given.1)) p.put-text3.ensures
+    leaves-same _ _ _ _ (sym (ap (λ z. put_on (sheet a.out.now a.used) (flaw_text z)) t.enum-told3.given.1)) p.put-text3.ensures
 
 returns-4 : tie.Need-returns-4
 returns-4 c =
     let p = c.before.before in
     let t = p.before.before.before in
     let a = t.before.before.before.args in
-    leaves-same _ _ _ _ (sym (ap (λ z. putOn (sheet a.out.now a.used) (flawText z)) t.enum-told4.given.1)) p.put-text4.ensures
+    leaves-same _ _ _ _ (sym (ap (λ z. put_on (sheet a.out.now a.used) (flaw_text z)) t.enum-told4.given.1)) p.put-text4.ensures
 
 returns-5 : tie.Need-returns-5
 returns-5 c =
     let p = c.before.before in
     let t = p.before.before.before in
     let a = t.before.before.before.args in
-    leaves-same _ _ _ _ (sym (ap (λ z. putOn (sheet a.out.now a.used) (flawText z)) t.enum-told5.given.1)) p.put-text5.ensures
+    leaves-same _ _ _ _ (sym (ap (λ z. put_on (sheet a.out.now a.used) (flaw_text z)) t.enum-told5.given.1)) p.put-text5.ensures
 
 returns-6 : tie.Need-returns-6
 returns-6 c =
     let p = c.before.before in
     let t = p.before.before.before in
     let a = t.before.before.before.args in
-    leaves-same _ _ _ _ (sym (ap (λ z. putOn (sheet a.out.now a.used) (flawText z)) t.enum-told6.given.1)) p.put-text6.ensures
+    leaves-same _ _ _ _ (sym (ap (λ z. put_on (sheet a.out.now a.used) (flaw_text z)) t.enum-told6.given.1)) p.put-text6.ensures
 
 returns-7 : tie.Need-returns-7
 returns-7 c =
     let p = c.before.before in
     let t = p.before.before.before in
     let a = t.before.before.before.args in
-    leaves-same _ _ _ _ (sym (ap (λ z. putOn (sheet a.out.now a.used) (flawText z)) t.enum-told7.given.1)) p.put-text7.ensures
+    leaves-same _ _ _ _ (sym (ap (λ z. put_on (sheet a.out.now a.used) (flaw_text z)) t.enum-told7.given.1)) p.put-text7.ensures
 
 returns-8 : tie.Need-returns-8
 returns-8 c =
     let p = c.before.before in
     let t = p.before.before.before in
     let a = t.before.before.before.args in
-    leaves-same _ _ _ _ (sym (ap (λ z. putOn (sheet a.out.now a.used) (flawText z)) t.enum-told8.given.1)) p.put-text8.ensures
+    leaves-same _ _ _ _ (sym (ap (λ z. put_on (sheet a.out.now a.used) (flaw_text z)) t.enum-told8.given.1)) p.put-text8.ensures
 
 pub put-flaw-spec : {M : Type 1} → statement M
 put-flaw-spec =

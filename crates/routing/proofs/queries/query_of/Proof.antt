@@ -4,7 +4,7 @@ use mathlib.Core.Path.{◌≡◌, sym, ap, ◌∙◌}
 use lib.ListN.{drop}
 use mir.Syntax.{w64}
 use mir.Val.{to_z, of_z}
-use Rattle.routing.specs.Queries.{askedAt, askedBy}
+use Rattle.routing.specs.Queries.{asked_at, asked_by}
 use Rattle.routing.proofs.Asking.{query-by}
 use borrow.Author.Rules.{rules}
 use Rattle.routing.proofs.queries.query_of.Statement.{statement}
@@ -22,15 +22,15 @@ returns c =
     let line = s.before.before.args.line.now in
     let next = n.length.given.0.1.0 in
     c.asked-at.ensures
-    ∙ ap (λ z. askedAt z next (drop next line)) (back k)
-    ∙ ap (askedBy line) (sym n.length.given.1)
+    ∙ ap (λ z. asked_at z next (drop next line)) (back k)
+    ∙ ap (asked_by line) (sym n.length.given.1)
     ∙ query-by line _ s.signed-at.ensures
 
 returns-2 : tie.Need-returns-2
 returns-2 c =
     let s = c.before.before in
     let line = s.before.before.args.line.now in
-    ap (askedBy line) (sym c.enum_told.given.1) ∙ query-by line _ s.signed-at.ensures
+    ap (asked_by line) (sym c.enum_told.given.1) ∙ query-by line _ s.signed-at.ensures
 
 pub query-of-spec : {M : Type 1} → statement M
 query-of-spec =

@@ -8,8 +8,8 @@ use mir.Syntax.{w64}
 use mir.Val.{to_z, of_z}
 use Rattle.streams.specs.Sheet.{sheet}
 use Rattle.streams.proofs.Pieces.{pieces-same}
-use Rattle.router.specs.Tested.{routedIn}
-use Rattle.routing.specs.Told.{routedPieces, askedPieces}
+use Rattle.router.specs.Tested.{routed_in}
+use Rattle.routing.specs.Told.{routed_pieces, asked_pieces}
 use Rattle.routing.proofs.Putting.{rest-whole}
 use Rattle.routing.proofs.Asking.{query-within}
 use borrow.Author.Rules.{rules}
@@ -43,11 +43,11 @@ returns c =
     let line = a.line.now in
     let at = n.length.given.0.1.0 in
     pieces-same (sheet a.out.now a.used) _ _ _ _
-    (ap (routedPieces a.reel)
-    (r.route-tested.ensures
-    ∙ ap (λ z. routedIn a.d z (take (length line - at) (drop at line))) (back k)
-    ∙ ap (routedIn a.d n.length.given.0.0) (rest-whole line at))
-    ∙ ap (askedPieces a.d a.reel line) (sym n.length.given.1 ∙ u.query-of.ensures))
+    (ap (routed_pieces a.reel)
+    (r.route_tested.ensures
+    ∙ ap (λ z. routed_in a.d z (take (length line - at) (drop at line))) (back k)
+    ∙ ap (routed_in a.d n.length.given.0.0) (rest-whole line at))
+    ∙ ap (asked_pieces a.d a.reel line) (sym n.length.given.1 ∙ u.query-of.ensures))
     p.put-routed.ensures
 
 returns-2 : tie.Need-returns-2
@@ -57,7 +57,7 @@ returns-2 c =
     let u = t.before.before in
     let a = u.before.before.before.args in
     pieces-same (sheet a.out.now a.used) _ _ _ _
-    (ap (askedPieces a.d a.reel a.line.now) (sym t.enum_told.given.1 ∙ u.query-of.ensures)) p.put_other.ensures
+    (ap (asked_pieces a.d a.reel a.line.now) (sym t.enum_told.given.1 ∙ u.query-of.ensures)) p.put_other.ensures
 
 pub put-asked-spec : {M : Type 1} → statement M
 put-asked-spec =

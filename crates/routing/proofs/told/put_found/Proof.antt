@@ -2,7 +2,7 @@
 -- Assumes nothing.
 use Rattle.streams.specs.Sheet.{sheet}
 use Rattle.streams.proofs.Pieces.{puts-same, no_more, on-piece, on-pieces}
-use Rattle.routing.specs.Told.{whichPieces}
+use Rattle.routing.specs.Told.{which_pieces}
 use Rattle.routing.proofs.Putting.{found-is}
 use borrow.Author.Rules.{rules}
 use Rattle.routing.proofs.told.put_found.Statement.{statement}
@@ -17,7 +17,7 @@ returns c =
     let a = one.before.before.before.args in
     let s = sheet a.out.now a.used in
     puts-same s _ _ _ _ (found-is a.reel a.first a.after)
-    (on-pieces s (whichPieces a.first a.after) _ _ _ _ _ one.put-which.ensures
+    (on-pieces s (which_pieces a.first a.after) _ _ _ _ _ one.put-which.ensures
     (on-piece _ _ _ _ _ _ _ two.put-text.ensures
     (on-piece _ _ _ _ _ _ _ three.put-signed.ensures
     (on-piece _ _ _ _ _ _ _ four.put_byte.ensures (no_more _ _)))))

@@ -3,7 +3,7 @@
 use mathlib.Core.Path.{sym, ap, ◌∙◌}
 use borrow.Author.Rules.{rules}
 use borrow.Author.Tests.{not-true, not-false}
-use Rattle.scanner.specs.Text.{unlessLong}
+use Rattle.scanner.specs.Text.{unless_long}
 use Rattle.scanner.proofs.text.weighed.Statement.{statement}
 use Rattle.scanner.proofs.text.weighed.Tie as tie
 
@@ -14,14 +14,14 @@ returns-2 : tie.Need-returns-2
 returns-2 c =
     let e = c.before.before in
     let a = e.before.args in
-    rw (not-false a.whole e.if1.false) (sym (ap (λ x. unlessLong x a.fits) c.enum_told.given.1))
+    rw (not-false a.whole e.if1.false) (sym (ap (λ x. unless_long x a.fits) c.enum_told.given.1))
 
 returns-3 : tie.Need-returns-3
 returns-3 c =
     let g = c.before.before in
     let e = g.before.before in
     let a = e.before.args in
-    rw (not-false a.whole e.if1.false) (c.misfit2.ensures ∙ sym (ap (λ x. unlessLong x a.fits) g.long.given.1))
+    rw (not-false a.whole e.if1.false) (c.misfit2.ensures ∙ sym (ap (λ x. unless_long x a.fits) g.long.given.1))
 
 pub weighed-spec : {M : Type 1} → statement M
 weighed-spec =

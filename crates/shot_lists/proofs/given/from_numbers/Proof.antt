@@ -11,7 +11,7 @@ use native.Mathlib.Nat.{add-zero}
 use mir.Syntax.{w64}
 use mir.Val.{to_z, of_z}
 use mir.Facts.{to_z-of_z}
-use Rattle.numbers.specs.Sign.{upFrom}
+use Rattle.numbers.specs.Sign.{up_from}
 use Rattle.shot_lists.specs.declared.records.Record.TheVariants.{Rate, Shot, Reel}
 use Rattle.shot_lists.proofs.ByKind.{of-rate, of-shot, of-reel}
 use Rattle.shot_lists.proofs.given.from_numbers.Statement.{statement}
@@ -31,7 +31,7 @@ number c =
 returns : tie.Need-returns
 returns c =
     let a = c.before.before.before.args in
-    ap Rate (c.up_from.ensures ∙ ap upFrom (number c.before.before))
+    ap Rate (c.up_from.ensures ∙ ap up_from (number c.before.before))
     ∙ sym (of-rate a.kind _ _ _ c.before.if1.true)
 
 add-number-in : tie.Need-overflow-add-number-in
@@ -49,7 +49,7 @@ returns-2 c =
 returns-3 : tie.Need-returns-3
 returns-3 c =
     let a = c.before.before.before.before.args in
-    ap Reel (c.up-from2.ensures ∙ ap upFrom (number c.before.before.before))
+    ap Reel (c.up-from2.ensures ∙ ap up_from (number c.before.before.before))
     ∙ sym (of-reel a.kind _ _ _ c.before.before.if1.false c.before.if2.false)
 
 pub from-numbers-spec : {M : Type 1} → statement M

@@ -1,24 +1,24 @@
 -- `shot_lists::records::body_fixed` meets its contract: each return is the definition, rewritten by the kind that led there.
 -- Assumes nothing.
 use Rattle.numbers.proofs.Tests.{tests}
-use Rattle.shot_lists.specs.Entries.{bodyFixed}
+use Rattle.shot_lists.specs.Entries.{body_fixed}
 use Rattle.shot_lists.proofs.records.body_fixed.Statement.{statement}
 use Rattle.shot_lists.proofs.records.body_fixed.Tie as tie
 
 returns : tie.Need-returns
-unfolding bodyFixed
+unfolding body_fixed
 returns c = search tests
 
 returns-2 : tie.Need-returns-2
-unfolding bodyFixed
+unfolding body_fixed
 returns-2 c = search tests
 
 returns-3 : tie.Need-returns-3
-unfolding bodyFixed
+unfolding body_fixed
 returns-3 c = search tests
 
 returns-4 : tie.Need-returns-4
-unfolding bodyFixed
+unfolding body_fixed
 returns-4 c = search tests
 
 pub body-fixed-spec : {M : Type 1} → statement M

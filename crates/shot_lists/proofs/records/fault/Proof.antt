@@ -5,7 +5,7 @@ use mir.Syntax.{w64}
 use mir.Val.{to_z, of_z}
 use borrow.Author.Rules.{rules}
 use Rattle.answers.specs.Order.{judged}
-use Rattle.shot_lists.specs.Records.{shotFaults, faults}
+use Rattle.shot_lists.specs.Records.{shot_faults, faults}
 use Rattle.shot_lists.proofs.records.fault.Statement.{statement}
 use Rattle.shot_lists.proofs.records.fault.Tie as tie
 
@@ -23,7 +23,7 @@ returns-2 c =
     let first_back : to_z w64 (of_z w64 g.0.0) ≡ g.0.0 = search rules in
     let end_back : to_z w64 (of_z w64 g.0.1.0) ≡ g.0.1.0 = search rules in
     c.shot-fault.ensures
-    ∙ ap₂ (λ x y. judged (shotFaults start.args.held x y)) first_back end_back
+    ∙ ap₂ (λ x y. judged (shot_faults start.args.held x y)) first_back end_back
     ∙ sym (ap (λ r. judged (faults start.args.held r)) g.1)
 
 returns-3 : tie.Need-returns-3

@@ -5,7 +5,7 @@ use Prim.Native.Nat.{ℕ}
 use borrow.Author.Rules.{rules}
 use Rattle.answers.specs.OrderLaws.{judged-refused, judged-clear, unless-clear}
 use Rattle.shot_lists.specs.declared.records.Entry.TheVariants.{Taken, Refused}
-use Rattle.shot_lists.specs.Records.{heldAfter, faults}
+use Rattle.shot_lists.specs.Records.{held_after, faults}
 use Rattle.shot_lists.specs.Entries.{ruled}
 use Rattle.shot_lists.proofs.records.rule.Statement.{statement}
 use Rattle.shot_lists.proofs.records.rule.Tie as tie
@@ -16,7 +16,7 @@ returns c =
     let a = c.before.before.before.before.args in
     let passed = sym c.before.before.before.fault.ensures ∙ c.before.enum_told.given.1 in
     sym
-    (unless-clear Refused (faults a.held a.found) (Taken a.found (heldAfter a.held a.found) a.size) (judged-clear (faults a.held a.found) passed)
+    (unless-clear Refused (faults a.held a.found) (Taken a.found (held_after a.held a.found) a.size) (judged-clear (faults a.held a.found) passed)
     ∙ ap (λ (h : ℕ). Taken a.found h a.size) (sym c.held_after.ensures))
 
 returns-2 : tie.Need-returns-2

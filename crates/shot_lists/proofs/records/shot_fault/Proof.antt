@@ -8,26 +8,26 @@ use mir.Syntax.{w64}
 use mir.Val.{to_z, of_z}
 use mir.Facts.{to_z-of_z}
 use Rattle.numbers.proofs.Tests.{fails, passes}
-use Rattle.answers.specs.Refusals.{isCount}
-use Rattle.rates.specs.Rates.{isRate}
+use Rattle.answers.specs.Refusals.{is_count}
+use Rattle.rates.specs.Rates.{is_rate}
 use Rattle.shot_lists.proofs.records.shot_fault.Statement.{statement}
 use Rattle.shot_lists.proofs.records.shot_fault.Tie as tie
 
 -- what the tests told is of the frames themselves
-starts : (c : tie.After-is-count) → c.is-count.result ≡ isCount c.before.args.first
-starts c = c.is-count.ensures ∙ ap isCount (to_z-of_z c.before.ranges.first)
+starts : (c : tie.After-is-count) → c.is-count.result ≡ is_count c.before.args.first
+starts c = c.is-count.ensures ∙ ap is_count (to_z-of_z c.before.ranges.first)
 
-ends : (c : tie.After-is-count2) → c.is-count2.result ≡ isCount c.before.before.before.args.end
-ends c = c.is-count2.ensures ∙ ap isCount (to_z-of_z c.before.before.before.ranges.end)
+ends : (c : tie.After-is-count2) → c.is-count2.result ≡ is_count c.before.before.before.args.end
+ends c = c.is-count2.ensures ∙ ap is_count (to_z-of_z c.before.before.before.ranges.end)
 
 -- behind the tests before it
-first-in : (c : tie.Else1) → isCount c.before.before.args.first ≡ true
+first-in : (c : tie.Else1) → is_count c.before.before.args.first ≡ true
 first-in c = passes (starts c.before) c.if1.false
 
-end-in : (c : tie.Else2) → isCount c.before.before.before.before.args.end ≡ true
+end-in : (c : tie.Else2) → is_count c.before.before.before.before.args.end ≡ true
 end-in c = passes (ends c.before) c.if2.false
 
-rated : (c : tie.Else3) → isRate c.before.before.before.before.before.before.args.held ≡ true
+rated : (c : tie.Else3) → is_rate c.before.before.before.before.before.before.args.held ≡ true
 rated c = passes c.before.is-rate.ensures c.if3.false
 
 ends-before : (c : tie.Else3)

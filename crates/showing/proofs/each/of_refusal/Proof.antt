@@ -6,7 +6,7 @@ use borrow.Author.Rules.{rules}
 use mir.Syntax.{w64}
 use mir.Val.{SFits, to_z}
 use mir.Facts.{to_z-of_z}
-use Rattle.showing.specs.Each.{oneNumber}
+use Rattle.showing.specs.Each.{one_number}
 use Rattle.showing.proofs.each.of_refusal.Statement.{statement}
 use Rattle.showing.proofs.each.of_refusal.Tie as tie
 
@@ -16,7 +16,7 @@ small c =
     to_z-of_z fits
 
 returns : tie.Need-returns
-returns c = c.one_number.ensures ∙ ap (oneNumber 114) (small c)
+returns c = c.one_number.ensures ∙ ap (one_number 114) (small c)
 
 pub of-refusal-spec : {M : Type 1} → statement M
 of-refusal-spec = tie.close (tie.spec (λ c. search rules) (λ c κs. search rules) returns)

@@ -6,7 +6,7 @@ use borrow.Author.Rules.{rules}
 use mir.Syntax.{w64}
 use mir.Val.{SFits, to_z}
 use mir.Facts.{to_z-of_z}
-use Rattle.showing.specs.Each.{twoNumbers}
+use Rattle.showing.specs.Each.{two_numbers}
 use Rattle.showing.proofs.each.of_text_refusal.Statement.{statement}
 use Rattle.showing.proofs.each.of_text_refusal.Tie as tie
 
@@ -16,7 +16,7 @@ small c =
     to_z-of_z fits
 
 returns : tie.Need-returns
-returns c = c.two-numbers.ensures ∙ ap (λ x. twoNumbers 114 x 32 c.before.before.args.e.place) (small c)
+returns c = c.two-numbers.ensures ∙ ap (λ x. two_numbers 114 x 32 c.before.before.args.e.place) (small c)
 
 pub of-text-refusal-spec : {M : Type 1} → statement M
 of-text-refusal-spec = tie.close (tie.spec (λ c. search rules) (λ c κs. search rules) returns)

@@ -4,7 +4,7 @@ use mir.Syntax.{w64}
 use mir.Val.{to_z, of_z}
 use mathlib.Core.Path.{◌≡◌, sym, ap, ◌∙◌}
 use borrow.Author.Rules.{rules}
-use Rattle.showing.specs.Each.{twoNumbers, ofTimed}
+use Rattle.showing.specs.Each.{two_numbers, of_timed}
 use Rattle.showing.proofs.each.of_timed.Statement.{statement}
 use Rattle.showing.proofs.each.of_timed.Tie as tie
 
@@ -14,10 +14,10 @@ back c = search rules
 returns : tie.Need-returns
 returns c =
     let a = c.before.before.a in
-    c.two-numbers.ensures ∙ ap (λ z. twoNumbers 0 z 47 a.given.0.1.0) (back c.before) ∙ sym (ap ofTimed a.given.1)
+    c.two-numbers.ensures ∙ ap (λ z. two_numbers 0 z 47 a.given.0.1.0) (back c.before) ∙ sym (ap of_timed a.given.1)
 
 returns-2 : tie.Need-returns-2
-returns-2 c = c.of-refusal.ensures ∙ sym (ap ofTimed c.before.before.a2.given.1)
+returns-2 c = c.of-refusal.ensures ∙ sym (ap of_timed c.before.before.a2.given.1)
 
 pub of-timed-spec : {M : Type 1} → statement M
 of-timed-spec =

@@ -5,9 +5,9 @@ use mir.Val.{to_z, of_z}
 use mathlib.Core.Path.{◌≡◌}
 use mathlib.Core.List.{[], ◌∷◌}
 use borrow.Author.Rules.{rules}
-use Rattle.streams.specs.Sheet.{sheet, putOn}
+use Rattle.streams.specs.Sheet.{sheet, put_on}
 use Rattle.laws.specs.Spelt.{spelt}
-use Rattle.showing.specs.Shown.{countText}
+use Rattle.showing.specs.Shown.{count_text}
 use Rattle.showing.proofs.Putting.{leaves-on, leaves-same}
 use Rattle.showing.proofs.ListPutting.{number-on, frames-is}
 use Rattle.showing.proofs.lists.put_frames.Statement.{statement}
@@ -29,11 +29,11 @@ returns c =
     let start = one.before.before.before.before in
     let a = start.args in
     let s = sheet a.out.now a.used in
-    let word = putOn s (spelt " shot ") in
-    let first = putOn word (countText a.first) in
+    let word = put_on s (spelt " shot ") in
+    let first = put_on word (count_text a.first) in
     leaves-same _ _ _ _ (frames-is s a.first a.end)
-    (number-on (putOn first (32 ∷ [])) _ a.end (end_back start) _ _ _ _
-    (leaves-on first (λ z. putOn z (32 ∷ [])) _ _ _ _
+    (number-on (put_on first (32 ∷ [])) _ a.end (end_back start) _ _ _ _
+    (leaves-on first (λ z. put_on z (32 ∷ [])) _ _ _ _
     (number-on word _ a.first (first_back start) _ _ _ _ one.put-text.ensures two.put-number.ensures)
     three.put_byte.ensures)
     four.put-number2.ensures)

@@ -2,8 +2,8 @@
 -- Assumes nothing.
 use mathlib.Core.Bool.{false}
 use borrow.Author.Rules.{rules}
-use Rattle.written.specs.Parts.{signedText}
-use Rattle.streams.specs.Sheet.{sheet, putOn}
+use Rattle.written.specs.Parts.{signed_text}
+use Rattle.streams.specs.Sheet.{sheet, put_on}
 use Rattle.showing.proofs.Putting.{leaves-on, leaves-same}
 use Rattle.showing.proofs.ListPutting.{numbered_is}
 use Rattle.showing.proofs.lists.put_numbered.Statement.{statement}
@@ -15,7 +15,7 @@ returns c =
     let a = text.before.before.before.before.args in
     let s = sheet a.out.now a.used in
     leaves-same _ _ _ _ (numbered_is s a.word.now a.n)
-    (leaves-on (putOn s a.word.now) (λ z. putOn z (signedText false a.n)) _ _ _ _
+    (leaves-on (put_on s a.word.now) (λ z. put_on z (signed_text false a.n)) _ _ _ _
     text.put-text.ensures c.before.before.put-signed.ensures)
 
 pub put-numbered-spec : {M : Type 1} → statement M

@@ -7,7 +7,7 @@ use lib.ListN.{length, drop}
 use borrow.Author.Rules.{rules}
 use Rattle.streams.specs.Sheet.{sheet}
 use Rattle.shot_lists.specs.declared.records.Entry.TheVariants.{Taken}
-use Rattle.shot_lists.specs.Entries.{onDisk, entry_of}
+use Rattle.shot_lists.specs.Entries.{on_disk, entry_of}
 use Rattle.shot_lists.specs.Walk.{going-nearer}
 use Rattle.showing.proofs.Putting.{leaves-same}
 use Rattle.showing.proofs.ListPutting.{Underway, underway-begins, underway-goes, underway-never, underway-over, underway-done}
@@ -30,8 +30,8 @@ loop-holds c =
 taken : (c : tie.After-known-told invariant-loop decreases-loop)
     → let k = c.before.before.before.before.before in
     let g = c.before.found.given.0 in
-    entry_of onDisk k.loop.held (drop k.loop.at k.before.before.before.args.list.now) ≡ Taken g.0 g.1.0 g.1.1.0
-taken c = sym c.before.before.before.record-at.ensures ∙ c.before.found.given.1
+    entry_of on_disk k.loop.held (drop k.loop.at k.before.before.before.args.list.now) ≡ Taken g.0 g.1.0 g.1.1.0
+taken c = sym c.before.before.before.record_at.ensures ∙ c.before.found.given.1
 
 nearer-now : (c : tie.After-known-told invariant-loop decreases-loop)
     → let k = c.before.before.before.before.before in
@@ -39,7 +39,7 @@ nearer-now : (c : tie.After-known-told invariant-loop decreases-loop)
     (0 < size) × (k.loop.at + size ≤ length k.before.before.before.args.list.now)
 nearer-now c =
     let k = c.before.before.before.before.before in
-    going-nearer onDisk k.before.before.before.args.list.now k.loop.at k.loop.held _ _ _ (taken c)
+    going-nearer on_disk k.before.before.before.args.list.now k.loop.at k.loop.held _ _ _ (taken c)
 
 loop-again : tie.Need-loop-preserved invariant-loop decreases-loop
 loop-again c =
@@ -53,7 +53,7 @@ loop-again c =
 returns : tie.Need-returns invariant-loop decreases-loop
 returns c =
     let k = c.before.before.before.before in
-    absurd (underway-never _ _ _ _ _ k.loop.invariant _ (sym c.before.before.record-at.ensures ∙ c.enum_told.given.1))
+    absurd (underway-never _ _ _ _ _ k.loop.invariant _ (sym c.before.before.record_at.ensures ∙ c.enum_told.given.1))
 
 returns-2 : tie.Need-returns-2 invariant-loop decreases-loop
 returns-2 c =
@@ -61,7 +61,7 @@ returns-2 c =
     let a = k.before.before.before.args in
     leaves-same (sheet k.loop.out k.loop.u) _ _ _
     (underway-over a.list.now (sheet a.out.now a.used) _ k.loop.at k.loop.held k.loop.invariant
-    (sym c.before.before.record-at.ensures ∙ c.enum-told2.given.1))
+    (sym c.before.before.record_at.ensures ∙ c.enum-told2.given.1))
     (refl, refl)
 
 returns-3 : tie.Need-returns-3 invariant-loop decreases-loop

@@ -5,7 +5,7 @@ use mir.Val.{to_z, of_z}
 use mathlib.Core.Path.{◌≡◌, sym, ap, ap₂, ◌∙◌}
 use borrow.Author.Rules.{rules}
 use Rattle.streams.specs.Sheet.{sheet}
-use Rattle.showing.specs.Lists.{framesOn, recordOn}
+use Rattle.showing.specs.Lists.{frames_on, record_on}
 use Rattle.showing.proofs.Putting.{leaves-same}
 use Rattle.showing.proofs.lists.put_words.Statement.{statement}
 use Rattle.showing.proofs.lists.put_words.Tie as tie
@@ -14,7 +14,7 @@ returns : tie.Need-returns
 returns c =
     let f = c.before.before.before.before.before.before in
     let a = f.before.before.before.args in
-    leaves-same _ _ _ _ (sym (ap (recordOn (sheet a.out.now a.used)) f.found.given.1)) c.before.before.put-numbered.ensures
+    leaves-same _ _ _ _ (sym (ap (record_on (sheet a.out.now a.used)) f.found.given.1)) c.before.before.put-numbered.ensures
 
 -- a shot's numbers, read back
 first_back : (c : tie.After-known-told2) → to_z w64 (of_z w64 c.before.found2.given.0.0) ≡ c.before.found2.given.0.0
@@ -29,13 +29,13 @@ returns-2 c =
     let f = told.before in
     let a = f.before.before.before.args in
     let s = sheet a.out.now a.used in
-    leaves-same _ _ _ _ (ap₂ (framesOn s) (first_back told) (end_back told) ∙ sym (ap (recordOn s) f.found2.given.1)) c.before.before.put-frames.ensures
+    leaves-same _ _ _ _ (ap₂ (frames_on s) (first_back told) (end_back told) ∙ sym (ap (record_on s) f.found2.given.1)) c.before.before.put-frames.ensures
 
 returns-3 : tie.Need-returns-3
 returns-3 c =
     let f = c.before.before.before.before.before.before in
     let a = f.before.before.before.args in
-    leaves-same _ _ _ _ (sym (ap (recordOn (sheet a.out.now a.used)) f.found3.given.1)) c.before.before.put-numbered2.ensures
+    leaves-same _ _ _ _ (sym (ap (record_on (sheet a.out.now a.used)) f.found3.given.1)) c.before.before.put-numbered2.ensures
 
 pub put-words-spec : {M : Type 1} → statement M
 put-words-spec =

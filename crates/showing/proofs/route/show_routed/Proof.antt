@@ -3,17 +3,17 @@
 use mathlib.Core.List.{[], ◌∷◌}
 use borrow.Author.Rules.{rules}
 use Rattle.streams.specs.Sheet.{sheet}
-use Rattle.showing.specs.Routes.{routedParts, routedOn}
+use Rattle.showing.specs.Routes.{routed_parts, routed_on}
 use Rattle.showing.proofs.WhyPutting.{puts-on, puts_one}
 use Rattle.showing.proofs.route.show_routed.Statement.{statement}
 use Rattle.showing.proofs.route.show_routed.Tie as tie
 
 returns : tie.Need-returns
-unfolding routedOn
+unfolding routed_on
 returns c =
     let shown = c.before.before.before.before.before.before in
     let a = shown.before.before.before.args in
-    puts-on (sheet a.out.now a.used) (routedParts a.a) ((10 ∷ []) ∷ []) _ _ _ _ shown.put-routed.ensures
+    puts-on (sheet a.out.now a.used) (routed_parts a.a) ((10 ∷ []) ∷ []) _ _ _ _ shown.put-routed.ensures
     (puts_one _ _ _ _ c.before.before.put_byte.ensures)
 
 pub show-routed-spec : {M : Type 1} → statement M

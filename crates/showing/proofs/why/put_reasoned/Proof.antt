@@ -3,8 +3,8 @@
 use mathlib.Core.Path.{sym, ap, ◌∙◌}
 use borrow.Author.Rules.{rules}
 use Rattle.streams.specs.Sheet.{sheet}
-use Rattle.showing.specs.Shown.{partsOn}
-use Rattle.showing.specs.Why.{putsOn, reasonedParts}
+use Rattle.showing.specs.Shown.{parts_on}
+use Rattle.showing.specs.Why.{puts_on, reasoned_parts}
 use Rattle.showing.proofs.Putting.{leaves-same}
 use Rattle.showing.proofs.WhyPutting.{refusal-shown}
 use Rattle.showing.proofs.why.put_reasoned.Statement.{statement}
@@ -14,7 +14,7 @@ returns : tie.Need-returns
 returns c =
     let told = c.before.before.before.before.before in
     let a = told.before.before.before.args in
-    leaves-same _ _ _ _ (sym (ap (λ z. putsOn (sheet a.out.now a.used) (reasonedParts a.rate z)) told.w.given.1)) c.before.before.put-told.ensures
+    leaves-same _ _ _ _ (sym (ap (λ z. puts_on (sheet a.out.now a.used) (reasoned_parts a.rate z)) told.w.given.1)) c.before.before.put-told.ensures
 
 returns-2 : tie.Need-returns-2
 returns-2 c =
@@ -23,9 +23,9 @@ returns-2 c =
     let a = told.before.before.before.args in
     let s = sheet a.out.now a.used in
     leaves-same _ _ _ _
-    (ap (partsOn s) refusal.of-refusal.ensures
+    (ap (parts_on s) refusal.of-refusal.ensures
     ∙ refusal-shown s told.w2.given.0.0
-    ∙ sym (ap (λ z. putsOn s (reasonedParts a.rate z)) told.w2.given.1))
+    ∙ sym (ap (λ z. puts_on s (reasoned_parts a.rate z)) told.w2.given.1))
     c.before.before.put-shown.ensures
 
 pub put-reasoned-spec : {M : Type 1} → statement M

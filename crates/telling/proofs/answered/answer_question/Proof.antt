@@ -3,9 +3,9 @@
 use mathlib.Core.List.{[], ◌∷◌}
 use mathlib.Core.Bool.{cond}
 use Rattle.streams.specs.Sheet.{sheet}
-use Rattle.streams.specs.Pieces.{lineEnd}
-use Rattle.telling.specs.Question.{questionOf}
-use Rattle.telling.specs.Answered.{otherPieces, askedPieces}
+use Rattle.streams.specs.Pieces.{line_end}
+use Rattle.telling.specs.Question.{question_of}
+use Rattle.telling.specs.Answered.{other_pieces, asked_pieces}
 use Rattle.streams.proofs.Pieces.{puts-same, no_more, on-piece, on-pieces}
 use Rattle.telling.proofs.Cases.{question-answer}
 use borrow.Author.Rules.{rules}
@@ -21,8 +21,8 @@ returns c =
     let line = a.line.now in
     let s = sheet a.out.now a.used in
     puts-same s _ _ _ _ (question-answer line a.over)
-    (on-pieces s (cond a.over (otherPieces line) (askedPieces line (questionOf line))) (lineEnd ∷ []) _ _ _ _ one.put-question.ensures
-    (on-piece _ lineEnd [] _ _ _ _ two.put_byte.ensures (no_more _ _)))
+    (on-pieces s (cond a.over (other_pieces line) (asked_pieces line (question_of line))) (line_end ∷ []) _ _ _ _ one.put-question.ensures
+    (on-piece _ line_end [] _ _ _ _ two.put_byte.ensures (no_more _ _)))
 
 pub answer-question-spec : {M : Type 1} → statement M
 answer-question-spec =

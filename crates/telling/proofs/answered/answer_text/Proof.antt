@@ -3,9 +3,9 @@
 use mathlib.Core.List.{[], ◌∷◌}
 use mathlib.Core.Bool.{cond}
 use Rattle.streams.specs.Sheet.{sheet}
-use Rattle.streams.specs.Pieces.{lineEnd}
-use Rattle.telling.specs.Told.{toldPieces}
-use Rattle.telling.specs.Answered.{otherPieces}
+use Rattle.streams.specs.Pieces.{line_end}
+use Rattle.telling.specs.Told.{told_pieces}
+use Rattle.telling.specs.Answered.{other_pieces}
 use Rattle.streams.proofs.Pieces.{puts-same, no_more, on-piece, on-pieces}
 use Rattle.telling.proofs.Cases.{text-answer}
 use borrow.Author.Rules.{rules}
@@ -21,8 +21,8 @@ returns c =
     let line = a.line.now in
     let s = sheet a.out.now a.used in
     puts-same s _ _ _ _ (text-answer a.way line a.over)
-    (on-pieces s (cond a.over (otherPieces line) (toldPieces a.way line)) (lineEnd ∷ []) _ _ _ _ one.put-told.ensures
-    (on-piece _ lineEnd [] _ _ _ _ two.put_byte.ensures (no_more _ _)))
+    (on-pieces s (cond a.over (other_pieces line) (told_pieces a.way line)) (line_end ∷ []) _ _ _ _ one.put-told.ensures
+    (on-piece _ line_end [] _ _ _ _ two.put_byte.ensures (no_more _ _)))
 
 pub answer-text-spec : {M : Type 1} → statement M
 answer-text-spec =

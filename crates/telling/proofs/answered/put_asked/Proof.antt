@@ -5,8 +5,8 @@ use mathlib.Core.Path.{sym, ap, ◌∙◌}
 use native.Mathlib.Omega.{arith}
 use lib.ListN.{length}
 use Rattle.streams.specs.Sheet.{sheet}
-use Rattle.telling.specs.Told.{toldPieces}
-use Rattle.telling.specs.Answered.{askedPieces}
+use Rattle.telling.specs.Told.{told_pieces}
+use Rattle.telling.specs.Answered.{asked_pieces}
 use Rattle.streams.proofs.Pieces.{pieces-same}
 use Rattle.telling.proofs.Asked.{asked-within, rest-whole}
 use borrow.Author.Rules.{rules}
@@ -35,8 +35,8 @@ returns c =
     let a = start.args in
     let line = a.line.now in
     pieces-same (sheet a.out.now a.used) _ _ _ _
-    (ap (toldPieces w.way.given.0.0) (rest-whole line w.way.given.0.1.0)
-    ∙ ap (askedPieces line) (sym w.way.given.1 ∙ u.understand.ensures))
+    (ap (told_pieces w.way.given.0.0) (rest-whole line w.way.given.0.1.0)
+    ∙ ap (asked_pieces line) (sym w.way.given.1 ∙ u.understand.ensures))
     t.tell.ensures
 
 returns-2 : tie.Need-returns-2
@@ -46,7 +46,7 @@ returns-2 c =
     let u = w.before.before in
     let start = u.before.before.before in
     let a = start.args in
-    pieces-same (sheet a.out.now a.used) _ _ _ _ (ap (askedPieces a.line.now) (sym w.enum_told.given.1 ∙ u.understand.ensures))
+    pieces-same (sheet a.out.now a.used) _ _ _ _ (ap (asked_pieces a.line.now) (sym w.enum_told.given.1 ∙ u.understand.ensures))
     p.put_other.ensures
 
 returns-3 : tie.Need-returns-3
@@ -56,7 +56,7 @@ returns-3 c =
     let u = w.before.before in
     let start = u.before.before.before in
     let a = start.args in
-    pieces-same (sheet a.out.now a.used) _ _ _ _ (ap (askedPieces a.line.now) (sym w.enum-told2.given.1 ∙ u.understand.ensures))
+    pieces-same (sheet a.out.now a.used) _ _ _ _ (ap (asked_pieces a.line.now) (sym w.enum-told2.given.1 ∙ u.understand.ensures))
     p.put-other2.ensures
 
 pub put-asked-spec : {M : Type 1} → statement M

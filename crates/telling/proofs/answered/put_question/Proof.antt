@@ -3,8 +3,8 @@
 use mathlib.Core.Path.{sym, ap}
 use mathlib.Core.Bool.{cond}
 use Rattle.streams.specs.Sheet.{sheet}
-use Rattle.telling.specs.Question.{questionOf}
-use Rattle.telling.specs.Answered.{otherPieces, askedPieces}
+use Rattle.telling.specs.Question.{question_of}
+use Rattle.telling.specs.Answered.{other_pieces, asked_pieces}
 use Rattle.streams.proofs.Pieces.{pieces-same}
 use borrow.Author.Rules.{rules}
 use Rattle.telling.proofs.answered.put_question.Statement.{statement}
@@ -17,7 +17,7 @@ returns c =
     let start = t.before.before.before in
     let a = start.args in
     let line = a.line.now in
-    pieces-same (sheet a.out.now a.used) _ _ _ _ (sym (ap (λ t. cond t (otherPieces line) (askedPieces line (questionOf line))) t.if1.true)) p.put_other.ensures
+    pieces-same (sheet a.out.now a.used) _ _ _ _ (sym (ap (λ t. cond t (other_pieces line) (asked_pieces line (question_of line))) t.if1.true)) p.put_other.ensures
 
 returns-2 : tie.Need-returns-2
 returns-2 c =
@@ -26,7 +26,7 @@ returns-2 c =
     let start = t.before.before.before in
     let a = start.args in
     let line = a.line.now in
-    pieces-same (sheet a.out.now a.used) _ _ _ _ (sym (ap (λ t. cond t (otherPieces line) (askedPieces line (questionOf line))) t.if1.false)) p.put-asked.ensures
+    pieces-same (sheet a.out.now a.used) _ _ _ _ (sym (ap (λ t. cond t (other_pieces line) (asked_pieces line (question_of line))) t.if1.false)) p.put-asked.ensures
 
 pub put-question-spec : {M : Type 1} → statement M
 put-question-spec =

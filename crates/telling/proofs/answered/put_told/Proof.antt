@@ -3,8 +3,8 @@
 use mathlib.Core.Path.{sym, ap}
 use mathlib.Core.Bool.{cond}
 use Rattle.streams.specs.Sheet.{sheet}
-use Rattle.telling.specs.Told.{toldPieces}
-use Rattle.telling.specs.Answered.{otherPieces}
+use Rattle.telling.specs.Told.{told_pieces}
+use Rattle.telling.specs.Answered.{other_pieces}
 use Rattle.streams.proofs.Pieces.{pieces-same}
 use borrow.Author.Rules.{rules}
 use Rattle.telling.proofs.answered.put_told.Statement.{statement}
@@ -17,7 +17,7 @@ returns c =
     let start = t.before.before.before in
     let a = start.args in
     let line = a.line.now in
-    pieces-same (sheet a.out.now a.used) _ _ _ _ (sym (ap (λ t. cond t (otherPieces line) (toldPieces a.way line)) t.if1.true)) p.put_other.ensures
+    pieces-same (sheet a.out.now a.used) _ _ _ _ (sym (ap (λ t. cond t (other_pieces line) (told_pieces a.way line)) t.if1.true)) p.put_other.ensures
 
 returns-2 : tie.Need-returns-2
 returns-2 c =
@@ -26,7 +26,7 @@ returns-2 c =
     let start = t.before.before.before in
     let a = start.args in
     let line = a.line.now in
-    pieces-same (sheet a.out.now a.used) _ _ _ _ (sym (ap (λ t. cond t (otherPieces line) (toldPieces a.way line)) t.if1.false)) p.tell.ensures
+    pieces-same (sheet a.out.now a.used) _ _ _ _ (sym (ap (λ t. cond t (other_pieces line) (told_pieces a.way line)) t.if1.false)) p.tell.ensures
 
 pub put-told-spec : {M : Type 1} → statement M
 put-told-spec =

@@ -2,7 +2,7 @@
 -- Assumes nothing.
 use mathlib.Core.Path.{sym, ap}
 use Rattle.streams.specs.Sheet.{sheet}
-use Rattle.telling.specs.Facts.{acceptedPieces}
+use Rattle.telling.specs.Facts.{accepted_pieces}
 use Rattle.streams.proofs.Pieces.{pieces-same}
 use borrow.Author.Rules.{rules}
 use Rattle.telling.proofs.facts.put_accepted.Statement.{statement}
@@ -14,7 +14,7 @@ returns c =
     let t = p.before.before.before in
     let z = t.before.before.before in
     let a = z.args in
-    pieces-same (sheet a.out.now a.used) _ _ _ _ (sym (ap acceptedPieces t.read.given.1)) p.put-counted.ensures
+    pieces-same (sheet a.out.now a.used) _ _ _ _ (sym (ap accepted_pieces t.read.given.1)) p.put-counted.ensures
 
 returns-2 : tie.Need-returns-2
 returns-2 c =
@@ -22,7 +22,7 @@ returns-2 c =
     let t = p.before.before.before in
     let z = t.before.before.before in
     let a = z.args in
-    pieces-same (sheet a.out.now a.used) _ _ _ _ (sym (ap acceptedPieces t.read2.given.1)) p.put-counted2.ensures
+    pieces-same (sheet a.out.now a.used) _ _ _ _ (sym (ap accepted_pieces t.read2.given.1)) p.put-counted2.ensures
 
 pub put-accepted-spec : {M : Type 1} → statement M
 put-accepted-spec =

@@ -3,8 +3,8 @@
 use mir.Syntax.{w64}
 use mir.Val.{to_z, of_z}
 use mathlib.Core.Path.{◌≡◌, ap}
-use Rattle.streams.specs.Sheet.{sheet, putOn}
-use Rattle.telling.specs.Facts.{countText}
+use Rattle.streams.specs.Sheet.{sheet, put_on}
+use Rattle.telling.specs.Facts.{count_text}
 use Rattle.streams.proofs.Pieces.{leaves-same, puts-same, no_more, on-piece}
 use Rattle.telling.proofs.Cases.{counted_is}
 use borrow.Author.Rules.{rules}
@@ -30,7 +30,7 @@ returns c =
     let at = sheet one.put-text.new.0 one.put-text.result in
     puts-same s _ _ _ _ (counted_is a.tc)
     (on-piece s _ _ _ _ _ _ one.put-text.ensures
-    (on-piece _ _ _ _ _ _ _ (leaves-same _ _ _ _ (ap (λ x. putOn at (countText x)) (back start)) two.put_count.ensures)
+    (on-piece _ _ _ _ _ _ _ (leaves-same _ _ _ _ (ap (λ x. put_on at (count_text x)) (back start)) two.put_count.ensures)
     (on-piece _ _ _ _ _ _ _ three.put-text2.ensures
     (on-piece _ _ _ _ _ _ _ four.put-label.ensures
     (on-piece _ _ _ _ _ _ _ five.put-text3.ensures

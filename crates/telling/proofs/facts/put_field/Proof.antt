@@ -1,8 +1,8 @@
 -- `telling::facts::put_field` meets its contract: case by case.
 -- Assumes nothing.
 use mathlib.Core.Path.{sym, ap}
-use Rattle.streams.specs.Sheet.{sheet, putOn}
-use Rattle.telling.specs.Facts.{fieldWord}
+use Rattle.streams.specs.Sheet.{sheet, put_on}
+use Rattle.telling.specs.Facts.{field_word}
 use Rattle.streams.proofs.Pieces.{leaves-same}
 use borrow.Author.Rules.{rules}
 use Rattle.telling.proofs.facts.put_field.Statement.{statement}
@@ -14,7 +14,7 @@ returns c =
     let t = p.before.before.before in
     let z = t.before.before.before in
     let a = z.args in
-    leaves-same _ _ _ _ (sym (ap (λ z. putOn (sheet a.out.now a.used) (fieldWord z)) t.enum_told.given.1)) p.put-text.ensures
+    leaves-same _ _ _ _ (sym (ap (λ z. put_on (sheet a.out.now a.used) (field_word z)) t.enum_told.given.1)) p.put-text.ensures
 
 returns-2 : tie.Need-returns-2
 returns-2 c =
@@ -22,7 +22,7 @@ returns-2 c =
     let t = p.before.before.before in
     let z = t.before.before.before in
     let a = z.args in
-    leaves-same _ _ _ _ (sym (ap (λ z. putOn (sheet a.out.now a.used) (fieldWord z)) t.enum-told2.given.1)) p.put-text2.ensures
+    leaves-same _ _ _ _ (sym (ap (λ z. put_on (sheet a.out.now a.used) (field_word z)) t.enum-told2.given.1)) p.put-text2.ensures
 
 returns-3 : tie.Need-returns-3
 returns-3 c =
@@ -30,7 +30,7 @@ returns-3 c =
     let t = p.before.before.before in
     let z = t.before.before.before in
     let a = z.args in
-    leaves-same _ _ _ _ (sym (ap (λ z. putOn (sheet a.out.now a.used) (fieldWord z)) t.enum-told3.given.1)) p.put-text3.ensures
+    leaves-same _ _ _ _ (sym (ap (λ z. put_on (sheet a.out.now a.used) (field_word z)) t.enum-told3.given.1)) p.put-text3.ensures
 
 returns-4 : tie.Need-returns-4
 returns-4 c =
@@ -38,7 +38,7 @@ returns-4 c =
     let t = p.before.before.before in
     let z = t.before.before.before in
     let a = z.args in
-    leaves-same _ _ _ _ (sym (ap (λ z. putOn (sheet a.out.now a.used) (fieldWord z)) t.enum-told4.given.1)) p.put-text4.ensures
+    leaves-same _ _ _ _ (sym (ap (λ z. put_on (sheet a.out.now a.used) (field_word z)) t.enum-told4.given.1)) p.put-text4.ensures
 
 returns-5 : tie.Need-returns-5
 returns-5 c =
@@ -46,7 +46,7 @@ returns-5 c =
     let t = p.before.before.before in
     let z = t.before.before.before in
     let a = z.args in
-    leaves-same _ _ _ _ (sym (ap (λ z. putOn (sheet a.out.now a.used) (fieldWord z)) t.enum-told5.given.1)) p.put-text5.ensures
+    leaves-same _ _ _ _ (sym (ap (λ z. put_on (sheet a.out.now a.used) (field_word z)) t.enum-told5.given.1)) p.put-text5.ensures
 
 returns-6 : tie.Need-returns-6
 returns-6 c =
@@ -54,7 +54,7 @@ returns-6 c =
     let t = p.before.before.before in
     let z = t.before.before.before in
     let a = z.args in
-    leaves-same _ _ _ _ (sym (ap (λ z. putOn (sheet a.out.now a.used) (fieldWord z)) t.enum-told6.given.1)) p.put-text6.ensures
+    leaves-same _ _ _ _ (sym (ap (λ z. put_on (sheet a.out.now a.used) (field_word z)) t.enum-told6.given.1)) p.put-text6.ensures
 
 returns-7 : tie.Need-returns-7
 returns-7 c =
@@ -62,7 +62,7 @@ returns-7 c =
     let t = p.before.before.before in
     let z = t.before.before.before in
     let a = z.args in
-    leaves-same _ _ _ _ (sym (ap (λ z. putOn (sheet a.out.now a.used) (fieldWord z)) t.enum-told7.given.1)) p.put-text7.ensures
+    leaves-same _ _ _ _ (sym (ap (λ z. put_on (sheet a.out.now a.used) (field_word z)) t.enum-told7.given.1)) p.put-text7.ensures
 
 pub put-field-spec : {M : Type 1} → statement M
 put-field-spec =

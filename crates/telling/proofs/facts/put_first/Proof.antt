@@ -17,7 +17,7 @@ returns c =
     let s = sheet a.out.now a.used in
     puts-same s _ _ _ _ (first-is a.rate a.s)
     (on-piece s _ _ _ _ _ _ one.put-text.ensures
-    (on-piece _ _ _ _ _ _ _ two.put-sections.ensures
+    (on-piece _ _ _ _ _ _ _ two.put_sections.ensures
     (on-piece _ _ _ _ _ _ _ three.put_byte.ensures (no_more _ _))))
 
 pub put-first-spec : {M : Type 1} → statement M

@@ -3,8 +3,8 @@
 use mir.Syntax.{w64}
 use mir.Val.{to_z, of_z}
 use mathlib.Core.Path.{◌≡◌, sym, ap, ◌∙◌}
-use Rattle.streams.specs.Sheet.{sheet, putOn}
-use Rattle.telling.specs.Facts.{countText, ticksText}
+use Rattle.streams.specs.Sheet.{sheet, put_on}
+use Rattle.telling.specs.Facts.{count_text, ticks_text}
 use Rattle.streams.proofs.Pieces.{leaves-same}
 use borrow.Author.Rules.{rules}
 use Rattle.telling.proofs.facts.put_ticks.Statement.{statement}
@@ -24,7 +24,7 @@ returns c =
     let a = z.args in
     let s = sheet a.out.now a.used in
     leaves-same _ _ _ _
-    (ap (λ x. putOn s (countText x)) (back k) ∙ ap (λ z. putOn s (ticksText z)) (sym t.z.given.1 ∙ w.premiere-ticks.ensures))
+    (ap (λ x. put_on s (count_text x)) (back k) ∙ ap (λ z. put_on s (ticks_text z)) (sym t.z.given.1 ∙ w.premiere_ticks.ensures))
     p.put_count.ensures
 
 returns-2 : tie.Need-returns-2
@@ -34,7 +34,7 @@ returns-2 c =
     let w = t.before.before in
     let z = w.before.before in
     let a = z.args in
-    leaves-same _ _ _ _ (ap (λ z. putOn (sheet a.out.now a.used) (ticksText z)) (sym t.enum_told.given.1 ∙ w.premiere-ticks.ensures))
+    leaves-same _ _ _ _ (ap (λ z. put_on (sheet a.out.now a.used) (ticks_text z)) (sym t.enum_told.given.1 ∙ w.premiere_ticks.ensures))
     p.put-text.ensures
 
 pub put-ticks-spec : {M : Type 1} → statement M

@@ -5,9 +5,9 @@ use mathlib.Core.Bool.{Bool}
 use mathlib.Core.Path.{◌≡◌, ap, ◌∙◌}
 use lib.IntN.{nat_abs}
 use mir.Facts.{to_z-of_z}
-use Rattle.numbers.specs.Sign.{isNeg}
-use Rattle.written.specs.Parts.{signedText}
-use Rattle.streams.specs.Sheet.{sheet, putOn}
+use Rattle.numbers.specs.Sign.{is_neg}
+use Rattle.written.specs.Parts.{signed_text}
+use Rattle.streams.specs.Sheet.{sheet, put_on}
 use Rattle.streams.proofs.Pieces.{leaves-same}
 use borrow.Author.Rules.{rules}
 use Rattle.telling.proofs.pieces.put_count.Statement.{statement}
@@ -20,10 +20,10 @@ returns c =
     let start = sign.before.before.before in
     let a = start.args in
     let s = sheet a.out.now a.used in
-    let minus : sign.below-zero.result ≡ isNeg a.x = sign.below-zero.ensures ∙ ap isNeg (to_z-of_z start.ranges.x) in
+    let minus : sign.below-zero.result ≡ is_neg a.x = sign.below-zero.ensures ∙ ap is_neg (to_z-of_z start.ranges.x) in
     let m : size.magnitude.result ≡ nat_abs a.x = size.magnitude.ensures ∙ ap nat_abs (to_z-of_z start.ranges.x) in
     leaves-same _ _ _ _
-    (ap (λ (z : Bool). putOn s (signedText z size.magnitude.result)) minus ∙ ap (λ (z : ℕ). putOn s (signedText (isNeg a.x) z)) m)
+    (ap (λ (z : Bool). put_on s (signed_text z size.magnitude.result)) minus ∙ ap (λ (z : ℕ). put_on s (signed_text (is_neg a.x) z)) m)
     c.before.before.put-signed.ensures
 
 pub put-count-spec : {M : Type 1} → statement M

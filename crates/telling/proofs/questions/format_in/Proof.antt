@@ -5,7 +5,7 @@ use mathlib.Core.Path.{sym, ap, ◌∙◌}
 use native.Mathlib.Omega.{arith}
 use lib.Seq.{drop-drop}
 use Rattle.laws.specs.Spelt.{spelt}
-use Rattle.telling.specs.Question.{formatAt}
+use Rattle.telling.specs.Question.{format_at}
 use Rattle.telling.proofs.Words.{word-within, format-stated, format-no-word, format-word}
 use borrow.Author.Rules.{rules}
 use Rattle.telling.proofs.questions.format_in.Statement.{statement}
@@ -39,7 +39,7 @@ returns-3 c =
     let z = t.before.before in
     let a = z.args in
     f.format-at.ensures
-    ∙ ap (λ l. formatAt l a.o (a.o.at + w.one_of.result)) (sym (drop-drop w.one_of.result a.o.at a.line.now))
+    ∙ ap (λ l. format_at l a.o (a.o.at + w.one_of.result)) (sym (drop-drop w.one_of.result a.o.at a.line.now))
     ∙ format-word _ _ t.if1.false _ w.one_of.ensures u.if2.false
 
 pub format-in-spec : {M : Type 1} → statement M

@@ -4,7 +4,7 @@ use mathlib.Core.Path.{refl}
 use mathlib.Core.List.{[]}
 use Rattle.streams.specs.Sheet.{sheet}
 use Rattle.streams.proofs.Pieces.{pieces-same}
-use Rattle.telling.proofs.Cases.{place-one, place-two, place_none}
+use Rattle.telling.proofs.Cases.{place_one, place_two, place_none}
 use borrow.Author.Rules.{rules}
 use Rattle.telling.proofs.told.put_place.Statement.{statement}
 use Rattle.telling.proofs.told.put_place.Tie as tie
@@ -15,7 +15,7 @@ returns c =
     let t = p.before.before in
     let z = t.before.before in
     let a = z.args in
-    pieces-same (sheet a.out.now a.used) _ _ _ _ (place-one a.number a.place t.if1.true) p.put-caret.ensures
+    pieces-same (sheet a.out.now a.used) _ _ _ _ (place_one a.number a.place t.if1.true) p.put-caret.ensures
 
 returns-2 : tie.Need-returns-2
 returns-2 c =
@@ -23,7 +23,7 @@ returns-2 c =
     let t = p.before.before in
     let z = t.before.before.before in
     let a = z.args in
-    pieces-same (sheet a.out.now a.used) _ _ _ _ (place-two a.number a.place t.if2.true) p.put-caret2.ensures
+    pieces-same (sheet a.out.now a.used) _ _ _ _ (place_two a.number a.place t.if2.true) p.put-caret2.ensures
 
 returns-3 : tie.Need-returns-3
 returns-3 c =

@@ -2,10 +2,10 @@
 -- Assumes nothing.
 use mathlib.Core.List.{◌∷◌, ◌++◌}
 use Rattle.streams.specs.Sheet.{sheet}
-use Rattle.streams.specs.Pieces.{lineEnd}
-use Rattle.telling.specs.Shown.{shownPieces, placePieces}
-use Rattle.telling.specs.Facts.{factPieces}
-use Rattle.telling.specs.Told.{frontPieces}
+use Rattle.streams.specs.Pieces.{line_end}
+use Rattle.telling.specs.Shown.{shown_pieces, place_pieces}
+use Rattle.telling.specs.Facts.{fact_pieces}
+use Rattle.telling.specs.Told.{front_pieces}
 use Rattle.streams.proofs.Pieces.{puts-same, on-piece, on-pieces}
 use Rattle.telling.proofs.Telling.{reason-is}
 use borrow.Author.Rules.{rules}
@@ -27,15 +27,15 @@ returns c =
     let s = sheet a.out.now a.used in
     let number = n.number.result in
     let place = p.place_of.result in
-    let fact = factPieces a.rate a.read a.fact in
-    let reason = a.phrase.now ∷ lineEnd ∷ fact in
+    let fact = fact_pieces a.rate a.read a.fact in
+    let reason = a.phrase.now ∷ line_end ∷ fact in
     puts-same s _ _ _ _
     (reason-is a.rate a.text.now a.read a.fact a.phrase.now number place n.number.ensures p.place_of.ensures)
-    (on-pieces s (shownPieces a.text.now) (placePieces number place ++ (frontPieces number ++ reason)) _ _ _ _ one.put-shown.ensures
-    (on-pieces _ (placePieces number place) (frontPieces number ++ reason) _ _ _ _ two.put-place.ensures
-    (on-pieces _ (frontPieces number) reason _ _ _ _ three.put_front.ensures
-    (on-piece _ a.phrase.now (lineEnd ∷ fact) _ _ _ _ four.put-text.ensures
-    (on-piece _ lineEnd fact _ _ _ _ five.put_byte.ensures (record { leaves = six.put-fact.ensures }))))))
+    (on-pieces s (shown_pieces a.text.now) (place_pieces number place ++ (front_pieces number ++ reason)) _ _ _ _ one.put-shown.ensures
+    (on-pieces _ (place_pieces number place) (front_pieces number ++ reason) _ _ _ _ two.put-place.ensures
+    (on-pieces _ (front_pieces number) reason _ _ _ _ three.put_front.ensures
+    (on-piece _ a.phrase.now (line_end ∷ fact) _ _ _ _ four.put-text.ensures
+    (on-piece _ line_end fact _ _ _ _ five.put_byte.ensures (record { leaves = six.put-fact.ensures }))))))
 
 pub put-reason-spec : {M : Type 1} → statement M
 put-reason-spec =

@@ -3,14 +3,14 @@
 use mathlib.Core.Path.{◌≡◌, sym, ◌∙◌, ap₂}
 use mathlib.Core.Bool.{beq}
 use borrow.Author.Rules.{rules}
-use Rattle.timecodes.specs.Kinds.{isPosition}
+use Rattle.timecodes.specs.Kinds.{is_position}
 use Rattle.timecodes.proofs.Mixing.{comparison-alike, comparison-never}
 use Rattle.timecodes.proofs.kinds.comparison.Statement.{statement}
 use Rattle.timecodes.proofs.kinds.comparison.Tie as tie
 
 -- what the test told is of the kinds
 alike : (c : tie.After-is-position2)
-    → beq (isPosition c.before.before.args.a) (isPosition c.before.before.args.b)
+    → beq (is_position c.before.before.args.a) (is_position c.before.before.args.b)
     ≡ beq c.before.is-position.result c.is-position2.result
 alike c = sym (ap₂ beq c.before.is-position.ensures c.is-position2.ensures)
 

@@ -4,7 +4,7 @@ use mathlib.Core.Path.{◌≡◌, sym, ◌∙◌}
 use mathlib.Core.Bool.{true}
 use borrow.Author.Rules.{rules}
 use Rattle.numbers.proofs.Tests.{fails, passes}
-use Rattle.timecodes.specs.Kinds.{isPosition}
+use Rattle.timecodes.specs.Kinds.{is_position}
 use Rattle.timecodes.proofs.Mixing.{difference-length, difference-apart, difference-never}
 use Rattle.timecodes.proofs.kinds.difference.Statement.{statement}
 use Rattle.timecodes.proofs.kinds.difference.Tie as tie
@@ -12,7 +12,7 @@ use Rattle.timecodes.proofs.kinds.difference.Tie as tie
 returns : tie.Need-returns
 returns c = let a = c.before.before.args in difference-length a.a a.b (fails c.before.is-position.ensures c.if1.true)
 
-right : (c : tie.Else1) → isPosition c.before.before.args.b ≡ true
+right : (c : tie.Else1) → is_position c.before.before.args.b ≡ true
 right c = passes c.before.is-position.ensures c.if1.false
 
 returns-2 : tie.Need-returns-2

@@ -3,24 +3,24 @@
 use mathlib.Core.Path.{sym, ◌∙◌, ap}
 use borrow.Author.Rules.{rules}
 use Rattle.timecodes.specs.declared.kinds.Joining.{Joining}
-use Rattle.timecodes.specs.Kinds.{mixedKinds}
+use Rattle.timecodes.specs.Kinds.{mixed_kinds}
 use Rattle.timecodes.proofs.kinds.mix.Statement.{statement}
 use Rattle.timecodes.proofs.kinds.mix.Tie as tie
 
 returns : tie.Need-returns
 returns c =
     let a = c.before.before.before.args in
-    c.sum.ensures ∙ ap (λ (j : Joining). mixedKinds j a.a a.b) (sym c.before.enum_told.given.1)
+    c.sum.ensures ∙ ap (λ (j : Joining). mixed_kinds j a.a a.b) (sym c.before.enum_told.given.1)
 
 returns-2 : tie.Need-returns-2
 returns-2 c =
     let a = c.before.before.before.args in
-    c.difference.ensures ∙ ap (λ (j : Joining). mixedKinds j a.a a.b) (sym c.before.enum-told2.given.1)
+    c.difference.ensures ∙ ap (λ (j : Joining). mixed_kinds j a.a a.b) (sym c.before.enum-told2.given.1)
 
 returns-3 : tie.Need-returns-3
 returns-3 c =
     let a = c.before.before.before.args in
-    c.comparison.ensures ∙ ap (λ (j : Joining). mixedKinds j a.a a.b) (sym c.before.enum-told3.given.1)
+    c.comparison.ensures ∙ ap (λ (j : Joining). mixed_kinds j a.a a.b) (sym c.before.enum-told3.given.1)
 
 pub mix-spec : {M : Type 1} → statement M
 mix-spec =

@@ -4,7 +4,7 @@ use Prim.Native.Nat.{◌-◌}
 use mathlib.Core.Path.{◌≡◌, sym, ap, ◌∙◌}
 use native.Mathlib.Omega.{arith}
 use lib.ListN.{length, drop}
-use Rattle.streams.specs.Turns.{waitingBehind}
+use Rattle.streams.specs.Turns.{waiting_behind}
 use Rattle.streams.proofs.Turns.{next_more, waiting-turn, waiting-done}
 use borrow.Author.Rules.{rules}
 use Rattle.why.proofs.lines.feed.Statement.{statement}
@@ -13,7 +13,7 @@ use Rattle.why.proofs.lines.feed.Tie as tie
 abbrev invariant-loop : tie.invariant-loop
 invariant-loop chunk texts way buffer₀ out₀ g₀ used₀ next₀ buffer out g used next =
     (length buffer ≡ length buffer₀)
-    × ((length out ≡ length out₀) × (waitingBehind buffer₀ g₀ chunk ≡ waitingBehind buffer g (drop next chunk)))
+    × ((length out ≡ length out₀) × (waiting_behind buffer₀ g₀ chunk ≡ waiting_behind buffer g (drop next chunk)))
 
 abbrev decreases-loop : tie.decreases-loop
 decreases-loop chunk texts way buffer₀ out₀ g₀ used₀ next₀ buffer out g used next = length chunk - next

@@ -3,7 +3,7 @@
 use mathlib.Core.Path.{◌≡◌, refl, sym, ap, ◌∙◌}
 use borrow.Author.Rules.{rules}
 use Rattle.scanner.specs.declared.fields.Scanned.{Scanned}
-use Rattle.scanner.specs.Fields.{none_taken, fieldsFound}
+use Rattle.scanner.specs.Fields.{none_taken, fields_found}
 use Rattle.scanner.proofs.Keeping.{Keeping, keeping_start, keeping-over, keeping-missing, keeping-last, keeping-turn}
 use Rattle.scanner.proofs.cursor.Cursor.fields.Statement.{statement}
 use Rattle.scanner.proofs.cursor.Cursor.fields.Tie as tie
@@ -16,8 +16,8 @@ decreases-loop s dividers most taken₀ left₀ taken left = left
 
 -- what is wanted is found from the first cursor on
 from_first : (c : tie.After-new invariant-loop decreases-loop) → let a = c.before.before.args in
-    fieldsFound a.dividers a.most a.s.now a.self.at ≡ fieldsFound a.dividers a.most a.s.now c.new.result.next.at
-from_first c = let a = c.before.before.args in sym (ap (λ (x : Scanned). fieldsFound a.dividers a.most a.s.now x.next.at) c.new.ensures)
+    fields_found a.dividers a.most a.s.now a.self.at ≡ fields_found a.dividers a.most a.s.now c.new.result.next.at
+from_first c = let a = c.before.before.args in sym (ap (λ (x : Scanned). fields_found a.dividers a.most a.s.now x.next.at) c.new.ensures)
 
 loop-holds : tie.Need-loop-init invariant-loop decreases-loop
 loop-holds c =
