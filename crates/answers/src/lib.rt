@@ -8,7 +8,7 @@ ghost use Rattle.answers.specs.Refusals.{at_place, is_count, held, number_of, co
 
 // Why a call was refused: the refusal's number, and its place in the text that was read (0, where it has none). Made only by the
 // constants below, given its place by `at_place`, handed on whole.
-#[derive(Drop)]
+#[derive(Clone, Copy)]
 pub struct Refusal {
     pub number: u8,
     pub place: usize,
@@ -127,14 +127,14 @@ pub fn at_place(e: Refusal, place: usize) -> Refusal
 }
 
 // A count within its bounds, or why there is none.
-#[derive(Drop)]
+#[derive(Clone, Copy)]
 pub enum Counted {
     Count(i64),
     Refused(Refusal),
 }
 
 // Whether a call goes on, or why it is refused.
-#[derive(Drop)]
+#[derive(Clone, Copy)]
 pub enum Verdict {
     Passed,
     Refused(Refusal),

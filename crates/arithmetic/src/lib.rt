@@ -17,7 +17,7 @@ use timecodes::{Admitted, Answer, Joining, Timecode};
 mod counts;
 
 // How two timecodes compare: -1, 0 or 1; or why they cannot be compared.
-#[derive(Drop)]
+#[derive(Clone, Copy)]
 pub enum Compared {
     Order(i64),
     Refused(Refusal),

@@ -18,7 +18,7 @@ mod work;
 mod write;
 
 // What is gathered of the next line, and whether more may come.
-#[derive(Drop)]
+#[derive(Clone, Copy)]
 struct Turn {
     gathered: Gathered,
     more: bool,

@@ -7,7 +7,7 @@ use crate::values::Word;
 use crate::words::Value;
 
 // The five numbers by place: `n` as it is given, where its sign counts, `up` as one from 0 on; `at`, whether it is marked.
-#[derive(Drop)]
+#[derive(Clone, Copy)]
 pub struct Numbers {
     pub up1: u64,
     pub n2: i64,
@@ -23,7 +23,7 @@ pub struct Numbers {
 }
 
 // How many numbers are listed; or something else stands there, or more than the list has room for.
-#[derive(Drop)]
+#[derive(Clone, Copy)]
 pub struct Listed {
     pub all: bool,
     pub count: usize,

@@ -8,14 +8,14 @@ use crate::values;
 use crate::values::Word;
 
 // The two numbers of a range, and the place past it; or none stands there.
-#[derive(Drop)]
+#[derive(Clone, Copy)]
 enum Range {
     Of(i64, i64, usize),
     Nothing,
 }
 
 // Whether a word of shards stands there, how many ranges were read, and the place past them.
-#[derive(Drop)]
+#[derive(Clone, Copy)]
 struct Ranged {
     well: bool,
     count: usize,

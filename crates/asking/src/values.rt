@@ -5,7 +5,7 @@ ghost use Rattle.asking.specs.Table.{word_first, is_over};
 ghost use Rattle.asking.specs.Numbers.{Held, pushed, signed_word, digits_at, signed_at, number_at};
 
 // A number and the place past it; or none stands there.
-#[derive(Drop)]
+#[derive(Clone, Copy)]
 pub enum Word {
     Number(i64, usize),
     Nothing,

@@ -8,7 +8,7 @@ use crate::values::Word;
 use crate::{rows, sharded, table, values};
 
 // A number of a command, and whether it has the mark of a position; of a film format: none is stated. Of shards: the place where they begin.
-#[derive(Drop)]
+#[derive(Clone, Copy)]
 pub struct Value {
     pub number: i64,
     pub marked: bool,
@@ -16,7 +16,7 @@ pub struct Value {
 
 // What a line asks: the row of its command, past the table where it is not understood; the command's numbers and their marks, zeros
 // behind them; and the place where a text or a list begins, else the line's end.
-#[derive(Drop)]
+#[derive(Clone, Copy)]
 pub struct Asked {
     pub row: usize,
     pub values: [Value; 5],
@@ -24,7 +24,7 @@ pub struct Asked {
 }
 
 // The place where the rest of a line begins; or something else stands there.
-#[derive(Drop)]
+#[derive(Clone, Copy)]
 enum Rest {
     At(usize),
     Other,

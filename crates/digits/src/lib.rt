@@ -9,7 +9,7 @@ ghost use Rattle.digits.specs.Digits.{is_digit, value_from, digit_first, run_of,
 mod pairs;
 
 // The digits that stand at a place: the value of at most the first nine of them, and how many there are.
-#[derive(Drop)]
+#[derive(Clone, Copy)]
 pub struct Run {
     pub value: u64,
     pub count: usize,

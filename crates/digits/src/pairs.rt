@@ -3,7 +3,7 @@
 ghost use Rattle.std.specs.Prelude.{◌≡◌, ◌+◌, ◌/◌, ◌%◌};
 
 // Two digits as bytes.
-#[derive(Drop)]
+#[derive(Clone, Copy)]
 pub(crate) struct Pair(pub u8, pub u8);
 
 // Entry n: the digits of n/10 and n mod 10. Past the table they are computed.

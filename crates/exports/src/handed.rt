@@ -15,7 +15,7 @@ use written::Written;
 
 // A count and a rate; a position, or else a length.
 #[repr(C)]
-#[derive(Drop)]
+#[derive(Clone, Copy)]
 pub struct TzqTimecode {
     pub count: i64,
     pub rate: u64,
@@ -24,7 +24,7 @@ pub struct TzqTimecode {
 
 // A count, and whether it is that of a position. Refused: count 0, no position.
 #[repr(C)]
-#[derive(Drop)]
+#[derive(Clone, Copy)]
 pub struct TzqCount {
     pub refused: u64,
     pub count: i64,
@@ -34,7 +34,7 @@ pub struct TzqCount {
 // What a text reads as: its count, a footage's film format (a label's is 0), and whether it is a position. Refused: count 0, format 0, no
 // position, and the place in the text (0 for any other number than 1 and 2).
 #[repr(C)]
-#[derive(Drop)]
+#[derive(Clone, Copy)]
 pub struct TzqRead {
     pub refused: u64,
     pub count: i64,
@@ -45,7 +45,7 @@ pub struct TzqRead {
 
 // How two timecodes compare: -1, 0 or 1. Refused: order 0.
 #[repr(C)]
-#[derive(Drop)]
+#[derive(Clone, Copy)]
 pub struct TzqOrder {
     pub refused: u64,
     pub order: i64,
@@ -53,7 +53,7 @@ pub struct TzqOrder {
 
 // Ticks. Refused: ticks 0.
 #[repr(C)]
-#[derive(Drop)]
+#[derive(Clone, Copy)]
 pub struct TzqTicks {
     pub refused: u64,
     pub ticks: i64,
@@ -61,7 +61,7 @@ pub struct TzqTicks {
 
 // Seconds as a fraction. Refused: 0/1.
 #[repr(C)]
-#[derive(Drop)]
+#[derive(Clone, Copy)]
 pub struct TzqSeconds {
     pub refused: u64,
     pub numerator: i64,
@@ -70,7 +70,7 @@ pub struct TzqSeconds {
 
 // A count at the rate where a conversion ends. Refused: both 0.
 #[repr(C)]
-#[derive(Drop)]
+#[derive(Clone, Copy)]
 pub struct TzqConverted {
     pub refused: u64,
     pub count: i64,
@@ -79,7 +79,7 @@ pub struct TzqConverted {
 
 // The fields of a label. Refused: not negative, all 0.
 #[repr(C)]
-#[derive(Drop)]
+#[derive(Clone, Copy)]
 pub struct TzqSections {
     pub refused: u64,
     pub negative: bool,
@@ -91,7 +91,7 @@ pub struct TzqSections {
 
 // The length of a text laid down. Refused: length 0.
 #[repr(C)]
-#[derive(Drop)]
+#[derive(Clone, Copy)]
 pub struct TzqLength {
     pub refused: u64,
     pub length: usize,
@@ -99,7 +99,7 @@ pub struct TzqLength {
 
 // A row of the table of rates. Refused: all 0.
 #[repr(C)]
-#[derive(Drop)]
+#[derive(Clone, Copy)]
 pub struct TzqRate {
     pub refused: u64,
     pub numerator: u64,
@@ -110,7 +110,7 @@ pub struct TzqRate {
 
 // A film format's perfs, and whether its footage may have a perf field. Refused: all 0 and false.
 #[repr(C)]
-#[derive(Drop)]
+#[derive(Clone, Copy)]
 pub struct TzqFormat {
     pub refused: u64,
     pub perfs_per_frame: u64,

@@ -14,7 +14,7 @@ use shot_lists::{Checked, Entry, Record};
 // A record: its kind (1 rate, 2 shot, 3 reel), its numbers by name (those of another kind are 0), the rate held behind it, and how many
 // bytes it has. At the list's end all 0; refused: its number, all others 0.
 #[repr(C)]
-#[derive(Drop)]
+#[derive(Clone, Copy)]
 pub struct TzqRecord {
     pub refused: u64,
     pub kind: u64,
@@ -28,7 +28,7 @@ pub struct TzqRecord {
 
 // How many records a list has. Refused: 0.
 #[repr(C)]
-#[derive(Drop)]
+#[derive(Clone, Copy)]
 pub struct TzqChecked {
     pub refused: u64,
     pub records: usize,

@@ -8,7 +8,7 @@ use router::Routed;
 
 // The first shard to ask and the one after the last, both 0 where there is none. Refused: both 0, and the place in the label.
 #[repr(C)]
-#[derive(Drop)]
+#[derive(Clone, Copy)]
 pub struct TzqShards {
     pub refused: u64,
     pub place: usize,

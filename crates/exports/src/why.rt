@@ -16,7 +16,7 @@ use timecodes::Kind;
 // What the reader answers (a number, 0: accepted; a place; a count, a footage's film format, and whether it is a position), which field is
 // at fault (0: none), its limit and its value, the first allowed label for 3, and the phrase's length. Refused: all others 0.
 #[repr(C)]
-#[derive(Drop)]
+#[derive(Clone, Copy)]
 pub struct TzqReason {
     pub refused: u64,
     pub number: u64,
@@ -36,7 +36,7 @@ pub struct TzqReason {
 }
 
 // The numbers of a fact: a field with its limit and its value, or the fields of a label; those of the other kind are 0.
-#[derive(Drop)]
+#[derive(Clone, Copy)]
 struct FactNumbers {
     field: u64,
     limit: i64,

@@ -6,7 +6,7 @@ ghost use Rattle.std.specs.Prelude.{◌≡◌, ◌-◌};
 ghost use Rattle.faults.specs.Faults.{is_none, under, exactly, sign_fault, count_fault, leftmost};
 
 // A field of a text, or the count that it comes to.
-#[derive(Drop)]
+#[derive(Clone, Copy)]
 pub enum Field {
     Count,
     Sign,
@@ -19,7 +19,7 @@ pub enum Field {
 
 // A field at fault: its value, which is not allowed, and the limit, the nearest value that is; by magnitude, with the sign of both. Of a
 // sign that must not be, both are 0.
-#[derive(Drop)]
+#[derive(Clone, Copy)]
 pub struct Fault {
     pub field: Field,
     pub minus: bool,
@@ -28,7 +28,7 @@ pub struct Fault {
 }
 
 // The fault that is found, or none.
-#[derive(Drop)]
+#[derive(Clone, Copy)]
 pub enum Found {
     NoFault,
     At(Fault),

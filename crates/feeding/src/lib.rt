@@ -10,7 +10,7 @@ ghost use Rattle.feeding.specs.Feeding.{answered, goes_on, fed_at, fed_answer, s
 use streams::Gathered;
 
 // After a chunk: what is gathered of the next line, how many bytes of the sheet are answers, how many bytes of the chunk were taken.
-#[derive(Drop)]
+#[derive(Clone, Copy)]
 pub struct Fed {
     pub gathered: Gathered,
     pub used: usize,

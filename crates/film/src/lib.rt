@@ -14,7 +14,7 @@ use answers::{Counted, Refusal};
 use faults::{Field, Found};
 
 // vtc's film formats: 4-perf, 3-perf and 2-perf on 35 mm, and 16 mm.
-#[derive(Drop)]
+#[derive(Clone, Copy)]
 pub enum FilmFormat {
     FF35mm4perf,
     FF35mm3perf,
@@ -23,14 +23,14 @@ pub enum FilmFormat {
 }
 
 // The film format of a number, or why there is none.
-#[derive(Drop)]
+#[derive(Clone, Copy)]
 pub enum Filmed {
     Format(FilmFormat),
     Refused(Refusal),
 }
 
 // What is written of a count: whole feet, frames of the foot begun, and the marker that 3-perf writes.
-#[derive(Drop)]
+#[derive(Clone, Copy)]
 pub struct Footage {
     pub feet: u64,
     pub frames: u64,

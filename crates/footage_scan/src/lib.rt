@@ -16,7 +16,7 @@ const FOOTAGE: Grammar = Grammar {
 
 // A footage's sign, its feet and frames, each below 10^9, whether a perf field stands behind them, and the value of that field, below
 // 10^9, its marker: 0 where it has none. Where it does not fit: no sign, all 0, and no perf field.
-#[derive(Drop)]
+#[derive(Clone, Copy)]
 pub struct FootageScan {
     pub fit: Fit,
     pub minus: bool,

@@ -9,7 +9,7 @@ ghost use Rattle.hex.specs.Digits.{is_from_to, hex_value, all_hex_digits, lower_
 ghost use Rattle.hex.specs.Hex.{is_hex, pair_bytes, bytes_of_hex, hexed_of, digit_pairs, hex_text};
 
 // Whether a text is HEX whose bytes have room, and how many bytes it has; 0 where it is not.
-#[derive(Drop)]
+#[derive(Clone, Copy)]
 pub struct Hexed {
     pub all: bool,
     pub count: usize,

@@ -15,7 +15,7 @@ const LABEL: Grammar = Grammar {
 };
 
 // A label's sign and its hours, minutes, seconds and frames, each below 10^9; absent ones are 0. Where it does not fit: no sign, and all 0.
-#[derive(Drop)]
+#[derive(Clone, Copy)]
 pub struct LabelScan {
     pub fit: Fit,
     pub minus: bool,

@@ -13,7 +13,7 @@ use timecodes::Timecode;
 use written::Written;
 
 // The fields of a label: minutes and seconds under 60, frames under the timebase; hours run on past 23.
-#[derive(Drop)]
+#[derive(Clone, Copy)]
 pub struct TimecodeSections {
     pub negative: bool,
     pub hours: u64,
@@ -23,7 +23,7 @@ pub struct TimecodeSections {
 }
 
 // The sections of a label, or why there are none.
-#[derive(Drop)]
+#[derive(Clone, Copy)]
 pub enum Sectioned {
     Sections(TimecodeSections),
     Refused(Refusal),

@@ -30,7 +30,7 @@ fn pour(chunk: &[u8], buffer: &mut [u8], out: &mut [u8], g: Gathered) -> Gathere
 }
 
 // A read, and whether there may be more.
-#[derive(Drop)]
+#[derive(Clone, Copy)]
 struct Turn {
     more: bool,
     gathered: Gathered,

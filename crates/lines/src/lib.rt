@@ -16,7 +16,7 @@ use timecodes::{Answer, Kind, Timecode};
 use written::Written;
 
 // The three columns of an answer: a count by sign and magnitude, the sections of a label at a rate, ticks by sign and magnitude.
-#[derive(Drop)]
+#[derive(Clone, Copy)]
 struct Columns {
     below: bool,
     count: u64,

@@ -134,7 +134,7 @@ pub fn reduced(x: i64, n: u64) -> u64
 }
 
 // A fraction, numerator over denominator.
-#[derive(Drop)]
+#[derive(Clone, Copy)]
 pub struct Ratio {
     pub num: u64,
     pub den: u64,

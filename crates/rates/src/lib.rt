@@ -8,7 +8,7 @@ ghost use Rattle.rates.specs.Day.{day_frames};
 use answers::Refusal;
 
 // A row of the table: frames a second as a fraction in lowest terms, frames a second of the labels, ticks a frame.
-#[derive(Drop)]
+#[derive(Clone, Copy)]
 pub struct Framerate {
     pub numerator: u64,
     pub denominator: u64,
@@ -20,7 +20,7 @@ pub struct Framerate {
 pub const SECOND_TICKS: u64 = 254_016_000_000;
 
 // The row of a rate, or why there is none.
-#[derive(Drop)]
+#[derive(Clone, Copy)]
 pub enum Rated {
     Row(Framerate),
     Refused(Refusal),

@@ -22,14 +22,14 @@ mod taking;
 pub use taking::{Taken, take_label, take_text};
 
 // The film format that is stated, by its number, or that none is.
-#[derive(Drop)]
+#[derive(Clone, Copy)]
 pub enum Stated {
     Nothing,
     Format(u64),
 }
 
 // What a text reads as: a label's timecode, a footage's timecode and film format, or why it is neither.
-#[derive(Drop)]
+#[derive(Clone, Copy)]
 pub enum Read {
     Label(Timecode),
     Footage(Timecode, FilmFormat),

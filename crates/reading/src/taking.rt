@@ -10,7 +10,7 @@ use scanner::Fit;
 
 // What a text was taken for: a label with its sign and fields; a footage with its sign, fields, whether it has a perf field, and its marker;
 // or why it is neither.
-#[derive(Drop)]
+#[derive(Clone, Copy)]
 pub enum Taken {
     Label {
         minus: bool,

@@ -18,7 +18,7 @@ use timecodes::Kind;
 use written::Written;
 
 // The fact behind a number: a field's limit and its value; the first allowed label of the minute; or none.
-#[derive(Drop)]
+#[derive(Clone, Copy)]
 pub enum Fact {
     Nothing,
     Limit(Fault),
@@ -26,7 +26,7 @@ pub enum Fact {
 }
 
 // What the reader answers, the fact behind it, and how many bytes its phrase has.
-#[derive(Drop)]
+#[derive(Clone, Copy)]
 pub struct Reason {
     pub read: Read,
     pub fact: Fact,
@@ -34,7 +34,7 @@ pub struct Reason {
 }
 
 // The reason, or why none could be told.
-#[derive(Drop)]
+#[derive(Clone, Copy)]
 pub enum Reasoned {
     Told(Reason),
     Refused(Refusal),

@@ -6,7 +6,7 @@ use routing::{Flaw, Loaded, Loading};
 use streams::{Gathered, Step};
 
 // The directory as far as it has come; how many lines have; whether the last of them is bad, and why; whether the file could not be read.
-#[derive(Drop)]
+#[derive(Clone, Copy)]
 pub(crate) struct Loads {
     pub(crate) state: Loading,
     pub(crate) lines: u64,
@@ -18,14 +18,14 @@ pub(crate) struct Loads {
 }
 
 // What is gathered of the next line, and what the lines before it made.
-#[derive(Drop)]
+#[derive(Clone, Copy)]
 struct Fed {
     gathered: Gathered,
     loads: Loads,
 }
 
 // And whether more may come.
-#[derive(Drop)]
+#[derive(Clone, Copy)]
 struct Turn {
     gathered: Gathered,
     loads: Loads,

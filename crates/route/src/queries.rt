@@ -7,7 +7,7 @@ use router::Directory;
 use streams::{Gathered, Step};
 
 // What is gathered of the next line, and whether more may come.
-#[derive(Drop)]
+#[derive(Clone, Copy)]
 struct Turn {
     gathered: Gathered,
     more: bool,

@@ -20,7 +20,7 @@ pub use query::{Ranged, query_range};
 pub use rules::check_directory;
 
 // The first shard to ask and the one after the last; or why there is no answer.
-#[derive(Drop)]
+#[derive(Clone, Copy)]
 pub enum Routed {
     Shards { first: usize, after: usize },
     Refused(Refusal),

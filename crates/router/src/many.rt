@@ -7,7 +7,7 @@ use crate::{Routed, found, rules};
 use answers::Verdict;
 
 // A directory with its own copy of the shards' firsts and ends, and whether it keeps its rules.
-#[derive(Drop)]
+#[derive(Clone, Copy)]
 pub struct Directory {
     verdict: Verdict,
     rate: u64,

@@ -7,7 +7,7 @@ use reading::Read;
 use timecodes::Kind;
 
 // The frames from `start` up to `end`, which is not one of them; or why there are none.
-#[derive(Drop)]
+#[derive(Clone, Copy)]
 pub enum Ranged {
     Frames { start: u64, end: u64 },
     Refused(Refusal),

@@ -5,7 +5,7 @@ ghost use Rattle.routing.specs.Entries.{is_blank, is_over, past_blanks, found_at
 use asking::Word;
 
 // What a line says: nothing, two numbers, or what is neither.
-#[derive(Drop)]
+#[derive(Clone, Copy)]
 pub enum Entry {
     Skipped,
     Numbers(u64, u64),
@@ -13,7 +13,7 @@ pub enum Entry {
 }
 
 // A number and the place past it; or none stands there.
-#[derive(Drop)]
+#[derive(Clone, Copy)]
 enum Found {
     Number(u64, usize),
     Nothing,

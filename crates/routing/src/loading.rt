@@ -6,7 +6,7 @@ use crate::entries;
 use crate::entries::Entry;
 
 // What has come: whether the rate and the reel have, and which; how many shards, and where the last of them ends.
-#[derive(Drop)]
+#[derive(Clone, Copy)]
 pub struct Loading {
     pub headed: bool,
     pub rate: u64,
@@ -16,7 +16,7 @@ pub struct Loading {
 }
 
 // What is wrong with a line.
-#[derive(Drop)]
+#[derive(Clone, Copy)]
 pub enum Flaw {
     TooLong,
     NotTwoNumbers,
@@ -29,7 +29,7 @@ pub enum Flaw {
 }
 
 // What came of a line: nothing; the rate and the reel; a shard's first frame and end; or the line is bad.
-#[derive(Drop)]
+#[derive(Clone, Copy)]
 pub enum Loaded {
     Skipped,
     Head(Loading),

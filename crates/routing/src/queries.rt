@@ -5,7 +5,7 @@ ghost use Rattle.routing.specs.Queries.{asked_at, query_of};
 use asking::Word;
 
 // A length, and the place where the label begins; or the line is no query.
-#[derive(Drop)]
+#[derive(Clone, Copy)]
 pub enum Query {
     Asked(i64, usize),
     NotUnderstood,

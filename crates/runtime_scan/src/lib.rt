@@ -16,7 +16,7 @@ const RUNTIME: Grammar = Grammar {
 
 // A runtime's sign, its hours, minutes and seconds behind a first field that is 0, each below 10^9, absent ones 0, and its millionths of a
 // second, below 10^6. Where it does not fit: no sign, and all 0.
-#[derive(Drop)]
+#[derive(Clone, Copy)]
 pub struct RuntimeScan {
     pub fit: Fit,
     pub minus: bool,

@@ -17,7 +17,7 @@ use timecodes::Timecode;
 use written::Written;
 
 // The digits of a fraction that are written: how many, and the number that they make.
-#[derive(Drop)]
+#[derive(Clone, Copy)]
 struct Tail {
     width: usize,
     value: u64,

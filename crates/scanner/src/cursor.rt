@@ -4,20 +4,20 @@ ghost use Rattle.digits.specs.Digits.{is_byte};
 ghost use Rattle.scanner.specs.Scan.{field_of, past_if, is_end, sign_of, no_tail, tail_of};
 
 // A place in a text. The text is handed to each step beside it.
-#[derive(Drop)]
+#[derive(Clone, Copy)]
 pub struct Cursor {
     pub at: usize,
 }
 
 // The cursor past the byte that was asked for. Or another byte stands there, or the text ends.
-#[derive(Drop)]
+#[derive(Clone, Copy)]
 pub enum Passed {
     Next(Cursor),
     Other,
 }
 
 // The digits that stand at a cursor: what they are read as (at most the first nine), how many they are, and the cursor past them.
-#[derive(Drop)]
+#[derive(Clone, Copy)]
 pub(crate) struct Field {
     pub(crate) value: u64,
     pub(crate) count: usize,
@@ -25,7 +25,7 @@ pub(crate) struct Field {
 }
 
 // Whether a text begins with `-`, and the cursor where it goes on.
-#[derive(Drop)]
+#[derive(Clone, Copy)]
 pub(crate) struct Sign {
     pub(crate) minus: bool,
     pub(crate) next: Cursor,
@@ -33,7 +33,7 @@ pub(crate) struct Sign {
 
 // The digits behind a `.`, none where no `.` stands; not found, where no digit stands behind it; the cursor where they begin, and the
 // one where this stopped.
-#[derive(Drop)]
+#[derive(Clone, Copy)]
 pub(crate) struct Tail {
     pub(crate) found: bool,
     pub(crate) value: u64,

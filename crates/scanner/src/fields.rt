@@ -8,7 +8,7 @@ ghost use Rattle.scanner.specs.Fields.{none_taken, with_field, field_begun, fiel
 use crate::cursor::{Cursor, Field, Passed};
 
 // The bytes that divide two fields.
-#[derive(Drop)]
+#[derive(Clone, Copy)]
 pub enum Dividers {
     Colon,
     ColonOrSemicolon,
@@ -16,7 +16,7 @@ pub enum Dividers {
 }
 
 // The first digit of the first field that is too long, or that none is.
-#[derive(Drop)]
+#[derive(Clone, Copy)]
 pub(crate) enum LongField {
     Nowhere,
     At(usize),
@@ -24,7 +24,7 @@ pub(crate) enum LongField {
 
 // The fields taken: whether one stands at the end of them (and is not missing), the first of over 9 digits, how many they are, their
 // values, right-justified in four places, and the cursor where this stopped.
-#[derive(Drop)]
+#[derive(Clone, Copy)]
 pub(crate) struct Scanned {
     pub(crate) found: bool,
     pub(crate) long: LongField,

@@ -7,7 +7,7 @@ use crate::fields::{Dividers, LongField, Scanned};
 
 // Whether a text has the shape: it fits; or it does, but a field or the tail has too many digits, the first such at this place; or it has
 // not, and the scan stopped at this place.
-#[derive(Drop)]
+#[derive(Clone, Copy)]
 pub enum Fit {
     Fits,
     TooLong(usize),
@@ -16,7 +16,7 @@ pub enum Fit {
 
 // The shape of a text: what divides its fields, how many there are at least and at most, and how many digits may stand behind a `.`
 // (0: no `.` may stand).
-#[derive(Drop)]
+#[derive(Clone, Copy)]
 pub struct Grammar {
     pub dividers: Dividers,
     pub least: usize,
@@ -26,7 +26,7 @@ pub struct Grammar {
 
 // A text's sign, its fields' values, each below 10^9 and right-justified, absent ones 0, what its tail is read as, and how many digits
 // that has. Where it does not fit: no sign, and all 0.
-#[derive(Drop)]
+#[derive(Clone, Copy)]
 pub struct TextScan {
     pub fit: Fit,
     pub minus: bool,

@@ -8,7 +8,7 @@ use crate::records::{Entry, Record};
 use answers::Refusal;
 
 // How many records a list has; or what its earliest record at fault is refused.
-#[derive(Drop)]
+#[derive(Clone, Copy)]
 pub enum Checked {
     Records(usize),
     Refused(Refusal),

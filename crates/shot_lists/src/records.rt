@@ -8,7 +8,7 @@ ghost use Rattle.shot_lists.specs.Entries.{body_fixed, ruled};
 use answers::{Refusal, Verdict};
 
 // A rate, which holds until the next one; a shot's first and end frames, the end not included; a reel.
-#[derive(Drop)]
+#[derive(Clone, Copy)]
 pub enum Record {
     Rate(u64),
     Shot { first: i64, end: i64 },
@@ -16,7 +16,7 @@ pub enum Record {
 }
 
 // A record, the rate that is held behind it, and how far it goes; or why there is none; or the list is over.
-#[derive(Drop)]
+#[derive(Clone, Copy)]
 pub enum Entry {
     Taken {
         found: Record,

@@ -17,7 +17,7 @@ use shot_lists::{Entry, Record};
 use written::Written;
 
 // How many bytes a list has on disk, or what its earliest record at fault is refused.
-#[derive(Drop)]
+#[derive(Clone, Copy)]
 enum Measured {
     Length(usize),
     Refused(Refusal),

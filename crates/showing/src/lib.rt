@@ -21,7 +21,7 @@ pub use why::show_why;
 
 // What is shown: a word (`l` label, `f` footage, `r` refused, `h` the commands in short, `?` not understood, 0 none), and behind it so many
 // numbers, two of them with a mark between them; the first with `@` before it where it is the count of a position.
-#[derive(Drop)]
+#[derive(Clone, Copy)]
 pub struct Shown {
     pub word: u8,
     pub count: u8,

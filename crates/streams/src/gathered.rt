@@ -4,14 +4,14 @@ ghost use Rattle.streams.specs.Gathering.{no_byte, taken, buffer_taken, is_empty
 ghost use Rattle.streams.specs.Turns.{gone_on};
 
 // How many bytes of the line are kept in the buffer, and whether the line has more than the buffer holds.
-#[derive(Drop)]
+#[derive(Clone, Copy)]
 pub struct Gathered {
     pub len: usize,
     pub over: bool,
 }
 
 // What is gathered, the place past the last byte that was taken, and whether the line has ended there.
-#[derive(Drop)]
+#[derive(Clone, Copy)]
 pub struct Step {
     pub gathered: Gathered,
     pub next: usize,

@@ -5,7 +5,7 @@ ghost use Rattle.streams.specs.Pieces.{all_on};
 ghost use Rattle.telling.specs.Joined.{word_pieces, joined_in};
 
 // How many bytes of the buffer are used, and whether all words had room, a space behind each.
-#[derive(Drop)]
+#[derive(Clone, Copy)]
 pub struct Words {
     pub used: usize,
     pub whole: bool,

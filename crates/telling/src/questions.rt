@@ -6,7 +6,7 @@ use crate::Way;
 use digits::Run;
 
 // The options that stand in front, and the place past them.
-#[derive(Drop)]
+#[derive(Clone, Copy)]
 struct Options {
     position: bool,
     formatted: bool,
@@ -15,7 +15,7 @@ struct Options {
 }
 
 // How a text is to be read, and the place where it begins; or no text stands there; or the line is no question.
-#[derive(Drop)]
+#[derive(Clone, Copy)]
 pub enum Question {
     Asked(Way, usize),
     NoText(Way),

@@ -12,7 +12,7 @@ use reasons::{Fact, Reasoned};
 use timecodes::Kind;
 
 // How a text is read: as a position or a length, with a film format stated or none, at a rate.
-#[derive(Drop)]
+#[derive(Clone, Copy)]
 pub struct Way {
     pub position: bool,
     pub formatted: bool,

@@ -13,14 +13,14 @@ use answers::{Refusal, Verdict};
 use timecodes::{Answer, Kind, Timecode};
 
 // The ticks of a timecode, or why there are none.
-#[derive(Drop)]
+#[derive(Clone, Copy)]
 pub enum Ticked {
     Ticks(i64),
     Refused(Refusal),
 }
 
 // The seconds of a timecode, p/q, or why there are none.
-#[derive(Drop)]
+#[derive(Clone, Copy)]
 pub enum Timed {
     Seconds { p: i64, q: u64 },
     Refused(Refusal),

@@ -3,14 +3,14 @@ ghost use Rattle.std.specs.Prelude.{◌≡◌};
 ghost use Rattle.timecodes.specs.Kinds.{kind_from, is_position, mixed_kinds};
 
 // A length, or a position: a time of day.
-#[derive(Drop)]
+#[derive(Clone, Copy)]
 pub enum Kind {
     Length,
     Position,
 }
 
 // What is done with two timecodes.
-#[derive(Drop)]
+#[derive(Clone, Copy)]
 pub enum Joining {
     Sum,
     Difference,
@@ -18,7 +18,7 @@ pub enum Joining {
 }
 
 // The kind of what two timecodes come to, or that these two are never mixed.
-#[derive(Drop)]
+#[derive(Clone, Copy)]
 pub enum Mixed {
     Of(Kind),
     Never,

@@ -20,7 +20,7 @@ pub use kinds::{Joining, Kind};
 
 // A count at a rate, a length or a position. What takes one refuses a rate outside 1 to 12 (6), then a count outside its bounds (5): a
 // length's are -400,000,000 to 400,000,000, a position's are 0 up to the rate's day, which is not included.
-#[derive(Drop)]
+#[derive(Clone, Copy)]
 pub struct Timecode {
     pub count: i64,
     pub rate: u64,
@@ -28,14 +28,14 @@ pub struct Timecode {
 }
 
 // A timecode, or why there is none.
-#[derive(Drop)]
+#[derive(Clone, Copy)]
 pub enum Answer {
     At(Timecode),
     Refused(Refusal),
 }
 
 // The kind of what two timecodes come to, or why they are not taken.
-#[derive(Drop)]
+#[derive(Clone, Copy)]
 pub enum Admitted {
     As(Kind),
     Refused(Refusal),

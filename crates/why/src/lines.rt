@@ -7,7 +7,7 @@ use streams::{Gathered, Step};
 use telling::Way;
 
 // What is gathered of the next line, and whether more may come.
-#[derive(Drop)]
+#[derive(Clone, Copy)]
 struct Turn {
     gathered: Gathered,
     more: bool,

@@ -12,7 +12,7 @@ ghost use Rattle.written.specs.Clock.{clock_text};
 use answers::Refusal;
 
 // The length of the text that was laid down, or why there is none; then no byte of the line has changed.
-#[derive(Drop)]
+#[derive(Clone, Copy)]
 pub enum Written {
     Length(usize),
     Refused(Refusal),
