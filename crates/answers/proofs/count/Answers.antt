@@ -9,9 +9,9 @@ use Rattle.answers.proofs.count.Goals as goal
 
 pub returns-in-Count : goal.returns-in-Count
 returns-in-Count c =
-    let back : to_z w64 (of_z w64 c.a-1.given.0.0) ≡ c.a-1.given.0.0 = search rules in
-    back ∙ sym (ap count_of c.a-1.given.1)
+    let back : to_z w64 (of_z w64 c.in-Count.z) ≡ c.in-Count.z = search rules in
+    back ∙ sym (ap count_of c.in-Count.is)
 
 pub returns-in-Refused : goal.returns-in-Refused
 returns-in-Refused c =
-    sym (ap count_of c.enum_told-1.given.1)
+    sym (ap count_of c.in-Refused.is)
