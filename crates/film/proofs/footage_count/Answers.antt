@@ -9,7 +9,8 @@ use Rattle.numbers.specs.Sign.{signed}
 use Rattle.answers.specs.Refusals.{most_count, beyond, held}
 use Rattle.answers.specs.Laws.{held-past}
 use Rattle.film.specs.declared.FilmFormat.{FilmFormat}
-use Rattle.film.specs.Footage.{footage_count, footage_or}
+use Rattle.film.specs.Footage.{footage_count, footage_or, footage_or-in, footage_or-feet, footage_or-frames}
+use Rattle.film.specs.FootageLaws.{count-ge}
 use Rattle.film.proofs.footage_count.Goals as goal
 
 -- what is answered is held as the count is
@@ -21,6 +22,12 @@ held_same format minus feet frames = by (dec_lt feet beyond) (dec_lt frames beyo
     past : footage_or format feet frames ≡ beyond → most_count < footage_count format feet frames
         → held (signed minus (footage_or format feet frames)) ≡ held (signed minus (footage_count format feet frames))
     past e h = ap (λ (m : ℕ). held (signed minus m)) e ∙ held-past minus beyond (omega arith) ∙ sym (held-past minus _ h)
+
+    by : Dec (feet < beyond) → Dec (frames < beyond)
+        → held (signed minus (footage_or format feet frames)) ≡ held (signed minus (footage_count format feet frames))
+    by (yes h) (yes k) = ap (λ (m : ℕ). held (signed minus m)) (footage_or-in format feet frames h k)
+    by (yes h) (no k) = past (footage_or-frames format feet frames h (omega arith)) (omega (arith, count-ge format feet frames))
+    by (no h) k = past (footage_or-feet format feet frames (omega arith)) (omega (arith, count-ge format feet frames))
 
 pub returns : goal.returns
 returns c =

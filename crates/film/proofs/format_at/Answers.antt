@@ -24,4 +24,4 @@ returns-in-4 c =
 
 pub returns-in_default : goal.returns-in_default
 returns-in_default c =
-    sym (format_at-out _ (none_of_four _ c.in_default.rest.0.0.0.1 c.in_default.rest.0.0.1 c.in_default.rest.0.1 c.in_default.rest.1))
+    sym (format_at-out _ (none_of_four _ c.in_default.in_default-own.rest.0.0.0.1 c.in_default.in_default-own.rest.0.0.1 c.in_default.in_default-own.rest.0.1 c.in_default.in_default-own.rest.1))
