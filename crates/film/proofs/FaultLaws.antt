@@ -1,4 +1,5 @@
 -- What is told of the leftmost fault of a footage (BEHAVIOUR: Why): there is none just where it can be on the film.
+-- Assumes nothing.
 use Rattle.std.specs.Prelude.{ℕ, ◌%◌, ◌≡◌, refl, Bool, true, false, not, ◌&&◌, ◌||◌, eqb}
 use Rattle.std.proofs.Common.{ap₂, ◌∙◌}
 use Rattle.faults.specs.declared.Field.TheVariants.{Frames, Marker}

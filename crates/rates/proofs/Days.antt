@@ -1,4 +1,5 @@
 -- How many frames a day has (BEHAVIOUR: Positions): none at a number that is no rate, and else from 1 on.
+-- Assumes nothing.
 use Rattle.std.specs.Prelude.{ℕ, ◌≤◌, ◌<◌, ◌≡◌, refl, Bool, true, false}
 use Rattle.std.proofs.Common.{arith, ap}
 use Rattle.rates.specs.declared.Framerate.{Framerate}

@@ -1,4 +1,5 @@
 -- The rule of the table's rows at every rate (BEHAVIOUR: Rates): tested once over the whole table.
+-- Assumes nothing.
 use Rattle.std.specs.Prelude.{ℕ, zero, suc, ◌*◌, ◌≤◌, ◌<◌, ◌≡◌, refl, Bool, true, List, [], ◌∷◌, leb, ltb, eqb, get_or, false}
 use Rattle.std.proofs.Common.{mul-le-mul, arith, leb-true, ltb-true, eqb-true, ap}
 use Rattle.rates.specs.declared.Framerate.{Framerate}
