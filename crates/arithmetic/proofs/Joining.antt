@@ -16,7 +16,7 @@ use Rattle.answers.specs.Order.{unless, Clear}
 use Rattle.answers.specs.OrderLaws.{unless-clear, not_in}
 use Rattle.answers.specs.Refusals.{bad_count, held}
 use Rattle.rates.specs.Rates.{is_rate, frame_ticks, bad_rate}
-use Rattle.rates.specs.Rule.{frame_ticks-pos}
+use Rattle.rates.proofs.Sound.{frame_ticks-pos}
 use Rattle.timecodes.specs.declared.Timecode.{Timecode}
 use Rattle.timecodes.specs.declared.Answer.TheVariants.{At, Refused}
 use Rattle.timecodes.specs.declared.kinds.Kind.{Kind}

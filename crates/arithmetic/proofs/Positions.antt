@@ -19,7 +19,8 @@ use Rattle.answers.specs.OrderLaws.{unless-told, not_in, in-not}
 use Rattle.answers.specs.Laws.{held_in}
 use Rattle.answers.specs.Refusals.{most_count, is_count, held}
 use Rattle.rates.specs.Rates.{is_rate, bad_rate}
-use Rattle.rates.specs.Day.{day_frames, day-pos, day-le}
+use Rattle.rates.specs.Day.{day_frames}
+use Rattle.rates.proofs.Days.{day-pos, day-le}
 use Rattle.timecodes.specs.declared.Timecode.{Timecode}
 use Rattle.timecodes.specs.declared.Answer.TheVariants.{At, Refused}
 use Rattle.timecodes.specs.declared.kinds.Kind.{Kind}

@@ -15,7 +15,7 @@ use Rattle.numbers.proofs.Statements.{nearest_is}
 use Rattle.answers.specs.OrderLaws.{in-not, not_in}
 use Rattle.answers.specs.Refusals.{is_count}
 use Rattle.rates.specs.Rates.{rates, is_rate, rate_row, frame_ticks, bad_rate}
-use Rattle.rates.specs.Rule.{frame_ticks-pos}
+use Rattle.rates.proofs.Sound.{frame_ticks-pos}
 use Rattle.timecodes.specs.declared.Timecode.{Timecode}
 use Rattle.timecodes.specs.declared.Answer.TheVariants.{At, Refused}
 use Rattle.timecodes.specs.declared.kinds.Kind.TheVariants.{Length}

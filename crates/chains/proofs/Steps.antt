@@ -14,7 +14,7 @@ use Rattle.numbers.specs.DistanceLaws.{far-self, triangle}
 use Rattle.numbers.specs.NearestSignedLaws.{half_step, monotone}
 use Rattle.answers.specs.Refusals.{is_count}
 use Rattle.rates.specs.Rates.{is_rate, frame_ticks}
-use Rattle.rates.specs.Rule.{frame_ticks-pos}
+use Rattle.rates.proofs.Sound.{frame_ticks-pos}
 use Rattle.timecodes.specs.declared.Timecode.{Timecode}
 use Rattle.timecodes.specs.declared.kinds.Kind.TheVariants.{Length}
 use Rattle.timecodes.specs.Admitted.{Valid}

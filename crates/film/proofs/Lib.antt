@@ -1,3 +1,4 @@
+pub mod FaultLaws
 pub mod Next
 pub mod OnFilm
 pub mod Statements

@@ -4,5 +4,4 @@ pub mod OnFilm
 pub mod Faults
 pub mod FormatLaws
 pub mod FootageLaws
-pub mod FaultLaws
 pub mod Statements

@@ -9,8 +9,7 @@ use lib.IntN.{ℤ, nat_abs}
 use lib.ListN.{length, length-append}
 use Rattle.numbers.specs.Sign.{is_neg}
 use Rattle.rates.specs.Rates.{is_rate, rate_row, drop_frames}
-use Rattle.rates.specs.Rule.{sound}
-use Rattle.rates.specs.Laws.{drop-small}
+use Rattle.rates.proofs.Sound.{sound, drop-small}
 use Rattle.timecodes.specs.declared.Timecode.{Timecode}
 use Rattle.timecodes.specs.Admitted.{Valid}
 use Rattle.timecodes.specs.AdmittedLaws.{valid-admits, valid-count-le}

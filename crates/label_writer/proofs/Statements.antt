@@ -13,7 +13,7 @@ use Rattle.laws.specs.Every.{every, every_append}
 use Rattle.numbers.specs.Sign.{is_neg}
 use Rattle.answers.specs.Refusals.{most_count, is_count}
 use Rattle.rates.specs.Rates.{is_rate, rate_row, is_drop, drop_frames}
-use Rattle.rates.specs.Rule.{sound}
+use Rattle.rates.proofs.Sound.{sound}
 use Rattle.rates.specs.Laws.{drop_le}
 use Rattle.timecodes.specs.AdmittedLaws.{valid-count}
 use Rattle.labels.specs.Label.{hours_in, minutes_in, seconds_in, frames_in}

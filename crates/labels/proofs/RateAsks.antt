@@ -5,8 +5,7 @@ use mathlib.Core.Bool.{true}
 use Prim.Native.Nat.{ℕ, ◌≤◌, ◌<◌}
 use Rattle.rates.specs.declared.Framerate.{Framerate}
 use Rattle.rates.specs.Rates.{is_rate, rate_row, drop_frames}
-use Rattle.rates.specs.Rule.{sound}
-use Rattle.rates.specs.Laws.{drop-small}
+use Rattle.rates.proofs.Sound.{sound, drop-small}
 
 pub rate-asks :
     (rate : ℕ) (row : Framerate) (d : ℕ) → is_rate rate ≡ true → row ≡ rate_row rate → d ≡ drop_frames rate

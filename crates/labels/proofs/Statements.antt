@@ -11,7 +11,7 @@ use lib.Arith.{digits_lt}
 use Rattle.tally.specs.Before.{before}
 use Rattle.tally.specs.BeforeLaws.{which, never-fewer, fewer-before, one_each}
 use Rattle.rates.specs.Rates.{is_rate, rate_row, drop_frames}
-use Rattle.rates.specs.Laws.{drop-small}
+use Rattle.rates.proofs.Sound.{drop-small}
 use Rattle.rates.specs.Day.{day_count, day_frames}
 use Rattle.labels.specs.Label.{hours_in, minutes_in, seconds_in, frames_in, LabelOf}
 use Rattle.labels.specs.LabelLaws.{kept-tenth, kept_second, kept-past, count-by-minutes}

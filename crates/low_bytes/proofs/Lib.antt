@@ -1,3 +1,4 @@
+pub mod Worth
 pub mod Summing
 pub mod Laying
 pub mod Statements

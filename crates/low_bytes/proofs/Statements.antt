@@ -5,7 +5,8 @@ use mathlib.Core.Path.{◌≡◌, sym, ap, ◌∙◌, subst}
 use mathlib.Core.List.{List}
 use lib.ListN.{length}
 use Rattle.low_bytes.specs.LowBytes.{Bytes, worth, signed_of, Within, low_bytes, twos_of}
-use Rattle.low_bytes.specs.Laws.{worth-below, low-length, low-bytes, worth-low, low-worth, twos-below, signed-twos, twos-signed, signed-within}
+use Rattle.low_bytes.specs.Laws.{low-length, low-bytes, twos-below, signed-twos, twos-signed, signed-within}
+use Rattle.low_bytes.proofs.Worth.{worth-below, worth-low, low-worth}
 use Rattle.low_bytes.specs.Statements.{UnsignedIs, UnsignedOne, SignedIs, SignedOne}
 
 pub unsigned_is : UnsignedIs

@@ -7,7 +7,8 @@ use native.Mathlib.Omega.{arith}
 use lib.ListN.{length, take, drop, get_or, length-take, length-drop, drop_of_length-le}
 use lib.Seq.{drop-cons, get_or-take, get_or-drop}
 use Rattle.low_bytes.specs.LowBytes.{Bytes, worth}
-use Rattle.low_bytes.specs.Laws.{bytes_drop, bytes_take, worth-fits}
+use Rattle.low_bytes.specs.Laws.{bytes_drop, bytes_take}
+use Rattle.low_bytes.proofs.Worth.{worth-fits}
 
 -- the bytes that are summed
 abbrev pub bytes_at : (s : List ℕ) (at width : ℕ) → List ℕ

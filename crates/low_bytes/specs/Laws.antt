@@ -1,12 +1,11 @@
--- Laws of numbers as bytes, over every width (BEHAVIOUR: Shot lists): what bytes are worth, and both ways across.
+-- Laws of numbers as bytes, over every width (BEHAVIOUR: Shot lists). What bytes are worth: proofs/Worth.antt.
 -- Assumes nothing.
 use Rattle.std.specs.Prelude.{ℕ, zero, suc, ◌+◌, ◌-◌, ◌*◌, ◌/◌, ◌%◌, ◌^◌, ◌≤◌, ◌<◌, ◌≡◌, List, [], ◌∷◌, Bool, cond, ltb, length, take, drop, ℤ, pos, negsuc, neg_ℤ, nat_abs}
 use Rattle.std.proofs.Math.Path.{refl, ap}
-use Rattle.std.proofs.Common.{ap₂, ◌∙◌, arith, pow-suc, lt-ltb, le-ltb, ltb-true, ltb-false, get_or-drop}
+use Rattle.std.proofs.Common.{◌∙◌, arith, lt-ltb, le-ltb, ltb-true, ltb-false, get_or-drop}
 use Rattle.std.proofs.Math.Bool.{true, false}
-use Rattle.std.proofs.Math.Nat.{pow-le-pow_right}
 use Rattle.numbers.specs.Sign.{is_neg}
-use Rattle.low_bytes.specs.LowBytes.{Bytes, worth, signed_of, Within, low_bytes, twos_of}
+use Rattle.low_bytes.specs.LowBytes.{Bytes, signed_of, Within, low_bytes, twos_of}
 
 -- ---- bytes
 
@@ -29,21 +28,7 @@ bytes_take zero l h = bytes-nil
 bytes_take (suc n) [] h = bytes-nil
 bytes_take (suc n) (b ∷ l) h = bytes-cons b (take n l) (h 0) (bytes_take n l (bytes-tail b l h))
 
--- ---- what they are worth
-
-pub worth-below : (l : List ℕ) → Bytes l → worth l < 256 ^ length l
-unfolding worth
-worth-below [] h = omega arith
-worth-below (b ∷ l) h =
-    let later = worth-below l (bytes-tail b l h) in
-    let first : b < 256 = h 0 in
-    omega (arith, pow-suc 256 (length l))
-
--- eight bytes fit a word of the machine
-pub worth-fits : (l : List ℕ) → Bytes l → length l ≤ 8 → worth l < 18446744073709551616
-worth-fits l h k =
-    let most : 256 ^ length l ≤ 18446744073709551616 = pow-le-pow_right {n = 256} (omega arith) k in
-    omega (arith, worth-below l h)
+-- ---- the bytes of a number
 
 pub low-length : (w n : ℕ) → length (low_bytes w n) ≡ w
 unfolding low_bytes
@@ -54,22 +39,6 @@ pub low-bytes : (w n : ℕ) → Bytes (low_bytes w n)
 unfolding low_bytes
 low-bytes zero n = bytes-nil
 low-bytes (suc w) n = bytes-cons (n % 256) (low_bytes w (n / 256)) (omega arith) (low-bytes w (n / 256))
-
-pub worth-low : (w n : ℕ) → n < 256 ^ w → worth (low_bytes w n) ≡ n
-unfolding worth low_bytes
-worth-low zero n h = omega arith
-worth-low (suc w) n h =
-    let later = worth-low w (n / 256) (omega (arith, pow-suc 256 w)) in
-    omega arith
-
-pub low-worth : (l : List ℕ) → Bytes l → low_bytes (length l) (worth l) ≡ l
-unfolding worth low_bytes
-low-worth [] h = refl
-low-worth (b ∷ l) h =
-    let first : b < 256 = h 0 in
-    let low : (b + 256 * worth l) % 256 ≡ b = omega arith in
-    let high : (b + 256 * worth l) / 256 ≡ worth l = omega arith in
-    ap₂ ◌∷◌ low (ap (low_bytes (length l)) high ∙ low-worth l (bytes-tail b l h))
 
 -- ---- signed
 

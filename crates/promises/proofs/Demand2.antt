@@ -12,9 +12,9 @@ use lib.ListN.{length}
 use Rattle.lent.specs.Line.{splice}
 use Rattle.answers.specs.Refusals.{dropped_label, most_count, is_count}
 use Rattle.rates.specs.Rates.{rates, is_rate, rate_row, drop_frames, is_drop}
-use Rattle.rates.specs.Rule.{sound}
-use Rattle.rates.specs.Laws.{drop-small}
-use Rattle.rates.specs.Day.{day_frames, day-le}
+use Rattle.rates.proofs.Sound.{sound, drop-small}
+use Rattle.rates.specs.Day.{day_frames}
+use Rattle.rates.proofs.Days.{day-le}
 use Rattle.labels.specs.Label.{count_in, dropped_in}
 use Rattle.labels.specs.Sections.{label_number, sections_of}
 use Rattle.labels.specs.StrictLaws.{is_strict-in}

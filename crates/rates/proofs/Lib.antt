@@ -1,2 +1,4 @@
+pub mod Days
+pub mod Sound
 pub mod Statements
 pub mod Determined

@@ -4,7 +4,7 @@ use mathlib.Core.Path.{refl}
 use borrow.Author.Tests.{ne_eqb}
 use Rattle.rates.specs.Rates.{rates, rate_row, drop_frames}
 use Rattle.rates.specs.Day.{day_frames}
-use Rattle.rates.specs.Rule.{sound}
+use Rattle.rates.proofs.Sound.{sound}
 use Rattle.rates.specs.Statements.{TicksConsistent, DropsAt, DayAt}
 
 pub ticks_consistent : TicksConsistent

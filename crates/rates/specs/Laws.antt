@@ -1,13 +1,12 @@
 -- Laws of the rate numbers that callers cite (BEHAVIOUR: Rates): the answer for each number, and the labels that a minute drops.
 -- Assumes nothing.
-use Rattle.std.specs.Prelude.{ℕ, zero, suc, ◌-◌, ◌≤◌, ◌<◌, ◌≡◌, refl, Bool, true, false, not, cond, ◌||◌, ◌&&◌, T, eqb, ltb, leb, get_or}
+use Rattle.std.specs.Prelude.{ℕ, zero, suc, ◌-◌, ◌≤◌, ◌≡◌, refl, Bool, true, false, not, cond, ◌||◌, ◌&&◌, T, eqb, ltb, leb, get_or}
 use Rattle.std.proofs.Common.{arith, ap, subst, leb-false}
 use Rattle.std.proofs.Math.ListN.{get_or-eq_default}
 use Rattle.answers.specs.Refusals.{no_such}
-use Rattle.rates.specs.declared.Framerate.{Framerate}
 use Rattle.rates.specs.declared.Rated.TheVariants.{Row, Refused}
-use Rattle.rates.specs.Rates.{rates, is_rate, no_row, rate_row, frame_ticks, rate_at, drop_frames, is_drop}
-use Rattle.rates.specs.Rule.{sound, in_table, rows-twelve}
+use Rattle.rates.specs.Rates.{rates, is_rate, no_row, rate_row, rate_at, drop_frames, is_drop}
+use Rattle.rates.specs.Rule.{in_table, rows-twelve}
 
 -- ---- the row of a number
 
@@ -50,10 +49,6 @@ drop_le n = go (eqb n 5) (eqb n 11)
     go false true = omega arith
     go false false = omega arith
 
--- and below the timebase, at any rate
-pub drop-small : (n : ℕ) → is_rate n ≡ true → drop_frames n < (rate_row n).timebase
-drop-small n h = let s = sound n h in omega (arith, drop_le n)
-
 -- the drop rates are those at which D is above 0
 pub drop-above : (n : ℕ) → is_drop n ≡ ltb 0 (drop_frames n)
 unfolding is_drop drop_frames
@@ -63,11 +58,3 @@ drop-above n = go (eqb n 5) (eqb n 11)
     go true t = refl
     go false true = refl
     go false false = refl
-
--- no frame lasts longer than that of 23.98, at any number
-pub frame_ticks-le : (n : ℕ) → frame_ticks n ≤ 10594584000
-frame_ticks-le n = go (is_rate n) refl
-  where
-    go : (t : Bool) → is_rate n ≡ t → frame_ticks n ≤ 10594584000
-    go true e = (sound n e).ticks_most
-    go false e = omega (arith, ap (λ (r : Framerate). r.ticks) (row_out n e))

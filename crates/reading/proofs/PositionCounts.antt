@@ -9,7 +9,8 @@ use borrow.Author.Tests.{le-leb}
 use lib.IntN.{ℤ, pos, nat_abs}
 use Rattle.answers.specs.Refusals.{most_count, is_count}
 use Rattle.rates.specs.Rates.{is_rate, rate_row, drop_frames}
-use Rattle.rates.specs.Day.{day_frames, day-le}
+use Rattle.rates.specs.Day.{day_frames}
+use Rattle.rates.proofs.Days.{day-le}
 use Rattle.timecodes.specs.declared.Timecode.{Timecode}
 use Rattle.timecodes.specs.declared.kinds.Kind.{Kind}
 use Rattle.timecodes.specs.declared.kinds.Kind.TheVariants.{Length, Position}

@@ -8,7 +8,7 @@ use mathlib.Core.List.{List}
 use lib.Dec.{T}
 use mathlib.Core.Path.{subst}
 use Rattle.rates.specs.Rates.{is_rate, rate_row, drop_frames}
-use Rattle.rates.specs.Laws.{drop-small}
+use Rattle.rates.proofs.Sound.{drop-small}
 use Rattle.labels.specs.Label.{minutes_in, seconds_in, frames_in, dropped_in}
 use Rattle.labels.specs.LabelLaws.{kept-tenth, kept_frame, kept-past}
 use Rattle.labels.specs.Sections.{label_number}

@@ -14,7 +14,7 @@ use Rattle.faults.specs.declared.Found.{Found}
 use Rattle.faults.specs.declared.Found.TheVariants.{NoFault, At}
 use Rattle.faults.specs.Faults.{fault, under, exactly, sign_fault, count_fault, leftmost}
 use Rattle.rates.specs.Rates.{is_rate, rate_row, drop_frames}
-use Rattle.rates.specs.Rule.{sound}
+use Rattle.rates.proofs.Sound.{sound}
 use Rattle.film.specs.declared.FilmFormat.{FilmFormat}
 use Rattle.film.specs.declared.FilmFormat.TheVariants.{FF35mm4perf, FF35mm3perf, FF35mm2perf, FF16mm}
 use Rattle.film.specs.OnFilm.{leaves_two, frames_in_foot}

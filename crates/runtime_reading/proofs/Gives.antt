@@ -11,7 +11,7 @@ use Rattle.numbers.specs.Nearest.{nearest_z}
 use Rattle.numbers.proofs.Statements.{nearest_is, nearest_one}
 use Rattle.answers.specs.Refusals.{no_shape, too_long, held}
 use Rattle.rates.specs.Rates.{is_rate, rate_row}
-use Rattle.rates.specs.Rule.{sound}
+use Rattle.rates.proofs.Sound.{sound}
 use Rattle.timecodes.specs.declared.Answer.TheVariants.{Refused}
 use Rattle.timecodes.specs.Timecode.{placed}
 use Rattle.scanner.specs.Shapes.{TextParts}

@@ -14,7 +14,7 @@ use Rattle.answers.specs.declared.Counted.TheVariants as counted
 use Rattle.answers.specs.Refusals.{no_such, out_of_bounds, most_count, held}
 use Rattle.answers.specs.Laws.{held_out}
 use Rattle.rates.specs.Rates.{is_rate, rate_row}
-use Rattle.rates.specs.Rule.{sound}
+use Rattle.rates.proofs.Sound.{sound}
 use Rattle.timecodes.specs.declared.Answer.TheVariants.{Refused}
 use Rattle.timecodes.specs.Timecode.{placed}
 use Rattle.timecodes.specs.AdmittedLaws.{placed-held}

@@ -11,7 +11,7 @@ use Rattle.numbers.specs.Sign.{is_neg}
 use Rattle.numbers.proofs.Statements.{nearest_is}
 use Rattle.answers.specs.Refusals.{most_count}
 use Rattle.rates.specs.Rates.{rate_row}
-use Rattle.rates.specs.Rule.{sound}
+use Rattle.rates.proofs.Sound.{sound}
 use Rattle.digits.specs.Digits.{value_of, decimal}
 use Rattle.digits.proofs.Width.{decimal_back}
 use Rattle.digits.proofs.Statements.{decimal_padded}

@@ -16,7 +16,7 @@ use Rattle.answers.specs.OrderLaws.{not_in}
 use Rattle.answers.specs.Refusals.{is_count}
 use Rattle.rates.specs.Rates.{is_rate}
 use Rattle.low_bytes.specs.LowBytes.{worth}
-use Rattle.low_bytes.specs.Laws.{worth-below}
+use Rattle.low_bytes.proofs.Worth.{worth-below}
 use Rattle.shot_lists.specs.declared.records.Record.{Record}
 use Rattle.shot_lists.specs.declared.records.Record.TheVariants.{Rate, Shot, Reel}
 use Rattle.shot_lists.specs.declared.records.Entry.TheVariants.{Taken}

@@ -11,7 +11,7 @@ use Rattle.numbers.specs.Lowest.{Lowest}
 use Rattle.numbers.specs.LowestLaws.{lowest-le}
 use Rattle.numbers.specs.MultipleLaws.{mul-twice, mul-cancel}
 use Rattle.rates.specs.Rates.{rate_row, frame_ticks, second_ticks}
-use Rattle.rates.specs.Rule.{sound}
+use Rattle.rates.proofs.Sound.{sound}
 use Rattle.timecodes.specs.declared.Timecode.{Timecode}
 use Rattle.timecodes.specs.Admitted.{Valid}
 use Rattle.timecodes.specs.AdmittedLaws.{valid-count-le}

@@ -13,7 +13,7 @@ use Rattle.answers.specs.Order.{Clear}
 use Rattle.answers.specs.OrderLaws.{unless-told, unless-clear, not_in, in-not}
 use Rattle.answers.specs.Refusals.{is_count}
 use Rattle.rates.specs.Rates.{rate_row, frame_ticks}
-use Rattle.rates.specs.Rule.{sound, frame_ticks-pos}
+use Rattle.rates.proofs.Sound.{sound, frame_ticks-pos}
 use Rattle.timecodes.specs.declared.Timecode.{Timecode}
 use Rattle.timecodes.specs.declared.Answer.TheVariants.{At, Refused}
 use Rattle.timecodes.specs.Timecode.{timecode}

@@ -10,7 +10,8 @@ use Rattle.answers.specs.declared.Verdict.TheVariants as verdict
 use Rattle.answers.specs.Order.{Condition, unless, judged, Clear}
 use Rattle.answers.specs.OrderLaws.{judged-refused, judged-clear, unless-map, unless-append, unless-clear, unless-told, not_in, not-out, in-not}
 use Rattle.answers.specs.Refusals.{most_count, is_count, bad_count, held}
-use Rattle.rates.specs.Day.{day_frames, day-le}
+use Rattle.rates.specs.Day.{day_frames}
+use Rattle.rates.proofs.Days.{day-le}
 use Rattle.timecodes.specs.declared.Timecode.{Timecode}
 use Rattle.timecodes.specs.declared.Answer.{Answer}
 use Rattle.timecodes.specs.declared.Answer.TheVariants.{At, Refused}

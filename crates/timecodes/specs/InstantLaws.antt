@@ -5,7 +5,7 @@ use Rattle.std.proofs.Common.{arith}
 use Rattle.numbers.specs.DistanceLaws.{abs-product}
 use Rattle.numbers.specs.Total.{fitted-in}
 use Rattle.rates.specs.Rates.{frame_ticks}
-use Rattle.rates.specs.Rule.{instant-le}
+use Rattle.rates.proofs.Sound.{instant-le}
 use Rattle.timecodes.specs.declared.Timecode.{Timecode}
 use Rattle.timecodes.specs.Admitted.{Valid}
 use Rattle.timecodes.specs.AdmittedLaws.{valid-count-le}

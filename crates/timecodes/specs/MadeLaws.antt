@@ -11,7 +11,8 @@ use Rattle.answers.specs.Order.{Condition, unless}
 use Rattle.answers.specs.OrderLaws.{unless-map}
 use Rattle.answers.specs.Refusals.{is_count, bad_count, held}
 use Rattle.rates.specs.Rates.{is_rate}
-use Rattle.rates.specs.Day.{day_frames, day-pos}
+use Rattle.rates.specs.Day.{day_frames}
+use Rattle.rates.proofs.Days.{day-pos}
 use Rattle.timecodes.specs.declared.Answer.TheVariants.{At, Refused}
 use Rattle.timecodes.specs.declared.kinds.Kind.{Kind}
 use Rattle.timecodes.specs.declared.kinds.Kind.TheVariants.{Length, Position}

@@ -2,7 +2,7 @@
 -- Assumes nothing.
 use mathlib.Core.Path.{ap, ◌∙◌}
 use Rattle.faults.specs.Faults.{is_none}
-use Rattle.film.specs.FaultLaws.{film_fault-none}
+use Rattle.film.proofs.FaultLaws.{film_fault-none}
 use Rattle.film.proofs.on_film.Goals as goal
 
 pub returns : goal.returns

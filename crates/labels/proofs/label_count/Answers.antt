@@ -11,7 +11,7 @@ use Rattle.numbers.proofs.Tests.{fails, passes}
 use Rattle.answers.specs.Refusals.{beyond, held}
 use Rattle.answers.specs.Laws.{held-past}
 use Rattle.rates.specs.Rates.{is_rate, rate_row, drop_frames}
-use Rattle.rates.specs.Laws.{drop-small}
+use Rattle.rates.proofs.Sound.{drop-small}
 use Rattle.labels.specs.Label.{count_in, is_short}
 use Rattle.labels.specs.BoundLaws.{is_short-out}
 use Rattle.labels.specs.AtRate.{label_frames, frames_or, frames_or-in, frames_or-long, label_counted-in, label_counted-out}

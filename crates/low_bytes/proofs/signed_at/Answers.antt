@@ -9,7 +9,8 @@ use lib.ListN.{length, take, drop, length-take}
 use mir.Facts.{to_z-of_z}
 use Rattle.numbers.specs.Total.{fitted-in}
 use Rattle.low_bytes.specs.LowBytes.{signed_of}
-use Rattle.low_bytes.specs.Laws.{bytes_take, bytes_drop, worth-below, signed_low, signed_high}
+use Rattle.low_bytes.specs.Laws.{bytes_take, bytes_drop, signed_low, signed_high}
+use Rattle.low_bytes.proofs.Worth.{worth-below}
 use Rattle.low_bytes.proofs.signed_at.Goals as goal
 use Rattle.low_bytes.proofs.signed_at.Goals.{After-number_at-n}
 

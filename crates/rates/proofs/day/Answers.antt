@@ -1,7 +1,7 @@
 -- `rates::day` meets its contract: a rate has its day, and any other number 0.
 -- Assumes nothing.
 use mathlib.Core.Path.{sym, ◌∙◌}
-use Rattle.rates.specs.Day.{day-none}
+use Rattle.rates.proofs.Days.{day-none}
 use Rattle.rates.proofs.day.Goals as goal
 
 pub day_of-requires : goal.day_of-requires

@@ -5,7 +5,7 @@ use Prim.Native.Nat.{◌≤◌}
 use native.Mathlib.Omega.{arith}
 use Rattle.rates.specs.declared.Framerate.{Framerate}
 use Rattle.rates.specs.Rates.{rate_row}
-use Rattle.rates.specs.Rule.{sound}
+use Rattle.rates.proofs.Sound.{sound}
 use Rattle.rates.specs.Laws.{drop_le}
 use Rattle.rates.specs.Day.{day_frames}
 use Rattle.rates.proofs.day_of.Goals as goal

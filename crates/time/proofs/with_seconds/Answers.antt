@@ -16,7 +16,7 @@ use Rattle.numbers.proofs.Tests.{fails, passes}
 use Rattle.answers.specs.Refusals.{held}
 use Rattle.rates.specs.declared.Framerate.{Framerate}
 use Rattle.rates.specs.Rates.{is_rate, rate_row}
-use Rattle.rates.specs.Rule.{sound}
+use Rattle.rates.proofs.Sound.{sound}
 use Rattle.timecodes.specs.Timecode.{placed}
 use Rattle.timecodes.specs.Made.{settled}
 use Rattle.timecodes.specs.AdmittedLaws.{placed-held}

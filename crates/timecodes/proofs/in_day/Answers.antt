@@ -9,7 +9,8 @@ use mir.Facts.{to_z-of_z}
 use Rattle.numbers.specs.Modulo.{reduced_z}
 use Rattle.numbers.specs.ModuloLaws.{reduced-le}
 use Rattle.numbers.specs.Total.{fitted, fitted-in}
-use Rattle.rates.specs.Day.{day_frames, day-le}
+use Rattle.rates.specs.Day.{day_frames}
+use Rattle.rates.proofs.Days.{day-le}
 use Rattle.timecodes.specs.Made.{in_day}
 use Rattle.timecodes.proofs.in_day.Goals as goal
 use Rattle.timecodes.proofs.in_day.Goals.{After-reduced}

@@ -11,7 +11,7 @@ use mir.Facts.{to_z-of_z}
 use Rattle.numbers.specs.Total.{fitted, fitted-in}
 use Rattle.rates.specs.declared.Framerate.{Framerate}
 use Rattle.rates.specs.Rates.{frame_ticks}
-use Rattle.rates.specs.Laws.{frame_ticks-le}
+use Rattle.rates.proofs.Sound.{frame_ticks-le}
 use Rattle.timecodes.specs.Instant.{instant, instant_in}
 use Rattle.timecodes.proofs.instant_of.Goals as goal
 use Rattle.timecodes.proofs.instant_of.Goals.{After-with_sign}
