@@ -3,7 +3,7 @@
 ghost use Rattle.std.specs.Prelude.{◌≤◌};
 
 use asking::{Listed, Numbers};
-use hex::Hexed;
+use hex_bytes::Hexed;
 
 fn not_understood(out: &mut [u8], used: usize) -> usize {
     showing::show(out, used, showing::only_word(b'?'))
@@ -26,7 +26,7 @@ pub(crate) fn read_list(line: &[u8], from: usize, out: &mut [u8], used: usize) -
         return not_understood(out, used);
     }
     let mut bytes = [0u8; 4096];
-    let h = hex::read(&line[from..], &mut bytes);
+    let h = hex_bytes::read(&line[from..], &mut bytes);
     shown_list(h, &bytes, out, used)
 }
 

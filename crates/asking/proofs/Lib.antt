@@ -1,6 +1,6 @@
 pub mod Filled
 pub mod Named
-pub mod Numbers
+pub mod NumberLaws
 pub mod Standing
 pub mod Taken
 pub mod Listing

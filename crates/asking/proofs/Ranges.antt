@@ -20,7 +20,7 @@ use Rattle.asking.specs.Numbers.{signed_at}
 use Rattle.asking.specs.Table.{is_over}
 use Rattle.asking.specs.ShardWords.{number_then, range_at, sharding, ranges_from, ranges_of, is_none, spelled_of, shards_at, shards_of}
 use Rattle.asking.specs.Grammar.{Numeral, plain, minus}
-use Rattle.asking.proofs.Numbers.{stands-within}
+use Rattle.asking.proofs.NumberLaws.{stands-within}
 use Rattle.asking.proofs.Numerals.{signed-told}
 
 -- ---- the range at a place

@@ -11,7 +11,7 @@ use lib.Seq.{drop-cons, drop-drop}
 use borrow.Author.Tests.{eqb-true}
 use Rattle.digits.specs.Digits.{is_byte, first_is}
 use Rattle.asking.specs.Table.{word_first}
-use Rattle.asking.proofs.Numbers.{stands_by, stands-within}
+use Rattle.asking.proofs.NumberLaws.{stands_by, stands-within}
 
 -- ---- the loop of `word_stands`: i bytes of the word stand there
 pub record Matching (line word : List ℕ) (at i : ℕ) : Type 0 where

@@ -11,7 +11,7 @@ use Rattle.reading.proofs.LabelOnly as reading-label
 use Rattle.router.proofs.Statements as router
 use Rattle.routing.proofs.Statements as routing
 use Rattle.router.proofs.Exact as router-exact
-use Rattle.hex.proofs.Statements as hex
+use Rattle.hex_bytes.proofs.Statements as hex
 use Rattle.promises.specs.Promises.{Promises}
 use Rattle.beginnings.proofs.Statements as beginnings
 use Rattle.numbers.proofs.Statements as numbers

@@ -33,7 +33,7 @@ use Rattle.shot_lists.specs.RefusalStatements as shot-refusals
 use Rattle.shot_writer.specs.Statements as shot-writer
 use Rattle.router.specs.Statements as router
 use Rattle.routing.specs.Statements as routing
-use Rattle.hex.specs.Statements as hex
+use Rattle.hex_bytes.specs.Statements as hex
 use Rattle.asking.specs.RecordStatements as asking-records
 use Rattle.asking.specs.RouteStatements as asking-routes
 use Rattle.streams.specs.Statements as streams

@@ -12,7 +12,7 @@ use Rattle.digits.specs.Digits.{is_byte, first_is}
 use Rattle.asking.specs.declared.values.Word.{Word}
 use Rattle.asking.specs.declared.values.Word.TheVariants.{Number, Nothing}
 use Rattle.asking.specs.Numbers.{signed_at}
-use Rattle.asking.proofs.Numbers.{stands-within}
+use Rattle.asking.proofs.NumberLaws.{stands-within}
 use Rattle.asking.proofs.Numerals.{signed-taken, signed-left, signed-told}
 use Rattle.routing.specs.declared.queries.Query.TheVariants.{Asked, NotUnderstood}
 use Rattle.routing.specs.Queries.{asked_at, asked_by, query_of}

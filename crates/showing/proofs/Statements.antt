@@ -15,7 +15,7 @@ use Rattle.shot_lists.specs.declared.records.Record.{Record}
 use Rattle.shot_lists.specs.declared.records.Record.TheVariants.{Rate, Shot, Reel}
 use Rattle.streams.specs.Sheet.{Sheet, text_on, put_on}
 use Rattle.streams.proofs.Putting.{Laid, put_is}
-use Rattle.hex.specs.Hex.{hex_text}
+use Rattle.hex_bytes.specs.Hex.{hex_text}
 use Rattle.laws.specs.Spelt.{spelt}
 use Rattle.showing.specs.declared.Shown.{Shown}
 use Rattle.showing.specs.Shown.{count_text, word_text, front_text, help_text, said_text, second_text, parts_text, shown_text, length_text, written_text, word_on, front_on, said_on, second_on, first_on, parts_on, shown_on, length_on, written_on}

@@ -6,7 +6,7 @@ use Rattle.written.specs.declared.Written.{Written}
 use Rattle.written.specs.declared.Written.TheVariants.{Length, Refused}
 use Rattle.written.specs.Parts.{signed_text}
 use Rattle.streams.specs.Sheet.{Sheet, put_on}
-use Rattle.hex.specs.Hex.{hex_text}
+use Rattle.hex_bytes.specs.Hex.{hex_text}
 use Rattle.laws.specs.Spelt.{spelt}
 use Rattle.showing.specs.declared.Shown.{Shown}
 use Rattle.showing.specs.Each.{of_refusal}

@@ -25,7 +25,7 @@ use Rattle.router.specs.declared.Routed.TheVariants as routed
 use Rattle.written.specs.declared.Written.{Written}
 use Rattle.written.specs.Parts.{signed_text}
 use Rattle.streams.specs.Sheet.{Sheet, text_on}
-use Rattle.hex.specs.Hex.{hex_text}
+use Rattle.hex_bytes.specs.Hex.{hex_text}
 use Rattle.laws.specs.Spelt.{spelt}
 use Rattle.showing.specs.declared.Shown.{Shown}
 use Rattle.showing.specs.Each.{of_answer, of_read}

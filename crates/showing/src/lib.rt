@@ -248,6 +248,6 @@ pub fn show_written_hex(out: &mut [u8], used: usize, w: Written, line: &[u8]) ->
 {
     let a = put_length(out, used, w);
     let b = streams::put_byte(out, a, b' ');
-    let c = hex::put(out, b, line);
+    let c = hex_bytes::put(out, b, line);
     streams::put_byte(out, c, b'\n')
 }

@@ -9,7 +9,7 @@ use lib.Dec.{eqb}
 use lib.ListN.{length, take, drop, length-drop}
 use lib.Seq.{take-length}
 use Rattle.digits.specs.Digits.{is_byte, first_is, run_of}
-use Rattle.asking.proofs.Numbers.{stands_by}
+use Rattle.asking.proofs.NumberLaws.{stands_by}
 use Rattle.telling.specs.declared.told.Way.{Way}
 use Rattle.telling.specs.declared.questions.Options.{Options}
 use Rattle.telling.specs.declared.questions.Question.TheVariants.{Asked, NoText, NotUnderstood}

@@ -12,7 +12,7 @@ use Rattle.numbers.specs.Total.{fitted-in}
 use Rattle.answers.specs.Refusals.{held}
 use Rattle.rates.specs.declared.Framerate.{Framerate}
 use Rattle.rates.specs.Rates.{rate_row}
-use Rattle.rates.specs.Rule.{sound}
+use Rattle.rates.proofs.Sound.{sound}
 use Rattle.runtime_reading.specs.Reading.{whole_seconds, time_in, runtime_frame}
 use Rattle.runtime_reading.specs.ReadingLaws.{seconds-small, product_small, held-beyond}
 use Rattle.runtime_reading.proofs.nearest_frame.Goals as goal

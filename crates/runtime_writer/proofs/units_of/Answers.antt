@@ -4,7 +4,7 @@ use Prim.Native.Nat.{◌*◌, ◌≤◌}
 use native.Mathlib.Omega.{arith}
 use mathlib.Core.Path.{ap, ap₂, ◌∙◌}
 use Rattle.numbers.specs.Nearest.{nearest_n}
-use Rattle.rates.specs.Rule.{sound}
+use Rattle.rates.proofs.Sound.{sound}
 use Rattle.runtime_writer.specs.RuntimeText.{runtime_units}
 use Rattle.runtime_writer.proofs.Powers.{frames-most, units-most}
 use Rattle.runtime_writer.proofs.units_of.Goals as goal

@@ -3,7 +3,7 @@
 use mathlib.Core.List.{[], ◌∷◌}
 use borrow.Author.Rules.{rules}
 use Rattle.streams.specs.Sheet.{sheet, put_on}
-use Rattle.hex.specs.Hex.{hex_text}
+use Rattle.hex_bytes.specs.Hex.{hex_text}
 use Rattle.showing.specs.Shown.{length_on}
 use Rattle.showing.proofs.Putting.{leaves-on, leaves-same, written_is}
 use Rattle.showing.proofs.show_written_hex.Statement.{statement}

@@ -4,7 +4,7 @@ use Rattle.std.proofs.lemmas.Bool.{not_from_false, not_from_true}
 use mathlib.Core.Path.{sym, ◌∙◌}
 use native.Mathlib.Omega.{arith}
 use borrow.Author.Tests.{not-true, not-false}
-use Rattle.asking.proofs.Numbers.{stands-within}
+use Rattle.asking.proofs.NumberLaws.{stands-within}
 use Rattle.asking.proofs.Ranges.{none_apart, none-by}
 use Rattle.asking.proofs.sharded.is_none.Goals as goal
 

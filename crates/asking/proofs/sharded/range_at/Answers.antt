@@ -7,7 +7,7 @@ use borrow.Author.Tests.{not-true, not-false}
 use borrow.Author.Rules.{rules}
 use mir.Syntax.{w64}
 use mir.Val.{to_z, of_z}
-use Rattle.asking.proofs.Numbers.{stands-within}
+use Rattle.asking.proofs.NumberLaws.{stands-within}
 use Rattle.asking.proofs.Ranges.{range-no-first, range-apart, range-no-end, range-some}
 use Rattle.asking.proofs.sharded.range_at.Goals as goal
 use Rattle.asking.proofs.sharded.range_at.Goals.{In-Number, In-Number-b}

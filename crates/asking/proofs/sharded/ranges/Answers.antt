@@ -12,7 +12,7 @@ use mir.Val.{to_z, of_z}
 use Rattle.numbers.specs.Sign.{up_from}
 use Rattle.asking.specs.declared.sharded.Range.TheVariants.{Of}
 use Rattle.asking.specs.ShardWords.{range_at}
-use Rattle.asking.proofs.Numbers.{stands-within}
+use Rattle.asking.proofs.NumberLaws.{stands-within}
 use Rattle.asking.proofs.Ranges.{ranging-start, ranging-none, ranging-over, ranging-turn, range-past}
 use Rattle.outcomes.proofs.Clauses.{answer_firsts_ends}
 use Rattle.asking.proofs.sharded.ranges.Goals as goal

@@ -7,7 +7,7 @@ use native.Mathlib.Omega.{arith}
 use borrow.Author.Tests.{not-true, not-false}
 use mir.Facts.{to_z-of_z}
 use Rattle.numbers.specs.Total.{fitted-in}
-use Rattle.asking.proofs.Numbers.{stands-within}
+use Rattle.asking.proofs.NumberLaws.{stands-within}
 use Rattle.asking.proofs.Ranges.{shards-apart, shards-not, shards-place}
 use Rattle.asking.proofs.sharded.word.Goals as goal
 

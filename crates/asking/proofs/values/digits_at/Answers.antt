@@ -3,7 +3,7 @@
 use mathlib.Core.Path.{ap, ◌∙◌}
 use native.Mathlib.Omega.{arith}
 use Rattle.digits.proofs.Runs.{run-count}
-use Rattle.asking.proofs.Numbers.{digits-none, digits-within, part-digits, digits-some}
+use Rattle.asking.proofs.NumberLaws.{digits-none, digits-within, part-digits, digits-some}
 use Rattle.asking.proofs.values.digits_at.Goals as goal
 
 pub returns-then-n-eq0 : goal.returns-then-n-eq0

@@ -1,7 +1,7 @@
 -- `asking::values::magnitude` meets its contract: what is held of the digits so far.
 -- Assumes nothing.
 use Prim.Native.Nat.{◌-◌}
-use Rattle.asking.proofs.Numbers.{valuing-start, valuing-turn, valuing-done, digit_at}
+use Rattle.asking.proofs.NumberLaws.{valuing-start, valuing-turn, valuing-done, digit_at}
 use Rattle.asking.proofs.values.magnitude.Goals as goal
 
 pub loop-i-init : goal.loop-i-init

@@ -2,7 +2,7 @@
 -- Assumes nothing.
 use Prim.Native.Nat.{◌-◌}
 use lib.ListN.{length}
-use Rattle.asking.proofs.Numbers.{Valuing}
+use Rattle.asking.proofs.NumberLaws.{Valuing}
 use Rattle.asking.proofs.values.magnitude.Given as goal
 
 abbrev pub invariant-loop-i : goal.invariant-loop-i

@@ -4,7 +4,7 @@ use Rattle.std.proofs.lemmas.Bool.{not_from_false, not_from_true}
 use mathlib.Core.Path.{sym, ◌∙◌}
 use native.Mathlib.Omega.{arith}
 use borrow.Author.Tests.{not-true, not-false}
-use Rattle.asking.proofs.Numbers.{stands-within, number-none, number-some}
+use Rattle.asking.proofs.NumberLaws.{stands-within, number-none, number-some}
 use Rattle.asking.proofs.values.number.Goals as goal
 
 pub returns-then-not-stands : goal.returns-then-not-stands

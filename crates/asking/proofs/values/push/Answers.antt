@@ -2,7 +2,7 @@
 -- Assumes nothing.
 use native.Mathlib.Omega.{arith}
 use Rattle.digits.proofs.Values.{digit-bounds}
-use Rattle.asking.proofs.Numbers.{pushed-past, pushed-within}
+use Rattle.asking.proofs.NumberLaws.{pushed-past, pushed-within}
 use Rattle.asking.proofs.values.push.Goals as goal
 
 pub returns-then-m-gt922337203685477580 : goal.returns-then-m-gt922337203685477580

@@ -5,7 +5,7 @@ use mathlib.Core.Path.{ap, ◌∙◌}
 use Rattle.numbers.specs.Total.{fitted-in}
 use mir.Facts.{to_z-of_z}
 use Rattle.asking.specs.declared.values.Word.TheVariants.{Number}
-use Rattle.asking.proofs.Numbers.{word-least, word-most, word-within, word-past}
+use Rattle.asking.proofs.NumberLaws.{word-least, word-most, word-within, word-past}
 use Rattle.asking.proofs.values.signed.Goals as goal
 
 pub returns-then-m-lt9223372036854775808 : goal.returns-then-m-lt9223372036854775808

@@ -2,7 +2,7 @@
 -- Assumes nothing.
 use mathlib.Core.Path.{sym, ◌∙◌}
 use native.Mathlib.Omega.{arith}
-use Rattle.asking.proofs.Numbers.{stands-within, signed-minus, signed-plain}
+use Rattle.asking.proofs.NumberLaws.{stands-within, signed-minus, signed-plain}
 use Rattle.asking.proofs.values.signed_at.Goals as goal
 
 pub overflow_add-at : goal.overflow_add-at

@@ -1,6 +1,6 @@
 -- `asking::values::stands` meets its contract: the byte at the place is the first of what is left.
 -- Assumes nothing.
-use Rattle.asking.proofs.Numbers.{stands_here, stands-past}
+use Rattle.asking.proofs.NumberLaws.{stands_here, stands-past}
 use Rattle.asking.proofs.values.stands.Goals as goal
 
 pub returns-then-at-line : goal.returns-then-at-line

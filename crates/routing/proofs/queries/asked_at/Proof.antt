@@ -4,7 +4,7 @@ use Prim.Native.Nat.{◌+◌}
 use mathlib.Core.Path.{sym, ap, ◌∙◌}
 use native.Mathlib.Omega.{arith}
 use mir.Facts.{to_z-of_z}
-use Rattle.asking.proofs.Numbers.{stands-within}
+use Rattle.asking.proofs.NumberLaws.{stands-within}
 use Rattle.routing.specs.declared.queries.Query.TheVariants.{Asked}
 use Rattle.routing.proofs.Asking.{asked-some, asked-none}
 use borrow.Author.Rules.{rules}

@@ -20,7 +20,7 @@ returns-then-chunk-i-eq10 c =
 
 pub loop-i-preserved : goal.loop-i-preserved
 loop-i-preserved c =
-    running-turn _ _ _ _ _ _ _ c.loop-i.invariant _ _ c.loop-i-test.true c.if-chunk-i-eq10.false c.take-h.ensures
+    running-turn _ _ _ _ _ _ _ c.loop-i.invariant _ _ c.loop-i-test.true c.if-chunk-i-eq10.false (c.take-h.ensures.answer, c.take-h.ensures.buffer)
 
 pub shape_of-buffer : goal.shape_of-buffer
 shape_of-buffer c =

@@ -4,7 +4,7 @@ use mathlib.Core.Path.{sym, ◌∙◌}
 use Prim.Native.Nat.{◌+◌}
 use native.Mathlib.Omega.{arith}
 use borrow.Author.Tests.{not-true, not-false}
-use Rattle.asking.proofs.Numbers.{stands-within}
+use Rattle.asking.proofs.NumberLaws.{stands-within}
 use Rattle.telling.proofs.Words.{number-within, format-none, format-other, format-some}
 use borrow.Author.Rules.{rules}
 use Rattle.telling.proofs.questions.format_at.Statement.{statement}
