@@ -7,19 +7,17 @@ use Rattle.asking.proofs.Standing.{word-ends}
 use Rattle.asking.proofs.RecordSteps.{kind-rate, kind-shot, kind-reel, kind-none}
 use Rattle.asking.proofs.recorded.kind_at.Goals as goal
 
-add-t9 : tie.Need-overflow-add-t9
-add-t9 c =
-    let a = c.before.before.before.before.args in
-    omega (arith, word-ends a.line.now a.at (spelt " rate") (sym c.before.word_stands.ensures ∙ c.if1.true) (omega arith))
+pub overflow_add-result : goal.overflow_add-result
+overflow_add-result c =
+    omega (arith, word-ends c.args.line.now c.args.at (spelt " rate") (sym c.word_stands.ensures ∙ c.if-word_stands.true) (omega arith))
 
 pub returns-then-word_stands : goal.returns-then-word_stands
 returns-then-word_stands c =
     kind-rate _ _ (sym c.word_stands.ensures ∙ c.if-word_stands.true)
 
-add-t13 : tie.Need-overflow-add-t13
-add-t13 c =
-    let a = c.before.before.before.before.before.before.before.args in
-    omega (arith, word-ends a.line.now a.at (spelt " shot") (sym c.before.word-stands2.ensures ∙ c.if2.true) (omega arith))
+pub overflow_add-result-then-word_stands-2 : goal.overflow_add-result-then-word_stands-2
+overflow_add-result-then-word_stands-2 c =
+    omega (arith, word-ends c.args.line.now c.args.at (spelt " shot") (sym c.word_stands-2.ensures ∙ c.if-word_stands-2.true) (omega arith))
 
 pub returns-then-word_stands-2 : goal.returns-then-word_stands-2
 returns-then-word_stands-2 c =

@@ -62,12 +62,12 @@ overflow_add-n c =
 
 -- the lists with the range in them
 firsts_are : (c : After-stands)
-    → c.put.new.0 ≡ set c.loop-first.firsts c.loop-first.n (up_from c.in-Of.first)
+    → c.put.new.list ≡ set c.loop-first.firsts c.loop-first.n (up_from c.in-Of.first)
 firsts_are c =
     c.put.ensures ∙ ap (λ x. set c.loop-first.firsts c.loop-first.n (up_from x)) ((let told : to_z w64 (of_z w64 c.in-Of.first) ≡ c.in-Of.first = search rules in told))
 
 ends_are : (c : After-stands)
-    → c.put-in-loop-first.new.0 ≡ set c.loop-first.ends c.loop-first.n (up_from c.in-Of.end)
+    → c.put-in-loop-first.new.list ≡ set c.loop-first.ends c.loop-first.n (up_from c.in-Of.end)
 ends_are c =
     c.put-in-loop-first.ensures ∙ ap (λ x. set c.loop-first.ends c.loop-first.n (up_from x)) ((let told : to_z w64 (of_z w64 c.in-Of.end) ≡ c.in-Of.end = search rules in told))
 

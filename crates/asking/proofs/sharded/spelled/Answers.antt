@@ -17,4 +17,4 @@ returns-then-is_none c =
 pub returns : goal.returns
 returns c =
     let e = spelled-some c.args.line.now c.args.at c.args.firsts.now c.args.ends.now (sym c.is_none.ensures ∙ c.if-is_none.false) in
-    record { answer = c.ranges-2.ensures.0 ∙ ap (λ z. z.ranged) e; firsts = c.ranges-2.ensures.1.0 ∙ ap (λ z. z.firsts) e; ends = c.ranges-2.ensures.1.1 ∙ ap (λ z. z.ends) e }
+    record { answer = c.ranges-2.ensures.answer ∙ ap (λ z. z.ranged) e; firsts = c.ranges-2.ensures.firsts ∙ ap (λ z. z.firsts) e; ends = c.ranges-2.ensures.ends ∙ ap (λ z. z.ends) e }
