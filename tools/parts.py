@@ -24,7 +24,9 @@ def tree_at(commit):
 def tree_here(root):
     """The files under a folder."""
     root = Path(root)
-    files = [root / "crates.txt", *sorted((root / "crates").rglob("*"))]
+    # out/ is what rt makes
+    made = [part for crate in sorted((root / "crates").iterdir()) if crate.is_dir() for part in sorted(crate.iterdir()) if part.name != "out"]
+    files = [root / "crates.txt", *(f for part in made for f in sorted(part.rglob("*")))]
     named = [(f, f.relative_to(root).as_posix()) for f in files if f.is_file()]
     return {name: f.read_text(encoding="utf-8") for f, name in named if wanted(name)}
 
@@ -32,7 +34,14 @@ def tree_here(root):
 def crates_of(tree):
     """The crates that crates.txt lists, in its order."""
     lines = [line.split("#")[0] for line in tree.get("crates.txt", "").split("\n")]
-    return [line.split(":")[0].strip() for line in lines if ":" in line]
+    # the name stands first; a static library has a second word behind it
+    return [line.split(":")[0].split()[0] for line in lines if line.split(":")[0].strip() and ":" in line]
+
+
+def proof_of(path):
+    """The function that a file of proofs/ proves, as crates/time/proofs/seconds/Answers.antt; nothing where it holds lemmas."""
+    m = re.fullmatch(r"crates/\w+/proofs/(.+)/(?:Invariants|Answers|Proof)\.antt", path)
+    return m.group(1).replace("/", "::") if m else ""
 
 
 def plain(text):
@@ -127,7 +136,10 @@ def antt_items(text):
     for line, note, around, code in chunks(text):
         if re.match(r"(pub\s+)?(use|mod)\s", code):
             continue
-        word, pub, second, name, rest = HEAD.match(code).groups()
+        head = HEAD.match(code)
+        if not head:
+            continue
+        word, pub, second, name, rest = head.groups()
         word = word or second or ""
         if word in ("record", "data", "ruleset") or re.match(r"\s*:(\s|$)", rest):
             items.append(Item(word, bool(pub), name, name + rest, line, note, around))
@@ -172,14 +184,15 @@ def antt_uses(text):
 
 # ---- Rattle
 class Function:
-    def __init__(self, module, owner, name, pub, extern, signature, clauses, body, line, note):
+    def __init__(self, module, owner, name, pub, extern, marks, signature, clauses, body, line, note):
         self.module = module  # the file's module: nothing for lib.rt and main.rt
         self.owner = owner  # the type whose method it is; or nothing
         self.name = name
         self.pub = pub  # `pub`, and not pub(crate)
         self.extern = extern
+        self.marks = marks  # its attributes, as unsafe(no_mangle)
         self.signature = signature
-        self.clauses = clauses  # (requires or ensures, label, what is said)
+        self.clauses = clauses  # (requires or ensures, label, what is said); a clause that stands alone has no label
         self.body = body
         self.line = line
         self.note = note
@@ -191,7 +204,8 @@ class Function:
         return plain(" ".join([self.signature, *(" ".join(c) for c in self.clauses)]))
 
 
-LITERAL = re.compile(r'b?"(?:\\.|[^"\\])*"|b\'(?:\\.|[^\'\\])\'', re.S)
+# a text, a byte or a character; a lifetime is none of these
+LITERAL = re.compile(r'b?"(?:\\.|[^"\\])*"|\bb\'(?:\\.|[^\'\\])\'|(?<!\w)\'(?:\\[^\'\n]+|[^\'\\\n])\'', re.S)
 LITERAL_OR_COMMENT = re.compile(LITERAL.pattern + "|//[^\n]*", re.S)
 LITERAL_OR_BRACKET = re.compile(LITERAL.pattern + r"|[()\[\]{};]", re.S)
 
@@ -216,8 +230,9 @@ def closed(text, at):
     return behind(text, at, "}")
 
 
-FN = re.compile(r'^[ \t]*(pub(?:\([a-z]+\))?[ \t]+)?(extern[ \t]+"C"[ \t]+)?fn[ \t]+(\w+)', re.M)
-CLAUSE = re.compile(r"\s*(requires|ensures)\b\s*(\w*)\s*(?=\{)")
+FN = re.compile(r'^[ \t]*(pub(?:\([a-z]+\))?[ \t]+)?(?:(?:const|unsafe)[ \t]+)*(extern[ \t]+"C"[ \t]+)?fn[ \t]+(\w+)', re.M)
+# `ghost name: { TYPE }`, `requires { .. }`, `ensures name { .. }`; with a star it speaks of memory
+CLAUSE = re.compile(r"\s*(ghost|requires|ensures)\b(\*?)\s*(\w*)\s*:?\s*(?=\{)")
 
 
 def module_of(path):
@@ -226,41 +241,48 @@ def module_of(path):
     return [] if parts in (["lib"], ["main"]) else [p for p in parts if p != "mod"]
 
 
-def note_above(lines, at):
-    """The comment lines directly above line number `at` (from 0), attributes passed over."""
-    note = []
+def above(lines, at):
+    """The comment lines directly above line number `at` (from 0), and the attributes there."""
+    note, marks = [], []
     while at > 0 and (lines[at - 1].lstrip().startswith("//") or re.match(r"\s*#\[", lines[at - 1])):
         at -= 1
-        if lines[at].lstrip().startswith("//"):
-            note.insert(0, lines[at].strip().lstrip("/").strip())
-    return note
+        line = lines[at].strip()
+        if line.startswith("//"):
+            note.insert(0, line.lstrip("/").strip())
+        else:
+            marks.insert(0, line.removeprefix("#[").removesuffix("]"))
+    return note, marks
 
 
 def functions(path, text):
     """The functions of a source file, in its order."""
     code, lines = uncommented_rt(text), text.split("\n")
     owners = []
-    for m in re.finditer(r"^impl\s+(\w+)\s*\{", code, re.M):
+    for m in re.finditer(r"^impl\b[^{;]*?(\w+)(?:<[^{;]*>)?\s*\{", code, re.M):
         owners.append((m.end(), closed(code, m.end() - 1), m.group(1)))
     found = []
     for m in FN.finditer(code):
         start = next((i for i in range(m.end(), len(code)) if code[i] == "{"), None)
-        clause = re.compile(r"\b(requires|ensures)\b").search(code, m.end())
-        head_end = min([x for x in (start, clause and clause.start()) if x is not None])
+        clause = re.compile(r"\b(ghost|requires|ensures)\b").search(code, m.end())
+        ends = [x for x in (start, clause and clause.start()) if x is not None]
+        if not ends:
+            continue
+        head_end = min(ends)
         signature, at, clauses = code[m.start() : head_end], head_end, []
         while True:
             c = CLAUSE.match(code, at)
             if not c:
                 break
             end = closed(code, c.end())
-            clauses.append((c.group(1), c.group(2), plain(code[c.end() + 1 : end - 1])))
+            clauses.append((c.group(1) + c.group(2), c.group(3), plain(code[c.end() + 1 : end - 1])))
             at = end
         body_at = code.index("{", at)
         body = code[body_at : closed(code, body_at)]
         owner = next((name for a, b, name in owners if a <= m.start() < b), "")
         line = code.count("\n", 0, m.start()) + 1
         pub = (m.group(1) or "").strip() == "pub"
-        found.append(Function(module_of(path), owner, m.group(3), pub, bool(m.group(2)), plain(signature), clauses, plain(body), line, note_above(lines, line - 1)))
+        note, marks = above(lines, line - 1)
+        found.append(Function(module_of(path), owner, m.group(3), pub, bool(m.group(2)), marks, plain(signature), clauses, plain(body), line, note))
     return found
 
 
