@@ -1,7 +1,8 @@
 #!/usr/bin/env python3
 """tools/respell.py: brings the crates' own names to today's spelling, once, after the kit's port.py.
 
-- Each line of tools/respell.names is an old name and its new one: definitions, fields and lemmas in snake case. No Rust name is among them.
+- Each line of tools/respell.names is an old name and its new one: definitions, fields and lemmas in snake case. A third word is the file or the
+  folder that it is for: lemmas whose names would fall together with such a definition there. No Rust name is among them.
 - A label of a lone clause goes: a function with one `ensures` writes `ensures { .. }`.
 - #![tactic(auto)] stands near the head of each lib.rt and main.rt.
 - A `use` list that would begin with `{-`, which opens a comment, has another name first.
@@ -10,7 +11,9 @@ import re
 from pathlib import Path
 
 ROOT = Path(__file__).resolve().parent.parent
-NAMES = dict(line.split() for line in (ROOT / "tools/respell.names").read_text(encoding="utf-8").split("\n") if line)
+LINES = [line.split() for line in (ROOT / "tools/respell.names").read_text(encoding="utf-8").split("\n") if line]
+EVERYWHERE = {line[0]: line[1] for line in LINES if len(line) == 2}
+NAMES = dict(EVERYWHERE)  # those of the file that is being respelled
 WORD = re.compile(r"(?<![\w'-])[^\W\d][\w'-]*")
 
 
@@ -66,6 +69,8 @@ for path in sorted((ROOT / "crates").rglob("*")):
     if "out" in path.parts or not path.is_file() or path.suffix not in (".rt", ".antt", ".edit"):
         continue
     text = path.read_text(encoding="utf-8")
+    own = {line[0]: line[1] for line in LINES if len(line) == 3 and path.relative_to(ROOT).as_posix().startswith(line[2])}
+    NAMES = {**EVERYWHERE, **own}
     if path.suffix == ".rt":
         new = rust(text)
         new = tactic(new) if path.name in ("lib.rt", "main.rt") else new

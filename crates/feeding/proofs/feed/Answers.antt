@@ -14,15 +14,15 @@ loop-buffer-init c =
 pub loop-buffer-smaller : goal.loop-buffer-smaller
 loop-buffer-smaller c =
     let f = fed_at c.loop-buffer.buffer c.loop-buffer.out c.loop-buffer.f in
-    let l = on-within c.args.chunk.now f _ c.goes_on_lem.ensures c.loop-buffer-test.true in
+    let l = on-within c.args.chunk.now f _ c.goes_on.ensures c.loop-buffer-test.true in
     let e = ap (λ z. z.eaten) (steps-is c.args.chunk.now c.loop-buffer.buffer c.loop-buffer.out c.loop-buffer.f _ _ _ (c.step-f.ensures.answer, (c.step-f.ensures.buffer, c.step-f.ensures.sheet))) in
     omega (arith, l, e, step-more c.args.chunk.now f l)
 
 pub loop-buffer-preserved : goal.loop-buffer-preserved
 loop-buffer-preserved c =
     let f = fed_at c.loop-buffer.buffer c.loop-buffer.out c.loop-buffer.f in
-    let l = on-within c.args.chunk.now f _ c.goes_on_lem.ensures c.loop-buffer-test.true in
-    let r = on_room c.args.chunk.now f _ c.goes_on_lem.ensures c.loop-buffer-test.true in
+    let l = on-within c.args.chunk.now f _ c.goes_on.ensures c.loop-buffer-test.true in
+    let r = on_room c.args.chunk.now f _ c.goes_on.ensures c.loop-buffer-test.true in
     rw (steps-is c.args.chunk.now c.loop-buffer.buffer c.loop-buffer.out c.loop-buffer.f _ _ _ (c.step-f.ensures.answer, (c.step-f.ensures.buffer, c.step-f.ensures.sheet))) (run-turn c.args.chunk.now f l _ c.loop-buffer.invariant r)
 
 pub shape_of-buffer : goal.shape_of-buffer
@@ -35,5 +35,5 @@ shape_of-out c =
 
 pub returns : goal.returns
 returns c =
-    let e = run-done c.args.chunk.now (fed_at c.loop-buffer.buffer c.loop-buffer.out c.loop-buffer.f) _ c.goes_on_lem.ensures _ c.loop-buffer.invariant c.loop-buffer-test.false in
+    let e = run-done c.args.chunk.now (fed_at c.loop-buffer.buffer c.loop-buffer.out c.loop-buffer.f) _ c.goes_on.ensures _ c.loop-buffer.invariant c.loop-buffer-test.false in
     record { answer = sym (ap fed_answer e); buffer = sym (ap (λ z. z.machine.buffer) e); sheet = sym (ap (λ z. z.machine.sheet.bytes) e) }

@@ -1,9 +1,9 @@
--- `feeding::goes_on_lem` meets its contract: the room is asked for where a byte is left.
+-- `feeding::goes_on` meets its contract: the room is asked for where a byte is left.
 -- Assumes nothing.
 use borrow.Author.Rules.{rules}
 use Rattle.feeding.proofs.Following.{on-yes, on-no}
-use Rattle.feeding.proofs.goes_on_lem.Statement.{statement}
-use Rattle.feeding.proofs.goes_on_lem.Tie as tie
+use Rattle.feeding.proofs.goes_on.Statement.{statement}
+use Rattle.feeding.proofs.goes_on.Tie as tie
 
 returns : tie.Need-returns
 returns c = let a = c.before.before.args in on-yes a.i a.n a.total a.used _ c.before.if1.true c.room.ensures
