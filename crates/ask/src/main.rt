@@ -126,10 +126,22 @@ fn last_answer(rt: &impl Print, buffer: &[u8], out: &mut [u8], g: Gathered) -> i
     Ok(())
 }
 
-// A line may have up to 8192 bytes; what comes behind them is not kept, and the line is not understood.
-fn main(rt: HostRuntime) -> io::Result<()> {
+// All lines. One may have up to 8192 bytes; what comes behind them is not kept, and the line is not understood.
+fn answer_all(rt: &impl Print, input: &mut impl Read) -> io::Result<()> {
     let mut buffer = [0u8; 8192];
     let mut out = [0u8; 65536];
-    let g = read_all(&rt, &mut rt.stdin(), &mut buffer, &mut out)?;
-    last_answer(&rt, &buffer, &mut out, g)
+    let g = read_all(rt, input, &mut buffer, &mut out)?;
+    last_answer(rt, &buffer, &mut out, g)
+}
+
+// A reader that has gone wants no more answers: that is no failure.
+fn unless_gone(done: io::Result<()>) -> io::Result<()> {
+    match done {
+        Err(e) if e.kind() == io::ErrorKind::BrokenPipe => Ok(()),
+        other => other,
+    }
+}
+
+fn main(rt: HostRuntime) -> io::Result<()> {
+    unless_gone(answer_all(&rt, &mut rt.stdin()))
 }

@@ -105,12 +105,7 @@ fn read_all(
 }
 
 // A last line without its newline counts.
-fn run(
-    rt: &impl Print,
-    input: &mut impl Read,
-    buffer: &mut [u8],
-    out: &mut [u8],
-) -> io::Result<()>
+fn run(rt: &impl Print, input: &mut impl Read, buffer: &mut [u8], out: &mut [u8]) -> io::Result<()>
     requires line { 65 ≤ length buffer.old }
     requires sheet { 192512 ≤ length out.old }
 {
@@ -126,8 +121,16 @@ fn sheet() -> [u8; 192512]
     [0u8; 192512]
 }
 
+// A reader that has gone wants no more answers: that is no failure.
+fn unless_gone(done: io::Result<()>) -> io::Result<()> {
+    match done {
+        Err(e) if e.kind() == io::ErrorKind::BrokenPipe => Ok(()),
+        other => other,
+    }
+}
+
 fn main(rt: HostRuntime) -> io::Result<()> {
     let mut buffer = [0u8; 65];
     let mut out = sheet();
-    run(&rt, &mut rt.stdin(), &mut buffer, &mut out)
+    unless_gone(run(&rt, &mut rt.stdin(), &mut buffer, &mut out))
 }

@@ -136,17 +136,29 @@ fn has_arg(rt: &impl Env, i: usize) -> bool {
     }
 }
 
-fn main(rt: HostRuntime) -> io::Result<()> {
-    let err = rt.stderr();
-    if !has_arg(&rt, 1) {
-        return put_usage(&err);
+// The queries of standard input, where there is one argument.
+fn run(rt: &(impl Env + Files + Print), err: &impl Print, input: &mut impl Read) -> io::Result<()> {
+    if !has_arg(rt, 1) {
+        return put_usage(err);
     }
-    if has_arg(&rt, 2) {
-        return put_usage(&err);
+    if has_arg(rt, 2) {
+        return put_usage(err);
     }
     let mut word = [0u8; 4096];
     match rt.arg(1, &mut word) {
-        Ok(n) => answer_word(&rt, &err, &mut rt.stdin(), &word[..n]),
-        Err(_) => put_usage(&err),
+        Ok(n) => answer_word(rt, err, input, &word[..n]),
+        Err(_) => put_usage(err),
     }
+}
+
+// A reader that has gone wants no more answers: that is no failure.
+fn unless_gone(done: io::Result<()>) -> io::Result<()> {
+    match done {
+        Err(e) if e.kind() == io::ErrorKind::BrokenPipe => Ok(()),
+        other => other,
+    }
+}
+
+fn main(rt: HostRuntime) -> io::Result<()> {
+    unless_gone(run(&rt, &rt.stderr(), &mut rt.stdin()))
 }

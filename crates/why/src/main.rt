@@ -121,12 +121,25 @@ fn no_way() -> Way {
     }
 }
 
-fn main(rt: HostRuntime) -> io::Result<()> {
-    let count = arg_count(&rt);
+// The question of the arguments; without any, each line of standard input is one.
+fn run(rt: &(impl Env + Print), err: &impl Print, input: &mut impl Read) -> io::Result<()> {
+    let count = arg_count(rt);
     if count < 2 {
-        return lines::answer_all(&rt, &mut rt.stdin(), false, no_way());
+        return lines::answer_all(rt, input, false, no_way());
     }
     let mut line = [0u8; 4097];
-    let words = all_words(&rt, &mut line, count);
-    ask(&rt, &rt.stderr(), &mut rt.stdin(), &line, words)
+    let words = all_words(rt, &mut line, count);
+    ask(rt, err, input, &line, words)
+}
+
+// A reader that has gone wants no more answers: that is no failure.
+fn unless_gone(done: io::Result<()>) -> io::Result<()> {
+    match done {
+        Err(e) if e.kind() == io::ErrorKind::BrokenPipe => Ok(()),
+        other => other,
+    }
+}
+
+fn main(rt: HostRuntime) -> io::Result<()> {
+    unless_gone(run(&rt, &rt.stderr(), &mut rt.stdin()))
 }
