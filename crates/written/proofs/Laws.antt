@@ -19,17 +19,17 @@ use Rattle.written.specs.Written.{Draft, Text, NoText, answer_to, line_to}
 
 -- what a writer shows at a return: its answer and its line are those of the draft
 abbrev pub Meets : (line : List ℕ) (place : ℕ) → Draft → Written → List ℕ → Type 0
-Meets line place draft answer last = (answer ≡ answer_to line place draft) × (last ≡ line_to line place draft)
+Meets line place draft answer last = record { answer : answer ≡ answer_to line place draft; line : last ≡ line_to line place draft }
 
 module _ (line : List ℕ) (place : ℕ) (draft : Draft) where
   -- what meets a draft meets the same draft by another name
   pub meets-same : (other : Draft) (answer : Written) (last : List ℕ) → other ≡ draft → Meets line place other answer last → Meets line place draft answer last
-  meets-same other answer last e m = (m.0 ∙ ap (answer_to line place) e, m.1 ∙ ap (line_to line place) e)
+  meets-same other answer last e m = record { answer = m.answer ∙ ap (answer_to line place) e; line = m.line ∙ ap (line_to line place) e }
 
   -- there is no text: nothing was lent
   pub meets-none : (e : Refusal) → NoText e ≡ draft → Meets line place draft (Refused e) line
   unfolding answer_to line_to
-  meets-none e d = (ap (answer_to line place) d, ap (line_to line place) d)
+  meets-none e d = record { answer = ap (answer_to line place) d; line = ap (line_to line place) d }
 
 -- ---- behind conditions
 module _ (line : List ℕ) (place : ℕ) (conditions : List Condition) (text : List ℕ) where
@@ -53,7 +53,7 @@ module _ (line : List ℕ) (place : ℕ) (text : List ℕ) (need : ℕ) (r : Boo
   unfolding answer_to line_to
   meets-out e =
       let h = fits-no line place text need r long told e in
-      (rw (fits-false line place text h), sym (line_kept line place text h))
+      record { answer = rw (fits-false line place text h); line = sym (line_kept line place text h) }
 
   -- room: the line was lent from the place on, and came back as `last` with the text laid down at its front
   pub meets-in : (last : List ℕ) → r ≡ true → last ≡ laid (mid_of place (length line - place) line) text
@@ -61,7 +61,7 @@ module _ (line : List ℕ) (place : ℕ) (text : List ℕ) (need : ℕ) (r : Boo
   unfolding answer_to line_to
   meets-in last e l =
       let h = fits-yes line place text need r long told e in
-      (rw (fits-true line place text h) (ap Length long), line-lent line place text last h l)
+      record { answer = rw (fits-true line place text h) (ap Length long); line = line-lent line place text last h l }
 
 -- where a text has room, the answer is its length, and it stands in the line
 pub text-written : (line : List ℕ) (place : ℕ) (text : List ℕ) → place + length text ≤ length line

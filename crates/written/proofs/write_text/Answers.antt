@@ -6,7 +6,6 @@ use mathlib.Core.Path.{refl}
 use lib.ListN.{length}
 use Rattle.lent.proofs.Laws.{fits-yes}
 use Rattle.written.proofs.Laws.{meets-in, meets-out}
-use Rattle.outcomes.proofs.Clauses.{answer_line}
 use Rattle.written.proofs.write_text.Goals as goal
 use Rattle.written.proofs.write_text.Goals.{Then-room}
 
@@ -25,10 +24,8 @@ slice_bounds-put_text-start c =
 
 pub returns-then-room : goal.returns-then-room
 returns-then-room c =
-    answer_line
-    (meets-in c.args.line.now c.args.place c.args.text.now _ _ refl c.room.ensures _ c.if-room.true c.put_text.ensures)
+    meets-in c.args.line.now c.args.place c.args.text.now _ _ refl c.room.ensures _ c.if-room.true c.put_text.ensures
 
 pub returns : goal.returns
 returns c =
-    answer_line
-    (meets-out c.args.line.now c.args.place c.args.text.now _ _ refl c.room.ensures c.if-room.false)
+    meets-out c.args.line.now c.args.place c.args.text.now _ _ refl c.room.ensures c.if-room.false
