@@ -246,7 +246,7 @@ module _ (chunk : List ℕ) (f : After) (l : f.eaten < length chunk) where
             ),
           )
 
--- from what `goes_on_lem` answered
+-- from what `goes_on` answered
 module _ (chunk : List ℕ) (f : After) (r : Bool)
     (e : r ≡ (ltb f.eaten (length chunk) && goes_on (length f.machine.sheet.bytes) f.machine.sheet.used)) where
   pub on-within : r ≡ true → f.eaten < length chunk

@@ -61,7 +61,7 @@ fn step(chunk: &[u8], buffer: &mut [u8], out: &mut [u8], f: Fed) -> Fed
 }
 
 // Is there a byte more of the chunk, and room on the sheet for the longest answer?
-fn goes_on_lem(n: usize, i: usize, total: usize, used: usize) -> bool
+fn goes_on(n: usize, i: usize, total: usize, used: usize) -> bool
     ensures { result ≡ ltb i n && goes_on total used }
 {
     if i < n {
@@ -81,7 +81,7 @@ pub fn feed(chunk: &[u8], buffer: &mut [u8], out: &mut [u8], g: Gathered) -> Fed
         used: 0,
         eaten: 0,
     };
-    while goes_on_lem(chunk.len(), f.eaten, out.len(), f.used) {
+    while goes_on(chunk.len(), f.eaten, out.len(), f.used) {
         f = step(chunk, buffer, out, f);
     }
     f
