@@ -20,14 +20,16 @@ digits_object() {
     mkdir -p "$at/crates/handed/src"
     rm -rf "$at"/crates/{outcomes,lent,digits}
     cp -r "$from"/crates/{outcomes,lent,digits} "$at/crates/"
-    printf 'outcomes:\nlent: outcomes\ndigits: outcomes lent\nhanded: digits\n' > "$at/crates.txt"
+    printf 'outcomes:\nlent: outcomes\ndigits: outcomes lent\nhanded staticlib: digits\n' > "$at/crates.txt"
     cat > "$at/crates/handed/src/lib.rt" << 'END'
 // The digit writer for C.
-#[no_mangle]
+#![tactic(auto)]
+
+#[unsafe(no_mangle)]
 pub extern "C" fn put_digits(part: &mut [u8], k: usize, n: u64) {
     digits::put_digits(part, k, n);
 }
 END
-    (cd "$at" && rt staticlib handed) > "$at.log" 2>&1 || { tail -n 20 "$at.log" >&2; return 1; }
-    under_name "$at.o" "$at/target/staticlib/libhanded.a" "put_digits=${name}_put_digits"
+    (cd "$at/crates/handed" && rt lib) > "$at.log" 2>&1 || { tail -n 20 "$at.log" >&2; return 1; }
+    under_name "$at.o" "$at/crates/handed/out/libhanded.a" "put_digits=${name}_put_digits"
 }

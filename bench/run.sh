@@ -1,7 +1,8 @@
 #!/bin/bash
 # Measures Tzaquedda on this machine and prints the results: bench/run.sh [--before COMMIT] [LINES]
 #   - labels written and read a second through the C interface, and digits of nine-digit numbers, beside plain C, in one run
-#     (bench/bench.c); with --before beside the library of that commit too, which takes as long again to be proved;
+#     (bench/bench.c); with --before beside the library of that commit too, which takes as long again to be proved
+#     (one that this Rattle reads);
 #   - queries a second of the router at 1, 16 and 256 shards, beside plain C that walks along them (bench/routes.c);
 #   - the program `line` on LINES labels (default 200000, none with 0), beside the crate vtc answering the same (compare/judge.sh).
 # Needs Rattle's kit, gcc, and what compare/judge.sh needs. Ratios are of one run, so they mean something on a busy machine too; under
@@ -20,8 +21,8 @@ earlier() {
     at=target/before-$(git rev-parse --short "$before^{commit}")
     mkdir -p "$at"
     git archive "$before" crates crates.txt include | tar -x -C "$at"
-    (cd "$at" && rt staticlib exports) > "$at.log" 2>&1 || { tail -n 20 "$at.log" >&2; exit 1; }
-    under_name target/before.o "$at/target/staticlib/libexports.a" tzq_write_label=earlier_write_label
+    (cd "$at/crates/exports_c" && rt lib) > "$at.log" 2>&1 || { tail -n 20 "$at.log" >&2; exit 1; }
+    under_name target/before.o "$at/crates/exports_c/out/libexports_c.a" tzq_write_label=earlier_write_label
     "$(compiler)" -std=c11 -O2 -Wall -Wextra -Werror -I "$at/include" -c -o target/before-label.o bench/before.c
     digits_object before "$at"
 }
@@ -49,7 +50,7 @@ labels() {
     }'
 }
 
-ours() { run target/bin/line < target/bench-line.in > target/bench-line.out; }
+ours() { run crates/line/out/line < target/bench-line.in > target/bench-line.out; }
 theirs() { "$judge" < target/bench-judge.in > target/bench-judge.out 2> /dev/null; }
 
 # the two programs, three times each in turn, after one of each that is not counted

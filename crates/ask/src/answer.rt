@@ -4,6 +4,7 @@ ghost use Rattle.std.specs.Prelude.{◌≤◌};
 use crate::{convert, lists, read, route, sheet, why, work, write};
 use asking::{Numbers, rows};
 use showing::Shown;
+use std::io;
 use streams::Gathered;
 use timecodes::{Kind, Timecode};
 
@@ -50,8 +51,14 @@ fn kept(g: Gathered, total: usize) -> usize
 }
 
 // The answer to what was gathered of a line, behind what is kept: one that the buffer could not hold is answered as one without a word.
-pub(crate) fn answer(g: Gathered, buffer: &[u8], out: &mut [u8], used: usize) -> usize {
+pub(crate) fn answer(
+    rt: &impl Print,
+    g: Gathered,
+    buffer: &[u8],
+    out: &mut [u8],
+    used: usize,
+) -> io::Result<usize> {
     let len = kept(g, buffer.len());
-    let at = sheet::with_room(out, used);
-    to_line(&buffer[0..len], out, at)
+    let at = sheet::with_room(rt, out, used)?;
+    Ok(to_line(&buffer[0..len], out, at))
 }

@@ -2,9 +2,11 @@
 // What a line is, and what it asks, is decided by streams and asking; here are the commands, the buffers, the reads and the writes.
 #![tactic(auto)]
 
-ghost use Rattle.std.specs.Prelude.{◌≡◌};
+ghost use Rattle.std.specs.Prelude.{◌≡◌, ◌≤◌, length, IfOk, OnOk};
 ghost use Rattle.streams.specs.Turns.{waiting_behind};
 
+use std::io;
+use std::io::Read;
 use streams::{Gathered, Step};
 
 mod answer;
@@ -25,76 +27,121 @@ struct Turn {
 }
 
 // The answer to a line that has ended, behind those that are kept.
-fn answered(t: Step, buffer: &[u8], out: &mut [u8], used: usize) -> usize {
+fn answered(
+    rt: &impl Print,
+    t: Step,
+    buffer: &[u8],
+    out: &mut [u8],
+    used: usize,
+) -> io::Result<usize> {
     if t.ended {
-        return answer::answer(t.gathered, buffer, out, used);
+        return answer::answer(rt, t.gathered, buffer, out, used);
     }
-    used
+    Ok(used)
 }
 
 // A chunk of input, line by line; its answers are written before the next one is read.
-fn feed(chunk: &[u8], buffer: &mut [u8], out: &mut [u8], first: Gathered) -> Gathered
-    ensures gathered { result ≡ (waiting_behind buffer.old first chunk.now).gathered }
-    ensures buffer { buffer.new ≡ (waiting_behind buffer.old first chunk.now).buffer }
+fn feed(
+    rt: &impl Print,
+    chunk: &[u8],
+    buffer: &mut [u8],
+    out: &mut [u8],
+    first: Gathered,
+) -> io::Result<Gathered>
+    ensures gathered { IfOk result (λ last. last ≡ (waiting_behind buffer.old first chunk.now).gathered) }
+    ensures buffer { OnOk result (buffer.new ≡ (waiting_behind buffer.old first chunk.now).buffer) }
 {
     let mut g = first;
     let mut used = 0;
     let mut next = 0;
     while next < chunk.len() {
         let t = streams::gather(chunk, next, buffer, g);
-        used = answered(t, buffer, out, used);
+        used = answered(rt, t, buffer, out, used)?;
         g = streams::gone_on(t);
         next = t.next;
     }
-    sheet::write(out, used);
-    g
+    sheet::write(rt, out, used)?;
+    Ok(g)
+}
+
+// How many bytes a read put at the chunk's start: none at the input's end, nor where it cannot be read.
+fn read_some(input: &mut impl Read, chunk: &mut [u8]) -> usize
+    ensures in_bounds { result ≤ length chunk.new }
+{
+    match input.read(chunk) {
+        Ok(n) => n,
+        Err(_) => 0,
+    }
 }
 
 // One read, and what came of it.
-fn one_read(buffer: &mut [u8], out: &mut [u8], g: Gathered) -> Turn {
-    let mut chunk = io::large_buffer();
-    let got = libc::read(0, &mut chunk);
-    if got <= 0 {
-        return Turn {
+fn one_read(
+    rt: &impl Print,
+    input: &mut impl Read,
+    buffer: &mut [u8],
+    out: &mut [u8],
+    g: Gathered,
+) -> io::Result<Turn> {
+    let mut chunk = [0u8; 65536];
+    let n = read_some(input, &mut chunk);
+    if n == 0 {
+        return Ok(Turn {
             gathered: g,
             more: false,
-        };
+        });
     }
-    let n = io::count(got, &chunk);
-    Turn {
-        gathered: feed(&chunk[..n], buffer, out, g),
+    Ok(Turn {
+        gathered: feed(rt, &chunk[..n], buffer, out, g)?,
         more: true,
-    }
+    })
 }
 
 // A proved loop ends: the turns are counted down from a number that no run uses up.
-fn read_all(buffer: &mut [u8], out: &mut [u8]) -> Gathered {
+fn read_all(
+    rt: &impl Print,
+    input: &mut impl Read,
+    buffer: &mut [u8],
+    out: &mut [u8],
+) -> io::Result<Gathered> {
     let mut g = Gathered::new();
     let mut turns = u64::MAX;
     while 0 < turns {
-        let t = one_read(buffer, out, g);
+        let t = one_read(rt, input, buffer, out, g)?;
         g = t.gathered;
         if !t.more {
-            return g;
+            return Ok(g);
         }
         turns -= 1;
     }
-    g
+    Ok(g)
 }
 
 // A last line without its newline counts.
-fn last_answer(buffer: &[u8], out: &mut [u8], g: Gathered) {
+fn last_answer(rt: &impl Print, buffer: &[u8], out: &mut [u8], g: Gathered) -> io::Result<()> {
     if g.is_empty() {
-        return;
+        return Ok(());
     }
-    let used = answer::answer(g, buffer, out, 0);
-    sheet::write(out, used);
+    let used = answer::answer(rt, g, buffer, out, 0)?;
+    sheet::write(rt, out, used)?;
+    Ok(())
 }
 
-// A line may have up to 8192 bytes; what comes behind them is not kept, and the line is not understood.
-fn main() {
+// All lines. One may have up to 8192 bytes; what comes behind them is not kept, and the line is not understood.
+fn answer_all(rt: &impl Print, input: &mut impl Read) -> io::Result<()> {
     let mut buffer = [0u8; 8192];
-    let mut out = io::large_buffer();
-    let g = read_all(&mut buffer, &mut out);
-    last_answer(&buffer, &mut out, g);
+    let mut out = [0u8; 65536];
+    let g = read_all(rt, input, &mut buffer, &mut out)?;
+    last_answer(rt, &buffer, &mut out, g)
+}
+
+// A reader that has gone wants no more answers: that is no failure.
+fn unless_gone(done: io::Result<()>) -> io::Result<()> {
+    match done {
+        Err(e) if e.kind() == io::ErrorKind::BrokenPipe => Ok(()),
+        other => other,
+    }
+}
+
+fn main(rt: HostRuntime) -> io::Result<()> {
+    unless_gone(answer_all(&rt, &mut rt.stdin()))
 }

@@ -3,6 +3,7 @@ ghost use Rattle.std.specs.Prelude.{◌≡◌};
 ghost use Rattle.streams.specs.Turns.{waiting_behind};
 
 use routing::{Flaw, Loaded, Loading};
+use std::io::Read;
 use streams::{Gathered, Step};
 
 // The directory as far as it has come; how many lines have; whether the last of them is bad, and why; whether the file could not be read.
@@ -148,20 +149,26 @@ fn feed(chunk: &[u8], buffer: &mut [u8], first: Gathered, before: Loads) -> Fed
     }
 }
 
-// One read, and what came of it. Behind a bad line nothing more is read.
-fn one_read(fd: i32, buffer: &mut [u8], g: Gathered, l: Loads) -> Turn {
-    let mut chunk = io::buffer();
-    let got = libc::read(fd, &mut chunk);
-    if got <= 0 {
-        let mut last = l;
-        last.unread = got < 0;
-        return Turn {
-            gathered: g,
-            loads: last,
-            more: false,
-        };
+// Nothing more comes; whether because the file could not be read.
+fn no_more(g: Gathered, l: Loads, unread: bool) -> Turn {
+    let mut last = l;
+    last.unread = unread;
+    Turn {
+        gathered: g,
+        loads: last,
+        more: false,
     }
-    let n = io::count(got, &chunk);
+}
+
+// One read, and what came of it. Behind a bad line nothing more is read.
+fn one_read(file: &mut impl Read, buffer: &mut [u8], g: Gathered, l: Loads) -> Turn {
+    let mut chunk = [0u8; 4096];
+    let Ok(n) = file.read(&mut chunk) else {
+        return no_more(g, l, true);
+    };
+    if n == 0 {
+        return no_more(g, l, false);
+    }
     let f = feed(&chunk[..n], buffer, g, l);
     let gathered = f.gathered;
     let loads = f.loads;
@@ -174,12 +181,12 @@ fn one_read(fd: i32, buffer: &mut [u8], g: Gathered, l: Loads) -> Turn {
 }
 
 // A proved loop ends: the turns are counted down from a number that no run uses up.
-fn read_all(fd: i32, buffer: &mut [u8]) -> Fed {
+fn read_all(file: &mut impl Read, buffer: &mut [u8]) -> Fed {
     let mut g = Gathered::new();
     let mut l = no_line();
     let mut turns = u64::MAX;
     while 0 < turns {
-        let t = one_read(fd, buffer, g, l);
+        let t = one_read(file, buffer, g, l);
         g = t.gathered;
         l = t.loads;
         if !t.more {
@@ -197,9 +204,9 @@ fn read_all(fd: i32, buffer: &mut [u8]) -> Fed {
 }
 
 // All lines; a last one without its newline counts.
-pub(crate) fn load_all(fd: i32) -> Loads {
-    let mut buffer = io::buffer();
-    let f = read_all(fd, &mut buffer);
+pub(crate) fn load_all(file: &mut impl Read) -> Loads {
+    let mut buffer = [0u8; 4096];
+    let f = read_all(file, &mut buffer);
     let g = f.gathered;
     let l = f.loads;
     if g.is_empty() {

@@ -5,79 +5,104 @@
 
 use file::Loads;
 use routing::{Flaw, Loading};
+use std::env::{Env, FillError};
+use std::io::Read;
+use std::rt::Files;
+use std::{fs, io};
 
 mod file;
 mod queries;
 mod sheet;
 
 // How to ask, to standard error.
-fn put_usage() {
-    io::write_all(
-        2,
+fn put_usage(err: &impl Print) -> io::Result<()> {
+    err.write_all(
         b"usage: route DIRECTORY  (a file: a line with rate and reel, then first frame and end of each shard, a line each; one query a line from standard input: LENGTH LABEL)\n",
-    );
+    )
 }
 
 // A file that cannot be read, to standard error.
-fn put_unread(path: &[u8]) {
-    io::write_all(2, b"cannot read ");
-    io::write_all(2, path);
-    io::write_all(2, b"\n");
+fn put_unread(err: &impl Print, path: &[u8]) -> io::Result<()> {
+    err.write_all(b"cannot read ")?;
+    err.write_all(path)?;
+    err.write_all(b"\n")
 }
 
 // A bad line of the file, by its number, to standard error.
-fn put_bad(line: u64, flaw: Flaw) {
-    let mut out = io::buffer();
+fn put_bad(err: &impl Print, line: u64, flaw: Flaw) -> io::Result<()> {
+    let mut out = [0u8; 4096];
     let used = routing::tell_flaw(&mut out, 0, line, flaw);
     if used <= out.len() {
-        io::write_all(2, &out[0..used]);
+        err.write_all(&out[0..used])?;
     }
+    Ok(())
 }
 
 // The queries, asked of the directory that was loaded. (That it has more shards than the lists cannot be.)
-fn answer(state: Loading, firsts: &[u64], ends: &[u64]) {
+fn answer(
+    rt: &impl Print,
+    input: &mut impl Read,
+    state: Loading,
+    firsts: &[u64],
+    ends: &[u64],
+) -> io::Result<()> {
     let n = state.shards;
     if firsts.len() < n {
-        return;
+        return Ok(());
     }
     if ends.len() < n {
-        return;
+        return Ok(());
     }
     let d = router::tested(state.rate, &firsts[0..n], &ends[0..n]);
-    queries::answer_all(d, state.reel);
+    queries::answer_all(rt, input, d, state.reel)
 }
 
 // The directory, where no line of it is bad and it has a rate and a reel.
-fn answer_whole(l: Loads) {
+fn answer_whole(
+    rt: &impl Print,
+    err: &impl Print,
+    input: &mut impl Read,
+    l: Loads,
+) -> io::Result<()> {
     let state = l.state;
     let flaw = l.flaw;
     let firsts = l.firsts;
     let ends = l.ends;
     if l.bad {
-        put_bad(l.lines, flaw);
-        return;
+        return put_bad(err, l.lines, flaw);
     }
     if !state.headed {
-        io::write_all(2, b"no line with rate and reel\n");
-        return;
+        return err.write_all(b"no line with rate and reel\n");
     }
-    answer(state, &firsts, &ends);
+    answer(rt, input, state, &firsts, &ends)
+}
+
+// The lines of the file, where it can be opened and read. A path is text: one that is not UTF-8 names no file that can be opened.
+fn loaded(rt: &impl Files, path: &[u8]) -> Option<Loads> {
+    let Ok(text) = str::from_utf8(path) else {
+        return None;
+    };
+    let Ok(mut file) = fs::open(rt, text) else {
+        return None;
+    };
+    let l = file::load_all(&mut file);
+    if l.unread {
+        return None;
+    }
+    Some(l)
 }
 
 // The file, opened and read.
-fn answer_file(path: &[u8]) {
-    let fd = os::open_read(path);
-    if fd < 0 {
-        put_unread(path);
-        return;
+fn answer_file(
+    rt: &(impl Files + Print),
+    err: &impl Print,
+    input: &mut impl Read,
+    path: &[u8],
+) -> io::Result<()> {
+    match loaded(rt, path) {
+        None => put_unread(err, path),
+        Some(l) => answer_whole(rt, err, input, l),
     }
-    let l = file::load_all(fd);
-    libc::close(fd);
-    if l.unread {
-        put_unread(path);
-        return;
-    }
-    answer_whole(l);
 }
 
 // Is this an option, of which there are none?
@@ -89,24 +114,51 @@ fn is_option(word: &[u8]) -> bool {
 }
 
 // The one argument.
-fn answer_word(word: &[u8]) {
+fn answer_word(
+    rt: &(impl Files + Print),
+    err: &impl Print,
+    input: &mut impl Read,
+    word: &[u8],
+) -> io::Result<()> {
     if is_option(word) {
-        put_usage();
-        return;
+        return put_usage(err);
     }
-    answer_file(word);
+    answer_file(rt, err, input, word)
 }
 
-fn main() {
-    if os::arg_count() != 2 {
-        put_usage();
-        return;
+// Is there such an argument, whatever its length? (That of 0 is the program's name.)
+fn has_arg(rt: &impl Env, i: usize) -> bool {
+    let mut word = [0u8; 1];
+    match rt.arg(i, &mut word) {
+        Ok(_) => true,
+        Err(FillError::TooLong) => true,
+        Err(FillError::NotPresent) => false,
     }
-    let mut word = io::buffer();
-    let n = os::arg(1, &mut word);
-    if os::errno() != 0 {
-        put_usage();
-        return;
+}
+
+// The queries of standard input, where there is one argument.
+fn run(rt: &(impl Env + Files + Print), err: &impl Print, input: &mut impl Read) -> io::Result<()> {
+    if !has_arg(rt, 1) {
+        return put_usage(err);
     }
-    answer_word(&word[..n]);
+    if has_arg(rt, 2) {
+        return put_usage(err);
+    }
+    let mut word = [0u8; 4096];
+    match rt.arg(1, &mut word) {
+        Ok(n) => answer_word(rt, err, input, &word[..n]),
+        Err(_) => put_usage(err),
+    }
+}
+
+// A reader that has gone wants no more answers: that is no failure.
+fn unless_gone(done: io::Result<()>) -> io::Result<()> {
+    match done {
+        Err(e) if e.kind() == io::ErrorKind::BrokenPipe => Ok(()),
+        other => other,
+    }
+}
+
+fn main(rt: HostRuntime) -> io::Result<()> {
+    unless_gone(run(&rt, &rt.stderr(), &mut rt.stdin()))
 }

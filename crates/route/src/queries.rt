@@ -1,9 +1,11 @@
 // The lines of standard input, each a query of one directory.
-ghost use Rattle.std.specs.Prelude.{◌≡◌};
+ghost use Rattle.std.specs.Prelude.{◌≡◌, ◌≤◌, length, IfOk, OnOk};
 ghost use Rattle.streams.specs.Turns.{waiting_behind};
 
 use crate::sheet;
 use router::Directory;
+use std::io;
+use std::io::Read;
 use streams::{Gathered, Step};
 
 // What is gathered of the next line, and whether more may come.
@@ -15,94 +17,134 @@ struct Turn {
 
 // The answer to a line. (That more is gathered than the buffer holds cannot be.)
 fn answer(
+    rt: &impl Print,
     g: Gathered,
     d: Directory,
     reel: u64,
     buffer: &[u8],
     out: &mut [u8],
     used: usize,
-) -> usize {
-    let u = sheet::with_room(out, used);
+) -> io::Result<usize> {
+    let u = sheet::with_room(rt, out, used)?;
     let n = g.len;
     if buffer.len() < n {
-        return u;
+        return Ok(u);
     }
-    routing::answer(out, u, d, reel, &buffer[0..n], g.over)
+    Ok(routing::answer(out, u, d, reel, &buffer[0..n], g.over))
 }
 
 // The answer to a line that has ended, behind those that are kept.
-fn answered(t: Step, d: Directory, reel: u64, buffer: &[u8], out: &mut [u8], used: usize) -> usize {
+fn answered(
+    rt: &impl Print,
+    t: Step,
+    d: Directory,
+    reel: u64,
+    buffer: &[u8],
+    out: &mut [u8],
+    used: usize,
+) -> io::Result<usize> {
     if t.ended {
-        return answer(t.gathered, d, reel, buffer, out, used);
+        return answer(rt, t.gathered, d, reel, buffer, out, used);
     }
-    used
+    Ok(used)
 }
 
 // A chunk of input, line by line; its answers are written before the next one is read.
 fn feed(
+    rt: &impl Print,
     chunk: &[u8],
     d: Directory,
     reel: u64,
     buffer: &mut [u8],
     out: &mut [u8],
     first: Gathered,
-) -> Gathered
-    ensures gathered { result ≡ (waiting_behind buffer.old first chunk.now).gathered }
-    ensures buffer { buffer.new ≡ (waiting_behind buffer.old first chunk.now).buffer }
+) -> io::Result<Gathered>
+    ensures gathered { IfOk result (λ last. last ≡ (waiting_behind buffer.old first chunk.now).gathered) }
+    ensures buffer { OnOk result (buffer.new ≡ (waiting_behind buffer.old first chunk.now).buffer) }
 {
     let mut g = first;
     let mut used = 0;
     let mut next = 0;
     while next < chunk.len() {
         let t = streams::gather(chunk, next, buffer, g);
-        used = answered(t, d, reel, buffer, out, used);
+        used = answered(rt, t, d, reel, buffer, out, used)?;
         g = streams::gone_on(t);
         next = t.next;
     }
-    sheet::write(out, used);
-    g
+    sheet::write(rt, out, used)?;
+    Ok(g)
+}
+
+// How many bytes a read put at the chunk's start: none at the input's end, nor where it cannot be read.
+fn read_some(input: &mut impl Read, chunk: &mut [u8]) -> usize
+    ensures in_bounds { result ≤ length chunk.new }
+{
+    match input.read(chunk) {
+        Ok(n) => n,
+        Err(_) => 0,
+    }
 }
 
 // One read, and what came of it.
-fn one_read(d: Directory, reel: u64, buffer: &mut [u8], out: &mut [u8], g: Gathered) -> Turn {
-    let mut chunk = io::large_buffer();
-    let got = libc::read(0, &mut chunk);
-    if got <= 0 {
-        return Turn {
+fn one_read(
+    rt: &impl Print,
+    input: &mut impl Read,
+    d: Directory,
+    reel: u64,
+    buffer: &mut [u8],
+    out: &mut [u8],
+    g: Gathered,
+) -> io::Result<Turn> {
+    let mut chunk = [0u8; 65536];
+    let n = read_some(input, &mut chunk);
+    if n == 0 {
+        return Ok(Turn {
             gathered: g,
             more: false,
-        };
+        });
     }
-    let n = io::count(got, &chunk);
-    Turn {
-        gathered: feed(&chunk[..n], d, reel, buffer, out, g),
+    Ok(Turn {
+        gathered: feed(rt, &chunk[..n], d, reel, buffer, out, g)?,
         more: true,
-    }
+    })
 }
 
 // A proved loop ends: the turns are counted down from a number that no run uses up.
-fn read_all(d: Directory, reel: u64, buffer: &mut [u8], out: &mut [u8]) -> Gathered {
+fn read_all(
+    rt: &impl Print,
+    input: &mut impl Read,
+    d: Directory,
+    reel: u64,
+    buffer: &mut [u8],
+    out: &mut [u8],
+) -> io::Result<Gathered> {
     let mut g = Gathered::new();
     let mut turns = u64::MAX;
     while 0 < turns {
-        let t = one_read(d, reel, buffer, out, g);
+        let t = one_read(rt, input, d, reel, buffer, out, g)?;
         g = t.gathered;
         if !t.more {
-            return g;
+            return Ok(g);
         }
         turns -= 1;
     }
-    g
+    Ok(g)
 }
 
 // All lines; a last one without its newline counts.
-pub(crate) fn answer_all(d: Directory, reel: u64) {
-    let mut buffer = io::buffer();
-    let mut out = io::large_buffer();
-    let g = read_all(d, reel, &mut buffer, &mut out);
+pub(crate) fn answer_all(
+    rt: &impl Print,
+    input: &mut impl Read,
+    d: Directory,
+    reel: u64,
+) -> io::Result<()> {
+    let mut buffer = [0u8; 4096];
+    let mut out = [0u8; 65536];
+    let g = read_all(rt, input, d, reel, &mut buffer, &mut out)?;
     if g.is_empty() {
-        return;
+        return Ok(());
     }
-    let used = answer(g, d, reel, &buffer, &mut out, 0);
-    sheet::write(&out, used);
+    let used = answer(rt, g, d, reel, &buffer, &mut out, 0)?;
+    sheet::write(rt, &out, used)?;
+    Ok(())
 }
