@@ -1,7 +1,7 @@
 pub mod Lines
 pub mod Cases
 pub mod Telling
-pub mod Words
+pub mod WordLaws
 pub mod Asked
 pub mod Passing
 pub mod Taking

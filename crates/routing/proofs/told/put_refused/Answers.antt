@@ -10,13 +10,13 @@ use Rattle.routing.proofs.told.put_refused.Goals as goal
 
 pub slice_bounds-put_reason-end : goal.slice_bounds-put_reason-end
 slice_bounds-put_reason-end c =
-    phrase-within c.args.e.number _ refl _ c.write_phrase.ensures.0 _ c.n.given.1 _ c.write_phrase.ensures.1
+    phrase-within c.args.e.number _ refl _ c.write_phrase.ensures.answer _ c.in-Length.is _ c.write_phrase.ensures.line
 
 pub returns-in-Length : goal.returns-in-Length
 returns-in-Length c =
     answer_sheet
     (pieces-same (sheet c.args.out.now c.args.used) _ _ _ _
-    (ap (reason_pieces c.args.e) (phrase-there c.args.e.number _ refl _ c.write_phrase.ensures.0 _ c.n.given.1 _ c.write_phrase.ensures.1))
+    (ap (reason_pieces c.args.e) (phrase-there c.args.e.number _ refl _ c.write_phrase.ensures.answer _ c.in-Length.is _ c.write_phrase.ensures.line))
     (c.put_reason.ensures.answer, c.put_reason.ensures.sheet))
 
 pub returns-in-Refused : goal.returns-in-Refused

@@ -6,7 +6,7 @@ use Prim.Native.Nat.{◌+◌}
 use native.Mathlib.Omega.{arith}
 use borrow.Author.Tests.{not-true, not-false}
 use Rattle.asking.proofs.NumberLaws.{stands-within}
-use Rattle.telling.proofs.Words.{number-within, format-none, format-other, format-some}
+use Rattle.telling.proofs.WordLaws.{number-within, format-none, format-other, format-some}
 use Rattle.telling.proofs.questions.format_at.Goals as goal
 
 pub returns-then-not-is_number : goal.returns-then-not-is_number

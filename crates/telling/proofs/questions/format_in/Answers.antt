@@ -6,7 +6,7 @@ use native.Mathlib.Omega.{arith}
 use lib.Seq.{drop-drop}
 use Rattle.laws.specs.Spelt.{spelt}
 use Rattle.telling.specs.Question.{format_at}
-use Rattle.telling.proofs.Words.{word-within, format-stated, format-no-word, format-word}
+use Rattle.telling.proofs.WordLaws.{word-within, format-stated, format-no-word, format-word}
 use Rattle.telling.proofs.questions.format_in.Goals as goal
 
 pub returns-then-o : goal.returns-then-o

@@ -1,6 +1,6 @@
 -- `telling::questions::is_number` meets its contract: by the test.
 -- Assumes nothing.
-use Rattle.telling.proofs.Words.{number-empty, number-nine}
+use Rattle.telling.proofs.WordLaws.{number-empty, number-nine}
 use Rattle.telling.proofs.questions.is_number.Goals as goal
 
 pub returns-then-run-eq0 : goal.returns-then-run-eq0

@@ -1,7 +1,7 @@
 -- `telling::questions::one_of` meets its contract: by the tests.
 -- Assumes nothing.
 use mathlib.Core.Path.{sym, ◌∙◌}
-use Rattle.telling.proofs.Words.{word-short, word-long, word-neither}
+use Rattle.telling.proofs.WordLaws.{word-short, word-long, word-neither}
 use Rattle.telling.proofs.questions.one_of.Goals as goal
 
 pub returns-then-word_stands : goal.returns-then-word_stands

@@ -3,7 +3,7 @@
 use mathlib.Core.Path.{◌∙◌}
 use native.Mathlib.Omega.{arith}
 use Rattle.laws.specs.Spelt.{spelt}
-use Rattle.telling.proofs.Words.{word-within, option-position, option-no-word, option-word}
+use Rattle.telling.proofs.WordLaws.{word-within, option-position, option-no-word, option-word}
 use Rattle.telling.proofs.questions.option.Goals as goal
 
 pub returns-then-o : goal.returns-then-o

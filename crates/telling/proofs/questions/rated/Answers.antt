@@ -4,7 +4,7 @@ use Rattle.std.proofs.lemmas.Bool.{not_from_false, not_from_true}
 use mathlib.Core.Path.{sym, ◌∙◌}
 use native.Mathlib.Omega.{arith}
 use borrow.Author.Tests.{not-true, not-false}
-use Rattle.telling.proofs.Words.{number-within, rate-none, rate-ends, rate-text, rate-other}
+use Rattle.telling.proofs.WordLaws.{number-within, rate-none, rate-ends, rate-text, rate-other}
 use Rattle.telling.proofs.questions.rated.Goals as goal
 
 pub returns-then-not-is_number : goal.returns-then-not-is_number

@@ -2,7 +2,7 @@
 -- Assumes nothing.
 use mathlib.Core.Path.{ap, ◌∙◌}
 use Rattle.telling.specs.Question.{option_of, rated_of}
-use Rattle.telling.proofs.Words.{question-is}
+use Rattle.telling.proofs.WordLaws.{question-is}
 use Rattle.telling.proofs.questions.understand.Goals as goal
 
 pub returns : goal.returns
