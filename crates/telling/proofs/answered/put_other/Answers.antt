@@ -14,7 +14,7 @@ pub returns : goal.returns
 returns c =
     answer_sheet
     (let s = sheet c.args.out.now c.args.used in
-    let text = spelt "not understood: c.args question is [-p] [-f FORMAT] RATE TEXT" ++ line_end in
+    let text = spelt "not understood: a question is [-p] [-f FORMAT] RATE TEXT" ++ line_end in
     puts-same s _ _ _ _ (other-is c.args.line.now)
     (on-pieces s (shown_pieces c.args.line.now) (text ∷ []) _ _ _ _ (c.put_shown-a.ensures.answer, c.put_shown-a.ensures.sheet)
     (on-piece _ text [] _ _ _ _ (c.put_text.ensures.answer, c.put_text.ensures.sheet) (no_more _ _))))

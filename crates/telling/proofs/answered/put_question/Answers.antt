@@ -8,14 +8,13 @@ use Rattle.telling.specs.Answered.{other_pieces, asked_pieces}
 use Rattle.streams.proofs.Pieces.{pieces-same}
 use Rattle.outcomes.proofs.Clauses.{answer_sheet}
 use Rattle.telling.proofs.answered.put_question.Goals as goal
-use Rattle.telling.proofs.answered.put_question.Goals.{Else-over, Then-over}
 
 pub returns-then-over : goal.returns-then-over
 returns-then-over c =
     answer_sheet
-    (pieces-same (sheet c.args.out.now c.args.used) _ _ _ _ (sym (ap (λ (goal.at.returns-then-over c).Then-over. cond (goal.at.returns-then-over c).Then-over (other_pieces c.args.line.now) (asked_pieces c.args.line.now (question_of c.args.line.now))) c.if-over.true)) (c.put_other.ensures.answer, c.put_other.ensures.sheet))
+    (pieces-same (sheet c.args.out.now c.args.used) _ _ _ _ (sym (ap (λ t'. cond t' (other_pieces c.args.line.now) (asked_pieces c.args.line.now (question_of c.args.line.now))) c.if-over.true)) (c.put_other.ensures.answer, c.put_other.ensures.sheet))
 
 pub returns : goal.returns
 returns c =
     answer_sheet
-    (pieces-same (sheet c.args.out.now c.args.used) _ _ _ _ (sym (ap (λ (goal.at.returns c).Else-over. cond (goal.at.returns c).Else-over (other_pieces c.args.line.now) (asked_pieces c.args.line.now (question_of c.args.line.now))) c.if-over.false)) (c.put_asked.ensures.answer, c.put_asked.ensures.sheet))
+    (pieces-same (sheet c.args.out.now c.args.used) _ _ _ _ (sym (ap (λ t'. cond t' (other_pieces c.args.line.now) (asked_pieces c.args.line.now (question_of c.args.line.now))) c.if-over.false)) (c.put_asked.ensures.answer, c.put_asked.ensures.sheet))

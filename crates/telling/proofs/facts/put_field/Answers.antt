@@ -6,39 +6,38 @@ use Rattle.telling.specs.Facts.{field_word}
 use Rattle.streams.proofs.Pieces.{leaves-same}
 use Rattle.outcomes.proofs.Clauses.{answer_sheet}
 use Rattle.telling.proofs.facts.put_field.Goals as goal
-use Rattle.telling.proofs.facts.put_field.Goals.{After-slice_known-1}
 
 pub returns-in-Count : goal.returns-in-Count
 returns-in-Count c =
     answer_sheet
-    (leaves-same _ _ _ _ (sym (ap (λ (goal.at.returns-in-Count c).After-slice_known-1. put_on (sheet c.args.out.now c.args.used) (field_word (goal.at.returns-in-Count c).After-slice_known-1)) c.in-Count.is)) (c.put_text.ensures.answer, c.put_text.ensures.sheet))
+    (leaves-same _ _ _ _ (sym (ap (λ z'. put_on (sheet c.args.out.now c.args.used) (field_word z')) c.in-Count.is)) (c.put_text.ensures.answer, c.put_text.ensures.sheet))
 
 pub returns-in-Sign : goal.returns-in-Sign
 returns-in-Sign c =
     answer_sheet
-    (leaves-same _ _ _ _ (sym (ap (λ (goal.at.returns-in-Sign c).After-slice_known-1. put_on (sheet c.args.out.now c.args.used) (field_word (goal.at.returns-in-Sign c).After-slice_known-1)) c.in-Sign.is)) (c.put_text-in-Sign.ensures.answer, c.put_text-in-Sign.ensures.sheet))
+    (leaves-same _ _ _ _ (sym (ap (λ z'. put_on (sheet c.args.out.now c.args.used) (field_word z')) c.in-Sign.is)) (c.put_text-in-Sign.ensures.answer, c.put_text-in-Sign.ensures.sheet))
 
 pub returns-in-Hours : goal.returns-in-Hours
 returns-in-Hours c =
     answer_sheet
-    (leaves-same _ _ _ _ (sym (ap (λ (goal.at.returns-in-Hours c).After-slice_known-1. put_on (sheet c.args.out.now c.args.used) (field_word (goal.at.returns-in-Hours c).After-slice_known-1)) c.in-Hours.is)) (c.put_text-in-Hours.ensures.answer, c.put_text-in-Hours.ensures.sheet))
+    (leaves-same _ _ _ _ (sym (ap (λ z'. put_on (sheet c.args.out.now c.args.used) (field_word z')) c.in-Hours.is)) (c.put_text-in-Hours.ensures.answer, c.put_text-in-Hours.ensures.sheet))
 
 pub returns-in-Minutes : goal.returns-in-Minutes
 returns-in-Minutes c =
     answer_sheet
-    (leaves-same _ _ _ _ (sym (ap (λ (goal.at.returns-in-Minutes c).After-slice_known-1. put_on (sheet c.args.out.now c.args.used) (field_word (goal.at.returns-in-Minutes c).After-slice_known-1)) c.in-Minutes.is)) (c.put_text-in-Minutes.ensures.answer, c.put_text-in-Minutes.ensures.sheet))
+    (leaves-same _ _ _ _ (sym (ap (λ z'. put_on (sheet c.args.out.now c.args.used) (field_word z')) c.in-Minutes.is)) (c.put_text-in-Minutes.ensures.answer, c.put_text-in-Minutes.ensures.sheet))
 
 pub returns-in-Seconds : goal.returns-in-Seconds
 returns-in-Seconds c =
     answer_sheet
-    (leaves-same _ _ _ _ (sym (ap (λ (goal.at.returns-in-Seconds c).After-slice_known-1. put_on (sheet c.args.out.now c.args.used) (field_word (goal.at.returns-in-Seconds c).After-slice_known-1)) c.in-Seconds.is)) (c.put_text-in-Seconds.ensures.answer, c.put_text-in-Seconds.ensures.sheet))
+    (leaves-same _ _ _ _ (sym (ap (λ z'. put_on (sheet c.args.out.now c.args.used) (field_word z')) c.in-Seconds.is)) (c.put_text-in-Seconds.ensures.answer, c.put_text-in-Seconds.ensures.sheet))
 
 pub returns-in-Frames : goal.returns-in-Frames
 returns-in-Frames c =
     answer_sheet
-    (leaves-same _ _ _ _ (sym (ap (λ (goal.at.returns-in-Frames c).After-slice_known-1. put_on (sheet c.args.out.now c.args.used) (field_word (goal.at.returns-in-Frames c).After-slice_known-1)) c.in-Frames.is)) (c.put_text-in-Frames.ensures.answer, c.put_text-in-Frames.ensures.sheet))
+    (leaves-same _ _ _ _ (sym (ap (λ z'. put_on (sheet c.args.out.now c.args.used) (field_word z')) c.in-Frames.is)) (c.put_text-in-Frames.ensures.answer, c.put_text-in-Frames.ensures.sheet))
 
 pub returns-in-Marker : goal.returns-in-Marker
 returns-in-Marker c =
     answer_sheet
-    (leaves-same _ _ _ _ (sym (ap (λ (goal.at.returns-in-Marker c).After-slice_known-1. put_on (sheet c.args.out.now c.args.used) (field_word (goal.at.returns-in-Marker c).After-slice_known-1)) c.in-Marker.is)) (c.put_text-in-Marker.ensures.answer, c.put_text-in-Marker.ensures.sheet))
+    (leaves-same _ _ _ _ (sym (ap (λ z'. put_on (sheet c.args.out.now c.args.used) (field_word z')) c.in-Marker.is)) (c.put_text-in-Marker.ensures.answer, c.put_text-in-Marker.ensures.sheet))

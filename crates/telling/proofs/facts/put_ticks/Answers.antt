@@ -9,7 +9,7 @@ use Rattle.streams.proofs.Pieces.{leaves-same}
 use borrow.Author.Rules.{rules}
 use Rattle.outcomes.proofs.Clauses.{answer_sheet}
 use Rattle.telling.proofs.facts.put_ticks.Goals as goal
-use Rattle.telling.proofs.facts.put_ticks.Goals.{After-slice_known-1, In-Ticks, Start}
+use Rattle.telling.proofs.facts.put_ticks.Goals.{In-Ticks}
 
 -- the number, read back
 back : (c : In-Ticks) → to_z w64 (of_z w64 c.in-Ticks.z) ≡ c.in-Ticks.z
@@ -21,11 +21,11 @@ returns-in-Ticks c =
     answer_sheet
     (let s = sheet c.args.out.now c.args.used in
     leaves-same _ _ _ _
-    (ap (λ x. put_on s (count_text x)) (back (goal.at.returns-in-Ticks c).In-Ticks) ∙ ap (λ (goal.at.returns-in-Ticks c).Start. put_on s (ticks_text (goal.at.returns-in-Ticks c).Start)) (sym c.in-Ticks.is ∙ c.premiere_ticks.ensures))
+    (ap (λ x. put_on s (count_text x)) (back (goal.at.returns-in-Ticks c).In-Ticks) ∙ ap (λ z'. put_on s (ticks_text z')) (sym c.in-Ticks.is ∙ c.premiere_ticks.ensures))
     (c.put_count.ensures.answer, c.put_count.ensures.sheet))
 
 pub returns-in-Refused : goal.returns-in-Refused
 returns-in-Refused c =
     answer_sheet
-    (leaves-same _ _ _ _ (ap (λ (goal.at.returns-in-Refused c).After-slice_known-1. put_on (sheet c.args.out.now c.args.used) (ticks_text (goal.at.returns-in-Refused c).After-slice_known-1)) (sym c.in-Refused.is ∙ c.premiere_ticks.ensures))
+    (leaves-same _ _ _ _ (ap (λ z'. put_on (sheet c.args.out.now c.args.used) (ticks_text z')) (sym c.in-Refused.is ∙ c.premiere_ticks.ensures))
     (c.put_text.ensures.answer, c.put_text.ensures.sheet))
