@@ -1,3 +1,4 @@
+pub mod MinutesLaws
 pub mod Entries
 pub mod Statements
 pub mod Determined

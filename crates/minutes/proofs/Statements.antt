@@ -9,7 +9,7 @@ use lib.Dec.{eqb}
 use Rattle.labels.specs.Label.{label_count}
 use Rattle.labels.specs.LabelLaws.{kept-tenth, kept_frame, all-dropped, count-by-minutes}
 use Rattle.minutes.specs.Minutes.{minute_start}
-use Rattle.minutes.specs.MinutesLaws.{start-closed}
+use Rattle.minutes.proofs.MinutesLaws.{start-closed}
 use Rattle.minutes.specs.Statements.{FirstLabel, FirstOfMinute, ListedEntries}
 
 -- the count of the label of second 0 and frames f of a minute

@@ -1,3 +1,2 @@
 pub mod Minutes
-pub mod MinutesLaws
 pub mod Statements

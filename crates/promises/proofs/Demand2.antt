@@ -24,7 +24,8 @@ use Rattle.reading.specs.declared.Read.{Read}
 use Rattle.reading.specs.declared.Read.TheVariants.{Label, Refused}
 use Rattle.reading.specs.Answer.{timecode_of}
 use Rattle.reading.specs.Reading.{label_read}
-use Rattle.reading.specs.ReadingLaws.{label-dropped, label-within}
+use Rattle.reading.specs.ReadingLaws.{label-dropped}
+use Rattle.reading.proofs.ByShape.{label-within}
 use Rattle.reading.specs.For.{settled_read, is_label_of}
 use Rattle.written.specs.declared.Written.TheVariants.{Length}
 use Rattle.written.specs.Written.{Text, answer_to, line_to}

@@ -17,9 +17,9 @@ use Rattle.footage_scan.specs.Footage.{footage_scan}
 use Rattle.reading.specs.declared.Stated.TheVariants.{Nothing}
 use Rattle.reading.specs.Shaped.{footage_shaped, label_or}
 use Rattle.reading.specs.Reading.{label_read, read_shaped, read_text}
-use Rattle.reading.specs.ReadingLaws.{read-shaped}
+use Rattle.reading.proofs.ByShape.{read-shaped, for-shaped}
 use Rattle.reading.specs.For.{settled_read, is_label_of, shaped_for, read_for}
-use Rattle.reading.specs.ForLaws.{for-shaped, label_of}
+use Rattle.reading.specs.ForLaws.{label_of}
 use Rattle.written.specs.Parts.{sign_text}
 
 -- a sign written in front is a sign in front

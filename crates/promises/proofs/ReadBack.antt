@@ -27,7 +27,7 @@ use Rattle.reading.specs.declared.Stated.{Stated}
 use Rattle.reading.specs.declared.Stated.TheVariants.{Nothing, Format}
 use Rattle.reading.specs.Shaped.{format_from, format_for}
 use Rattle.reading.specs.Reading.{read_text}
-use Rattle.reading.specs.ReadingLaws.{label-within}
+use Rattle.reading.proofs.ByShape.{label-within}
 use Rattle.reading.specs.Statements.{RateAndFormat}
 use Rattle.label_writer.specs.Sections.{label_fields}
 use Rattle.label_writer.specs.LabelText.{frames_mark, label_text}

@@ -17,7 +17,8 @@ use Rattle.reading.specs.declared.Read.TheVariants.{Refused}
 use Rattle.reading.specs.Answer.{as_label, as_footage}
 use Rattle.reading.specs.Shaped.{format_for, Shaped, shape_of}
 use Rattle.reading.specs.Reading.{label_read, takes_perf, footage_read, read_shaped, read_text}
-use Rattle.reading.specs.ReadingLaws.{label-dropped, label_kept, footage-marked, footage-off, footage-on, read-shaped}
+use Rattle.reading.specs.ReadingLaws.{label-dropped, footage-marked, footage-off, footage-on}
+use Rattle.reading.proofs.ByShape.{label_kept, read-shaped}
 use Rattle.reading.specs.Statements.{RateAndFormat, HasShape, FootageText, PerfRefused, InFormat, FilmRefused, LabelText, DroppedText, LabelCount, FootageCount}
 use Rattle.reading.proofs.Shapes.{shape-label, shape-footage, shape-long, long-place}
 use Rattle.reading.proofs.FourKinds.{shape-none}

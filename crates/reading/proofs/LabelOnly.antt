@@ -29,7 +29,8 @@ use Rattle.reading.specs.Answer.{number_of}
 use Rattle.reading.specs.Shaped.{Shaped, label, refused, label_or, footage_shaped, shape_of, label_only}
 use Rattle.reading.specs.ReadingLaws.{label-dropped}
 use Rattle.reading.specs.For.{settled_read, is_label_of, shaped_for, read_by, read_for, label_for}
-use Rattle.reading.specs.ForLaws.{label-not-of, label_of, refused-for, by-no-rate, by-shaped, read-by-shape}
+use Rattle.reading.specs.ForLaws.{label-not-of, label_of, refused-for, by-no-rate, by-shaped}
+use Rattle.reading.proofs.ByShape.{read-by-shape}
 use Rattle.reading.specs.Statements.{RateAndFormat, LabelText}
 use Rattle.reading.specs.Positions.{DayText}
 use Rattle.reading.specs.LabelOnly.{LabelNoRate, LabelAsRead, LabelNone, LabelPosition, LabelsOwn, LabelOrOwn}

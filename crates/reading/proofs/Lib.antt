@@ -1,3 +1,5 @@
+pub mod ByShape
+pub mod TakenLaws
 pub mod Filmed
 pub mod Scans
 pub mod Shapes

@@ -29,9 +29,9 @@ use Rattle.reading.specs.declared.Read.{Read}
 use Rattle.reading.specs.declared.Read.TheVariants.{Label, Footage, Refused}
 use Rattle.reading.specs.Answer.{number_of, timecode_of}
 use Rattle.reading.specs.Reading.{read_text}
-use Rattle.reading.specs.ReadingLaws.{label-within}
+use Rattle.reading.proofs.ByShape.{label-within, read_length, for-shaped}
 use Rattle.reading.specs.For.{settled_read, is_label_of, shaped_for, read_for}
-use Rattle.reading.specs.ForLaws.{label_of, read_length, for-no-rate, for-shaped}
+use Rattle.reading.specs.ForLaws.{label_of, for-no-rate}
 use Rattle.reading.specs.Statements.{RateAndFormat, LabelText, LabelCount, FootageCount}
 use Rattle.reading.specs.Positions.{StrictLabel, DayText, PositionLabel, DayFootage, PositionFootage, ReadKind}
 use Rattle.reading.proofs.Told.{Told, told}

@@ -21,9 +21,10 @@ use Rattle.reading.specs.declared.Read.TheVariants.{Label, Footage, Refused}
 use Rattle.reading.specs.Answer.{number_of, place_of}
 use Rattle.reading.specs.Shaped.{is_stated, Shaped, label, shape_of}
 use Rattle.reading.specs.Reading.{read_shaped, read_text}
-use Rattle.reading.specs.ReadingLaws.{no_rate, no-format, read-shaped}
+use Rattle.reading.specs.ReadingLaws.{no_rate, no-format}
+use Rattle.reading.proofs.ByShape.{read-shaped, read_length, for-shaped}
 use Rattle.reading.specs.For.{settled_read, is_label_of, shaped_for, read_for}
-use Rattle.reading.specs.ForLaws.{label-not-of, label_of, read_length, for-no-rate, for-no-format, for-shaped}
+use Rattle.reading.specs.ForLaws.{label-not-of, label_of, for-no-rate, for-no-format}
 use Rattle.reading.specs.Statements.{RateAndFormat, LabelText}
 use Rattle.reading.specs.Positions.{LengthRead, StrictLabel, NotStrictText, RefusedFourteen, PlaceFourteen, PositionElse}
 use Rattle.scanner.proofs.Justified.{justified-length}

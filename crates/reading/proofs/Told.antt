@@ -28,7 +28,8 @@ use Rattle.reading.specs.declared.Read.TheVariants.{Label, Footage, Refused}
 use Rattle.reading.specs.Answer.{number_of, place_of, as_label, as_footage}
 use Rattle.reading.specs.Shaped.{is_stated, format_for, Shaped, shape_of}
 use Rattle.reading.specs.Reading.{label_read, takes_perf, footage_frames, footage_read, read_shaped, read_text}
-use Rattle.reading.specs.ReadingLaws.{label-dropped, label_kept, footage-marked, footage-off, footage-on, no_rate, no-format, read-shaped}
+use Rattle.reading.specs.ReadingLaws.{label-dropped, footage-marked, footage-off, footage-on, no_rate, no-format}
+use Rattle.reading.proofs.ByShape.{label_kept, read-shaped}
 use Rattle.reading.specs.Statements.{HasShape, AllowedShape, LongShape, FootageText, PerfRefused, FilmRefused, LabelText, DroppedText, LabelCount, FootageCount, CountOut}
 use Rattle.reading.proofs.FourKinds.{Kind, none, long, labelled, filmed, kind}
 

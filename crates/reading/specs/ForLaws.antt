@@ -1,31 +1,24 @@
--- Laws of reading a length or a position that callers cite (BEHAVIOUR: Positions): each test, and that a length's reading is as it was.
+-- Laws of reading a length or a position that callers cite (BEHAVIOUR: Positions): each test. That a text reads as its shape does, and as a length what it was: proofs/ByShape.antt.
 -- Assumes nothing.
 use Rattle.std.specs.Prelude.{ℕ, ◌≡◌, Bool, true, false, not, ◌&&◌, List, T}
 use Rattle.std.proofs.Math.Path.{refl}
-use Rattle.std.proofs.Common.{sym, ap, ap₂, ◌∙◌, subst}
+use Rattle.std.proofs.Common.{sym, ap₂, ◌∙◌, subst}
 use Rattle.answers.specs.declared.Refusal.{Refusal}
-use Rattle.answers.specs.Order.{unless}
-use Rattle.answers.specs.OrderLaws.{unless-map}
 use Rattle.answers.specs.Refusals.{not_strict, no_such}
 use Rattle.rates.specs.Rates.{is_rate, rate_row}
 use Rattle.timecodes.specs.declared.kinds.Kind.{Kind}
 use Rattle.timecodes.specs.declared.kinds.Kind.TheVariants.{Length, Position}
 use Rattle.timecodes.specs.Kinds.{is_position}
-use Rattle.timecodes.specs.Timecode.{timecode}
-use Rattle.film.specs.declared.FilmFormat.{FilmFormat}
 use Rattle.faults.specs.Faults.{is_none, sign_fault}
 use Rattle.faults.specs.FaultLaws.{sign-none, leftmost-none}
 use Rattle.labels.specs.Label.{is_strict}
 use Rattle.labels.specs.Faults.{strict_fault}
 use Rattle.labels.specs.FaultLaws.{strict_fault-none}
-use Rattle.labels.specs.AtRate.{label_frames}
 use Rattle.reading.specs.declared.Stated.{Stated}
-use Rattle.reading.specs.declared.Read.{Read}
-use Rattle.reading.specs.declared.Read.TheVariants.{Label, Footage, Refused}
-use Rattle.reading.specs.Shaped.{is_stated, format_for, Shaped, label, footage, refused, shape_of}
-use Rattle.reading.specs.Reading.{label_read_when, label_read, footage_frames, footage_read_when, footage_read, read_shaped, read_text}
-use Rattle.reading.specs.ReadingLaws.{no_rate, no-format, read-shaped}
-use Rattle.reading.specs.For.{settled_read, position_fault, is_label_of, strict_when, shaped_for, read_by, read_for}
+use Rattle.reading.specs.declared.Read.TheVariants.{Refused}
+use Rattle.reading.specs.Shaped.{is_stated, format_for, Shaped, label, footage, refused}
+use Rattle.reading.specs.Reading.{label_read, footage_read}
+use Rattle.reading.specs.For.{settled_read, position_fault, is_label_of, shaped_for, read_by, read_for}
 
 -- ---- a label by kind: any may be a length's, a position's is strict and has no sign
 pub any-label : (kind : Kind) (rate : ℕ) (minus : Bool) (fields : List ℕ) → is_position kind ≡ false → is_label_of kind rate minus fields ≡ true
@@ -68,19 +61,6 @@ module _ (kind : Kind) (rate : ℕ) (stated : Stated) where
   unfolding shaped_for
   refused-for e = refl
 
--- ---- by shape a length's reading is as it was
-length_read : (rate : ℕ) (stated : Stated) (x : Shaped) → shaped_for Length rate stated x ≡ read_shaped rate stated x
-unfolding shaped_for label_read footage_read
-length_read rate stated (label minus fields) =
-    unless-map (settled_read Length) Refused Refused (λ e. refl) (label_read_when rate minus fields) (Label (timecode (label_frames rate minus fields) rate))
-length_read rate stated (footage minus feet frames perf marker) = settled-footage (format_for stated perf)
-  where
-    settled-footage : (format : FilmFormat) → settled_read Length (footage_read rate format minus feet frames perf marker) ≡ footage_read rate format minus feet frames perf marker
-    settled-footage format =
-        unless-map (settled_read Length) Refused Refused (λ e. refl) (footage_read_when format minus feet frames perf marker)
-        (Footage (timecode (footage_frames format minus feet frames) rate) format)
-length_read rate stated (refused e) = refl
-
 -- ---- a text
 module _ (kind : Kind) (text : List ℕ) (stated : Stated) (rate : ℕ) where
   pub for-no-rate : is_rate rate ≡ false → read_for kind text stated rate ≡ Refused no_such
@@ -90,12 +70,6 @@ module _ (kind : Kind) (text : List ℕ) (stated : Stated) (rate : ℕ) where
   pub for-no-format : is_rate rate ≡ true → is_stated stated ≡ false → read_for kind text stated rate ≡ Refused no_such
   unfolding read_for
   for-no-format r s = simp (r, s)
-
-  pub for-shaped : is_rate rate ≡ true → is_stated stated ≡ true → read_for kind text stated rate ≡ shaped_for kind rate stated (shape_of stated text)
-  unfolding read_for shaped_for
-  for-shaped r s =
-      let x = shape_of stated text in
-      simp (r, s) (ap (λ (a : Read). unless Refused (strict_when kind rate x) (settled_read kind a)) (read-shaped text stated rate r s))
 
 -- ---- what was taken by its shape
 module _ (kind : Kind) (stated : Stated) (rate : ℕ) (x : Shaped) where
@@ -110,23 +84,3 @@ module _ (kind : Kind) (stated : Stated) (rate : ℕ) (x : Shaped) where
   pub by-shaped : is_rate rate ≡ true → is_stated stated ≡ true → read_by kind stated rate x ≡ shaped_for kind rate stated x
   unfolding read_by
   by-shaped r s = simp (r, s)
-
--- a text reads as its shape does
-pub read-by-shape : (kind : Kind) (text : List ℕ) (stated : Stated) (rate : ℕ)
-    → read_for kind text stated rate ≡ read_by kind stated rate (shape_of stated text)
-read-by-shape kind text stated rate = by (is_rate rate) (is_stated stated) refl refl
-  where
-    by : (s t : Bool) → is_rate rate ≡ s → is_stated stated ≡ t → read_for kind text stated rate ≡ read_by kind stated rate (shape_of stated text)
-    by false t r f = for-no-rate kind text stated rate r ∙ sym (by-no-rate kind stated rate (shape_of stated text) r)
-    by true false r f = for-no-format kind text stated rate r f ∙ sym (by-no-format kind stated rate (shape_of stated text) r f)
-    by true true r f = for-shaped kind text stated rate r f ∙ sym (by-shaped kind stated rate (shape_of stated text) r f)
-
--- a length's reading is as it was
-pub read_length : (text : List ℕ) (stated : Stated) (rate : ℕ) → read_for Length text stated rate ≡ read_text text stated rate
-read_length text stated rate = by (is_rate rate) (is_stated stated) refl refl
-  where
-    by : (s t : Bool) → is_rate rate ≡ s → is_stated stated ≡ t → read_for Length text stated rate ≡ read_text text stated rate
-    by false t r f = for-no-rate Length text stated rate r ∙ sym (no_rate text stated rate r)
-    by true false r f = for-no-format Length text stated rate r f ∙ sym (no-format text stated rate r f)
-    by true true r f =
-        for-shaped Length text stated rate r f ∙ length_read rate stated (shape_of stated text) ∙ sym (read-shaped text stated rate r f)

@@ -5,7 +5,6 @@ pub mod Reading
 pub mod ReadingLaws
 pub mod For
 pub mod ForLaws
-pub mod TakenLaws
 pub mod Statements
 pub mod Positions
 pub mod LabelOnly

@@ -1,41 +1,25 @@
--- Laws of reading that callers cite (BEHAVIOUR: Text shapes): what a label and a footage give, condition by condition, and what a text gives by its shape.
+-- Laws of reading that callers cite (BEHAVIOUR: Text shapes): what a label and a footage give, condition by condition. What a kept label and a shape give: proofs/ByShape.antt.
 -- Assumes nothing.
 use Rattle.std.specs.Prelude.{ℕ, ◌≡◌, refl, Bool, true, false, List, [], ◌∷◌}
-use Rattle.std.proofs.Common.{sym, ap, ◌∙◌}
+use Rattle.std.proofs.Common.{sym}
 use Rattle.answers.specs.declared.Counted.TheVariants as counted
 use Rattle.answers.specs.OrderLaws.{unless-map}
-use Rattle.answers.specs.Refusals.{dropped_label, no_perf_field, no_such, not_on_film, is_count, bad_count, held}
-use Rattle.answers.specs.Laws.{held_in}
+use Rattle.answers.specs.Refusals.{dropped_label, no_perf_field, no_such, not_on_film, bad_count, held}
 use Rattle.rates.specs.Rates.{is_rate, drop_frames}
-use Rattle.timecodes.specs.Timecode.{timecode}
 use Rattle.film.specs.declared.FilmFormat.{FilmFormat}
 use Rattle.film.specs.OnFilm.{on_film}
 use Rattle.labels.specs.Label.{dropped_in}
-use Rattle.labels.specs.AtRate.{label_frames}
 use Rattle.reading.specs.declared.Stated.{Stated}
-use Rattle.reading.specs.declared.Read.TheVariants.{Label, Refused}
-use Rattle.reading.specs.Answer.{as_label, as_footage}
-use Rattle.reading.specs.Shaped.{is_stated, shape_of}
-use Rattle.reading.specs.Reading.{label_read, takes_perf, footage_frames, footage_read, read_shaped, read_text}
+use Rattle.reading.specs.declared.Read.TheVariants.{Refused}
+use Rattle.reading.specs.Answer.{as_footage}
+use Rattle.reading.specs.Shaped.{is_stated}
+use Rattle.reading.specs.Reading.{label_read, takes_perf, footage_frames, footage_read, read_text}
 
 -- ---- a label
 module _ (rate : ℕ) (minus : Bool) (fields : List ℕ) where
   pub label-dropped : dropped_in (drop_frames rate) fields ≡ true → label_read rate minus fields ≡ Refused dropped_label
   unfolding label_read
   label-dropped e = simp e
-
-  -- a label that is kept is its count, held to the bounds
-  pub label_kept : dropped_in (drop_frames rate) fields ≡ false → label_read rate minus fields ≡ as_label rate (held (label_frames rate minus fields))
-  unfolding label_read held
-  label_kept e =
-      let z = label_frames rate minus fields in
-      simp e (sym (unless-map (as_label rate) counted.Refused Refused (λ f. refl) (bad_count z ∷ []) (counted.Count z)))
-
-  -- and where that is within its bounds, it is read as it
-  pub label-within :
-      dropped_in (drop_frames rate) fields ≡ false → is_count (label_frames rate minus fields) ≡ true
-      → label_read rate minus fields ≡ Label (timecode (label_frames rate minus fields) rate)
-  label-within kept bounds = label_kept kept ∙ ap (as_label rate) (held_in (label_frames rate minus fields) bounds)
 
 -- ---- a footage
 module _ (rate : ℕ) (format : FilmFormat) (minus : Bool) (feet frames : ℕ) (perf : Bool) (marker : ℕ) where
@@ -65,7 +49,3 @@ module _ (text : List ℕ) (stated : Stated) (rate : ℕ) where
   pub no-format : is_rate rate ≡ true → is_stated stated ≡ false → read_text text stated rate ≡ Refused no_such
   unfolding read_text
   no-format r s = simp (r, s)
-
-  pub read-shaped : is_rate rate ≡ true → is_stated stated ≡ true → read_text text stated rate ≡ read_shaped rate stated (shape_of stated text)
-  unfolding read_text
-  read-shaped r s = simp (r, s)

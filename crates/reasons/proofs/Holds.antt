@@ -19,7 +19,7 @@ use Rattle.reading.specs.Answer.{number_of}
 use Rattle.reading.specs.Shaped.{Shaped, label, footage, refused, is_stated, shape_of}
 use Rattle.reading.specs.Reading.{read_text}
 use Rattle.reading.specs.For.{read_for}
-use Rattle.reading.specs.ForLaws.{read_length}
+use Rattle.reading.proofs.ByShape.{read_length}
 use Rattle.reading.specs.Statements.{RateAndFormat, CountOut}
 use Rattle.reading.proofs.Statements.{refused-six, refused_three, refused-five, refused_thirteen, numbers_given}
 use Rattle.reading.proofs.Positions.{refused_fourteen, position_else, settled-number, label-shape}

@@ -23,7 +23,7 @@ use Rattle.reading.specs.Answer.{number_of}
 use Rattle.reading.specs.Shaped.{label, footage, by_fit, farthest, footage_shaped, shape_of}
 use Rattle.reading.specs.Taken.{taken_of, shaped_in}
 use Rattle.reading.specs.For.{read_for, read_by}
-use Rattle.reading.specs.TakenLaws.{taken_back, read-by-taken}
+use Rattle.reading.proofs.TakenLaws.{taken_back, read-by-taken}
 use Rattle.reasons.specs.declared.Fact.{Fact}
 use Rattle.reasons.specs.Facts.{ShortLabel, fact_by}
 use Rattle.reasons.specs.Why.{fact_of, phrase_for, told_as, why_of}

@@ -11,8 +11,9 @@ use lib.ListN.{length, get_or}
 use Rattle.router.specs.declared.Routed.TheVariants.{Shards}
 use Rattle.router.specs.Directory.{Rules}
 use Rattle.router.specs.Route.{Common, asked_span, first_of, after_of}
-use Rattle.router.specs.AskedLaws.{Asked, asked-common, common-asked, span_none, span-is}
-use Rattle.router.specs.HalvingLaws.{lo, hi, high, from-lo, under-hi, between}
+use Rattle.router.specs.AskedLaws.{Asked, common-asked}
+use Rattle.router.proofs.AskedSpan.{asked-common, span_none, span-is}
+use Rattle.router.proofs.HalvedSpan.{lo, hi, high, from-lo, under-hi, between}
 use Rattle.router.specs.Statements.{Between, Exactly, Together}
 
 module _ (day : ℕ) (firsts ends : List ℕ) (start end : ℕ) (r : Rules day firsts ends) where

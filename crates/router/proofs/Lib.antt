@@ -1,3 +1,5 @@
+pub mod HalvedSpan
+pub mod AskedSpan
 pub mod Determined
 pub mod Outcomes
 pub mod Exact

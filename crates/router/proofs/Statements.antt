@@ -36,7 +36,7 @@ use Rattle.router.specs.Halving.{found_in}
 use Rattle.router.specs.Tested.{kept_of, directory_of, routed_by, routed_in}
 use Rattle.router.specs.RuleLaws.{rules-told, rules-pass}
 use Rattle.router.specs.QueryLaws.{length-told, range-out, range-past, range-in}
-use Rattle.router.specs.HalvingLaws as halving
+use Rattle.router.proofs.HalvedSpan as halving
 use Rattle.router.specs.TestedLaws.{kept_back}
 use Rattle.router.specs.Statements.{RulesTested, DirectoryChecked, RefusedSix, RefusedSixteen, RefusedByLabel, RefusedFive, RefusedSeventeen, NumbersGiven}
 use Rattle.router.specs.Statements.{Good, LengthOf, BadLength, PastDay, Query, Exactly}

@@ -1,20 +1,14 @@
--- Halving finds how many numbers of a rising list are below one, and so the shards that walking finds (BEHAVIOUR: Router).
+-- Halving finds how many numbers of a rising list are below one (BEHAVIOUR: Router), and so the shards that walking finds: proofs/HalvedSpan.antt.
 -- Assumes nothing.
-use Rattle.std.specs.Prelude.{ℕ, zero, suc, ◌+◌, ◌-◌, ◌/◌, ◌≤◌, ◌<◌, max, min, ◌≡◌, List, Bool, length, get_or}
+use Rattle.std.specs.Prelude.{ℕ, zero, suc, ◌+◌, ◌-◌, ◌≤◌, ◌<◌, ◌≡◌, List, Bool, length, get_or}
 use Rattle.std.proofs.Math.Path.{refl, sym}
 use Rattle.std.proofs.Common.{ap, ◌∙◌, arith}
 use Rattle.std.proofs.Math.Bool.{true, false, cond}
-use borrow.Author.Tests.{lt-ltb, le-ltb, le-leb, lt-leb, ltb-true, ltb-false, leb-true, leb-false}
-use Rattle.std.proofs.Math.Dec.{leb, ltb}
-use Rattle.router.specs.declared.Routed.{Routed}
+use borrow.Author.Tests.{lt-ltb, le-ltb, le-leb, lt-leb, ltb-true, ltb-false}
+use Rattle.std.proofs.Math.Dec.{ltb}
 use Rattle.router.specs.declared.Routed.TheVariants.{Shards}
-use Rattle.router.specs.declared.query.Ranged.{Ranged}
-use Rattle.router.specs.declared.query.Ranged.TheVariants.{Frames, Refused}
-use Rattle.router.specs.Directory.{Rules}
-use Rattle.router.specs.Route.{is_asked, asked_span, asked_in}
-use Rattle.router.specs.Halving.{middle, halved_from, halved, halved_span, found_in}
-use Rattle.router.specs.RuleLaws.{Rising, firsts-rise, ends-rise}
-use Rattle.router.specs.AskedLaws.{Asked, span_none, span-is}
+use Rattle.router.specs.Halving.{middle, halved_from, halved, halved_span}
+use Rattle.router.specs.RuleLaws.{Rising}
 
 -- ---- the loop: a turn, and the end
 pub halved-end : (turns v : ℕ) (l : List ℕ) (lo hi : ℕ) → hi ≤ lo → halved_from turns v l lo hi ≡ lo
@@ -86,62 +80,6 @@ unfolding halved
 halved-parts v l r =
     parted-from (length l) v l 0 (length l) r (omega arith) (omega arith) (omega arith) (λ i k. absurd (omega arith)) (λ i k m. absurd (omega arith))
 
--- ---- the shards that halving finds are those that are asked
-module _ (day start end : ℕ) (firsts ends : List ℕ) (r : Rules day firsts ends) where
-  abbrev pub lo : ℕ
-  lo = halved (start + 1) ends
-
-  abbrev pub hi : ℕ
-  hi = halved end firsts
-
-  abbrev pub low : Parted (start + 1) ends lo
-  low = halved-parts (start + 1) ends (ends-rise day firsts ends r)
-
-  abbrev pub high : Parted end firsts hi
-  high = halved-parts end firsts (firsts-rise day firsts ends r)
-
-  -- one that is asked ends behind the start, and begins before the end
-  pub from-lo : (i : ℕ) → i < length firsts → Asked start end firsts ends i → lo ≤ i
-  from-lo i h a = by (ltb i lo) refl
-    where
-      by : (t : Bool) → ltb i lo ≡ t → lo ≤ i
-      by true e =
-          let m = ltb-true (max (get_or firsts i 0) start) (min (get_or ends i 0) end) a in
-          absurd (omega (arith, m, low.front i (ltb-true i lo e)))
-      by false e = ltb-false i lo e
-
-  pub under-hi : (i : ℕ) → i < length firsts → Asked start end firsts ends i → i < hi
-  under-hi i h a = by (ltb i hi) refl
-    where
-      by : (t : Bool) → ltb i hi ≡ t → i < hi
-      by true e = ltb-true i hi e
-      by false e =
-          let m = ltb-true (max (get_or firsts i 0) start) (min (get_or ends i 0) end) a in
-          absurd (omega (arith, m, high.back i (ltb-false i hi e) h))
-
-  -- and one between them is asked
-  pub between : start < end → (i : ℕ) → lo ≤ i → i < hi → Asked start end firsts ends i
-  between s i p q =
-      let n : i < length firsts = omega (arith, high.inside) in
-      let f = high.front i q in
-      let e = low.back i p (omega (arith, r.paired)) in
-      let k = r.some i n in
-      lt-ltb (max (get_or firsts i 0) start) (min (get_or ends i 0) end) (omega (arith, f, e, k, s))
-
-  pub halves_walk : halved_span start end firsts ends ≡ asked_span start end firsts ends
-  unfolding halved_span
-  halves_walk = by (leb end start) (ltb lo hi) refl refl
-    where
-      by : (s t : Bool) → leb end start ≡ s → ltb lo hi ≡ t
-          → cond s (Shards 0 0) (cond t (Shards lo hi) (Shards 0 0)) ≡ asked_span start end firsts ends
-      by true t e f =
-          sym (span_none start end firsts ends r.paired (λ i h a.
-          let m = ltb-true (max (get_or firsts i 0) start) (min (get_or ends i 0) end) a in omega (arith, m, leb-true end start e)))
-      by false true e f =
-          sym (span-is start end firsts ends lo hi r.paired (ltb-true lo hi f) high.inside (between (leb-false end start e)) (λ i h a. (from-lo i h a, under-hi i h a)))
-      by false false e f =
-          sym (span_none start end firsts ends r.paired (λ i h a. omega (arith, from-lo i h a, under-hi i h a, ltb-false lo hi f)))
-
 -- ---- as the code finds them
 pub met-empty : (start end : ℕ) (firsts ends : List ℕ) → end ≤ start → Shards 0 0 ≡ halved_span start end firsts ends
 unfolding halved_span
@@ -158,8 +96,3 @@ module _ (start end v p q : ℕ) (firsts ends : List ℕ) (h : start < end) (one
   pub met-none : q ≤ p → Shards 0 0 ≡ halved_span start end firsts ends
   unfolding halved_span
   met-none k = rw (lt-leb end start h, ← lo-is, ← f, le-ltb p q k)
-
--- so of any range
-pub found-asked : (day : ℕ) (firsts ends : List ℕ) → Rules day firsts ends → (x : Ranged) → found_in firsts ends x ≡ asked_in firsts ends x
-found-asked day firsts ends r (Frames start end) = halves_walk day start end firsts ends r
-found-asked day firsts ends r (Refused e) = refl

@@ -11,7 +11,7 @@ use lib.Seq.{take_all}
 use Rattle.numbers.proofs.Tests.{fails, passes}
 use Rattle.reading.specs.declared.Stated.TheVariants.{Nothing}
 use Rattle.reading.specs.Reading.{read_text}
-use Rattle.reading.specs.ForLaws.{read_length}
+use Rattle.reading.proofs.ByShape.{read_length}
 use Rattle.lines.specs.Input.{is_line, text_in, line_holds}
 use Rattle.lines.proofs.Begun.{line-least, not_line, line-held}
 use Rattle.lines.proofs.read_line.Goals as goal

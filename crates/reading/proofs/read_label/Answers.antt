@@ -6,7 +6,8 @@ use Rattle.rates.specs.Rates.{drop_frames}
 use Rattle.labels.specs.Label.{dropped_in}
 use Rattle.labels.specs.AtRate.{label_counted-in}
 use Rattle.reading.specs.Answer.{as_label}
-use Rattle.reading.specs.ReadingLaws.{label-dropped, label_kept}
+use Rattle.reading.specs.ReadingLaws.{label-dropped}
+use Rattle.reading.proofs.ByShape.{label_kept}
 use Rattle.reading.proofs.read_label.Goals as goal
 use Rattle.reading.proofs.read_label.Goals.{After-is_dropped}
 

@@ -4,7 +4,7 @@ use mathlib.Core.Path.{sym, ap, ◌∙◌}
 use Rattle.reading.specs.declared.Stated.TheVariants.{Nothing}
 use Rattle.reading.specs.Taken.{shaped_in}
 use Rattle.reading.specs.For.{read_by}
-use Rattle.reading.specs.TakenLaws.{label-by-taken}
+use Rattle.reading.proofs.TakenLaws.{label-by-taken}
 use Rattle.reading.proofs.read_label_only.Goals as goal
 
 pub returns : goal.returns

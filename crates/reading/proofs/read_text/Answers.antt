@@ -3,7 +3,7 @@
 use mathlib.Core.Path.{sym, ap, ◌∙◌}
 use Rattle.reading.specs.Taken.{shaped_in}
 use Rattle.reading.specs.For.{read_by}
-use Rattle.reading.specs.TakenLaws.{read-by-taken}
+use Rattle.reading.proofs.TakenLaws.{read-by-taken}
 use Rattle.reading.proofs.read_text.Goals as goal
 
 pub returns : goal.returns

@@ -11,7 +11,7 @@ use Rattle.router.specs.Query.{range_of}
 use Rattle.router.specs.Route.{asked_in, route_of}
 use Rattle.router.specs.Halving.{found_in}
 use Rattle.router.specs.RuleLaws.{rules-told}
-use Rattle.router.specs.HalvingLaws.{found-asked}
+use Rattle.router.proofs.HalvedSpan.{found-asked}
 use Rattle.router.proofs.route.Goals as goal
 
 pub returns-in-Passed : goal.returns-in-Passed

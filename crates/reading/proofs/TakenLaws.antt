@@ -16,7 +16,7 @@ use Rattle.reading.specs.declared.Stated.TheVariants.{Nothing, Format}
 use Rattle.reading.specs.Shaped.{Shaped, label, footage, by_fit, farthest, footage_shaped, label_or, shape_of, label_only}
 use Rattle.reading.specs.Taken.{taken_of, shaped_in}
 use Rattle.reading.specs.For.{read_for, read_by, label_for}
-use Rattle.reading.specs.ForLaws.{read-by-shape}
+use Rattle.reading.proofs.ByShape.{read-by-shape}
 
 -- a list of four is its elements
 four-back : (l : List ℕ) → length l ≡ 4 → hours_in l ∷ minutes_in l ∷ seconds_in l ∷ frames_in l ∷ [] ≡ l
