@@ -17,7 +17,7 @@ use Rattle.rates.proofs.Sound.{sound}
 use Rattle.rates.specs.Laws.{drop_le}
 use Rattle.timecodes.specs.AdmittedLaws.{valid-count}
 use Rattle.labels.specs.Label.{hours_in, minutes_in, seconds_in, frames_in}
-use Rattle.labels.specs.LabelLaws.{count-by-minutes}
+use Rattle.labels.proofs.ByMinutes.{count-by-minutes}
 use Rattle.digits.specs.Digits.{all_digits, width, decimal}
 use Rattle.digits.proofs.Values.{all_head, all_tail}
 use Rattle.digits.proofs.Width.{width-at-most, decimal_length, decimal-field, decimal_back}

@@ -5,7 +5,8 @@ use Prim.Native.Nat.{ℕ, ◌+◌, ◌*◌, ◌-◌, ◌/◌, ◌%◌, ◌≤◌
 use native.Mathlib.Nat.{div-add-mod', mod-lt, div-lt_iff_lt-mul, mul-le-mul_right}
 use native.Mathlib.Omega.{arith}
 use Rattle.labels.specs.Label.{LabelOf}
-use Rattle.labels.specs.LabelLaws.{count-by-minutes, minute-whole}
+use Rattle.labels.specs.LabelLaws.{minute-whole}
+use Rattle.labels.proofs.ByMinutes.{count-by-minutes}
 use Rattle.labels.specs.Sections.{fields_at, dropped_before, sections_of}
 use Rattle.labels.proofs.Earlier.{place-second, fields-in-minute, kept-place}
 

@@ -1,3 +1,4 @@
+pub mod ByMinutes
 pub mod Fields
 pub mod Earlier
 pub mod Found

@@ -14,8 +14,8 @@ use Rattle.rates.specs.Rates.{is_rate, rate_row, drop_frames}
 use Rattle.rates.proofs.Sound.{drop-small}
 use Rattle.rates.specs.Day.{day_count, day_frames}
 use Rattle.labels.specs.Label.{hours_in, minutes_in, seconds_in, frames_in, LabelOf}
-use Rattle.labels.specs.LabelLaws.{kept-tenth, kept_second, kept-past, count-by-minutes}
-use Rattle.labels.specs.BoundLaws.{hours-le}
+use Rattle.labels.specs.LabelLaws.{kept-tenth, kept_second, kept-past}
+use Rattle.labels.proofs.ByMinutes.{count-by-minutes, hours-le}
 use Rattle.labels.specs.Sections.{label_number, fields_at, is_allowed, sections_of}
 use Rattle.labels.specs.Statements.{HasFields, OneNumber, CountsEarlier, HasLabel, OneLabel, SmallFields, FillDay, FillRate, DayEnds, FillInOrder, StrictExactly, FillDay30, FillDay60}
 use Rattle.labels.specs.StrictLaws.{is_strict-told, is_strict-in}

@@ -1,13 +1,11 @@
 -- Bounds (BEHAVIOUR: Labels and counts): how large numbers, counts and corrections become, so that no sum or product wraps.
 -- Assumes nothing.
-use Rattle.std.specs.Prelude.{◌≡◌, true, false, List, ℕ, ◌+◌, ◌*◌, ◌-◌, ◌/◌, ◌%◌, ◌≤◌, ◌<◌}
-use Rattle.std.proofs.Common.{sym, ◌∙◌, mul-le-mul, mul-le-mul_left, mul-le-mul_right, div-le_self, arith, lt-ltb, ltb-true}
+use Rattle.std.specs.Prelude.{◌≡◌, true, List, ℕ, ◌+◌, ◌*◌, ◌-◌, ◌/◌, ◌%◌, ◌≤◌, ◌<◌}
+use Rattle.std.proofs.Common.{mul-le-mul, div-le_self, arith, lt-ltb, ltb-true}
 use Rattle.std.proofs.Math.Bool.{and-eq-true_iff}
 use Rattle.std.proofs.Math.Nat.{mod-le}
-use Rattle.std.proofs.Math.Decide.{dec_lt}
-use Rattle.answers.specs.Refusals.{most_count, beyond}
-use Rattle.labels.specs.Label.{hours_in, minutes_in, seconds_in, frames_in, count_in, is_short, Short, LabelOf}
-use Rattle.labels.specs.LabelLaws.{count-by-minutes}
+use Rattle.answers.specs.Refusals.{beyond}
+use Rattle.labels.specs.Label.{hours_in, minutes_in, seconds_in, frames_in, is_short, Short}
 use Rattle.labels.specs.Sections.{label_number, dropped_before}
 
 module _ (timebase : ℕ) (small : timebase ≤ 60) where
@@ -27,23 +25,6 @@ dropped-short timebase D n small d =
     let l : D ≤ 60 = omega arith in
     omega (arith, mul-le-mul l (minutes-le n (600 * timebase - 9 * D) (60 * timebase - D) D))
 
--- each field is at most the count
-pub fields_le :
-    (timebase D : ℕ) (fields : List ℕ) → D < timebase
-    → (hours_in fields ≤ count_in timebase D fields) × (minutes_in fields ≤ count_in timebase D fields)
-    × (seconds_in fields ≤ count_in timebase D fields) × (frames_in fields ≤ count_in timebase D fields)
-fields_le timebase D fields d =
-    let w : 1 ≤ 60 * timebase - D = omega arith in
-    let t : 1 ≤ timebase = omega arith in
-    let c = count-by-minutes timebase D (omega arith) (hours_in fields) (minutes_in fields) (seconds_in fields) (frames_in fields) in
-    let m = mul-le-mul_right (60 * hours_in fields + minutes_in fields) w in
-    let s = mul-le-mul_left (seconds_in fields) t in
-    (omega arith, omega arith, omega arith, omega arith)
-
--- a label's hours are at most its count
-pub hours-le : (timebase D n : ℕ) (fields : List ℕ) → D < timebase → LabelOf timebase D n fields → hours_in fields ≤ n
-hours-le timebase D n fields d x = omega (arith, x.count, (fields_le timebase D fields d).0)
-
 -- ---- fields of at most 9 digits, by the test
 pub is_short-told : (fields : List ℕ) → is_short fields ≡ true → Short fields
 unfolding is_short
@@ -62,17 +43,3 @@ is_short-in fields x =
       lt-ltb (seconds_in fields) beyond x.seconds,
       lt-ltb (frames_in fields) beyond x.frames,
     )
-
--- others have a count above the largest
-pub is_short-out :
-    (timebase D : ℕ) (fields : List ℕ) → D < timebase → is_short fields ≡ false → most_count < count_in timebase D fields
-is_short-out timebase D fields d e = by (dec_lt most_count (count_in timebase D fields))
-  where
-    by : Dec (most_count < count_in timebase D fields) → most_count < count_in timebase D fields
-    by (yes l) = l
-    by (no f) =
-        let x = fields_le timebase D fields d in
-        let small : Short fields = record { hours = omega arith; minutes = omega arith; seconds = omega arith; frames = omega arith } in
-        let t : true ≡ false = sym (is_short-in fields small) ∙ e in
-        let z : ◌≡◌ {A = ℕ} 0 1 = cc in
-        absurd (omega arith)

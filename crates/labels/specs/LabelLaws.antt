@@ -1,14 +1,13 @@
--- Which labels are dropped, by cases, and the count with no difference in it (BEHAVIOUR: Labels and counts).
+-- Which labels are dropped, by cases (BEHAVIOUR: Labels and counts). The count with no difference in it: proofs/ByMinutes.antt.
 -- Assumes nothing.
 use Rattle.std.specs.Prelude.{◌≡◌, Bool, true, false, eqb, ltb}
 use Rattle.std.proofs.Math.Path.{refl}
 use Rattle.std.proofs.Common.{sym, ◌∙◌, ap, mul-le-mul}
 use Rattle.std.proofs.Math.Bool.{and-false}
 use Prim.Native.Nat.{ℕ, zero, suc, ◌+◌, ◌*◌, ◌-◌, ◌/◌, ◌%◌, ◌≤◌, ◌<◌}
-use Rattle.std.proofs.Math.Nat.{mul-sub, mul-le-mul_left}
 use native.Mathlib.Omega.{arith}
 use borrow.Author.Tests.{lt-ltb, le-ltb, eq-eqb, ne_eqb, ltb-true, ltb-false}
-use Rattle.labels.specs.Label.{label_count, is_dropped}
+use Rattle.labels.specs.Label.{is_dropped}
 
 module _ (D minutes seconds frames : ℕ) where
   -- none is dropped in a minute that is a multiple of 10, after second 0, from frame D on
@@ -64,13 +63,3 @@ module _ (timebase D : ℕ) (d : D ≤ timebase) where
         let M : ℕ = 60 * hours + minutes in
         let l : M - M / 10 ≤ M = omega arith in
         omega (arith, mul-le-mul d l)
-
-    -- each minute counts 60 x timebase - D, each tenth one D more
-    pub count-by-minutes :
-        label_count timebase D hours minutes seconds frames
-        ≡ (60 * timebase - D) * (60 * hours + minutes) + D * ((60 * hours + minutes) / 10) + (seconds * timebase + frames)
-    unfolding label_count
-    count-by-minutes =
-        let M : ℕ = 60 * hours + minutes in
-        let l : M / 10 ≤ M = omega arith in
-        omega (arith, mul-sub D M (M / 10), mul-le-mul_left D l, minute-whole M)

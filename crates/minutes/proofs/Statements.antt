@@ -7,7 +7,8 @@ use native.Mathlib.Omega.{arith}
 use borrow.Author.Tests.{eqb-true, eqb-false}
 use lib.Dec.{eqb}
 use Rattle.labels.specs.Label.{label_count}
-use Rattle.labels.specs.LabelLaws.{kept-tenth, kept_frame, all-dropped, count-by-minutes}
+use Rattle.labels.specs.LabelLaws.{kept-tenth, kept_frame, all-dropped}
+use Rattle.labels.proofs.ByMinutes.{count-by-minutes}
 use Rattle.minutes.specs.Minutes.{minute_start}
 use Rattle.minutes.proofs.MinutesLaws.{start-closed}
 use Rattle.minutes.specs.Statements.{FirstLabel, FirstOfMinute, ListedEntries}

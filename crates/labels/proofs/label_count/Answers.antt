@@ -13,7 +13,7 @@ use Rattle.answers.specs.Laws.{held-past}
 use Rattle.rates.specs.Rates.{is_rate, rate_row, drop_frames}
 use Rattle.rates.proofs.Sound.{drop-small}
 use Rattle.labels.specs.Label.{count_in, is_short}
-use Rattle.labels.specs.BoundLaws.{is_short-out}
+use Rattle.labels.proofs.ByMinutes.{is_short-out}
 use Rattle.labels.specs.AtRate.{label_frames, frames_or, frames_or-in, frames_or-long, label_counted-in, label_counted-out}
 use Rattle.labels.proofs.label_count.Goals as goal
 
