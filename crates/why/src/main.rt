@@ -29,14 +29,12 @@ fn has_arg(rt: &impl Env, i: usize) -> bool {
 
 // How many arguments there are, the program's name among them.
 fn arg_count(rt: &impl Env) -> usize {
-    let mut count = 0;
-    while count < usize::MAX {
+    for count in 0..usize::MAX {
         if !has_arg(rt, count) {
             return count;
         }
-        count += 1;
     }
-    count
+    usize::MAX
 }
 
 // An argument behind those that are joined.
