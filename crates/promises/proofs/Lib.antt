@@ -3,8 +3,14 @@ pub mod CallsC
 pub mod Ties
 pub mod TiesC
 pub mod ReadC
+pub mod ReadFieldsC
+pub mod FirstLabelC
+pub mod AnswersC
+pub mod SectionsC
 pub mod ListsC
+pub mod ListsFieldsC
 pub mod WhyC
+pub mod WhyFieldsC
 pub mod RouteC
 pub mod RouteMany
 pub mod Demand1

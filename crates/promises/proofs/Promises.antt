@@ -53,6 +53,11 @@ use Rattle.promises.proofs.CallsC.{one_answer_c}
 use Rattle.promises.proofs.Ties.{ties}
 use Rattle.promises.proofs.TiesC.{ties_c}
 use Rattle.promises.proofs.ReadC.{read_for_c}
+use Rattle.promises.proofs.ReadFieldsC.{read_fields_for_c}
+use Rattle.promises.proofs.AnswersC.{answers_for_c}
+use Rattle.promises.proofs.SectionsC.{sections_for_c}
+use Rattle.promises.proofs.ListsFieldsC.{lists_fields_for_c}
+use Rattle.promises.proofs.WhyFieldsC.{why_fields_for_c}
 use Rattle.promises.proofs.WhyC.{why_for_c}
 use Rattle.promises.proofs.RouteC.{route_for_c}
 use Rattle.promises.proofs.RouteMany.{asked_many}
@@ -75,6 +80,11 @@ promises = record {
   ties_c = ties_c;
   read_for_c = read_for_c;
   why_for_c = why_for_c;
+  read_fields_for_c = read_fields_for_c;
+  answers_for_c = answers_for_c;
+  sections_for_c = sections_for_c;
+  lists_fields_for_c = lists_fields_for_c;
+  why_fields_for_c = why_fields_for_c;
   refused_when = refused_when;
   refused_zero = refused_zero;
   refused_keeps_line = refused_keeps_line;

@@ -47,8 +47,13 @@ use Rattle.promises.specs.CallsC.{OneAnswerC}
 use Rattle.promises.specs.Ties.{Ties}
 use Rattle.promises.specs.TiesC.{TiesC}
 use Rattle.promises.specs.ReadC.{ReadForC}
+use Rattle.promises.specs.ReadFieldsC.{ReadFieldsForC}
+use Rattle.promises.specs.AnswersC.{AnswersForC}
+use Rattle.promises.specs.SectionsC.{SectionsForC}
 use Rattle.promises.specs.ListsC.{ListsForC}
+use Rattle.promises.specs.ListsFieldsC.{ListsFieldsForC}
 use Rattle.promises.specs.WhyC.{WhyForC}
+use Rattle.promises.specs.WhyFieldsC.{WhyFieldsForC}
 use Rattle.promises.specs.RouteC.{RouteForC}
 use Rattle.promises.specs.RouteMany.{AskedMany}
 use Rattle.promises.specs.When.{RefusedWhen}
@@ -69,6 +74,11 @@ pub record Promises : Type 1 where
   pub ties_c : TiesC
   pub read_for_c : ReadForC
   pub why_for_c : WhyForC
+  pub read_fields_for_c : ReadFieldsForC
+  pub answers_for_c : AnswersForC
+  pub sections_for_c : SectionsForC
+  pub lists_fields_for_c : ListsFieldsForC
+  pub why_fields_for_c : WhyFieldsForC
   pub refused_when : RefusedWhen
   pub refused_zero : RefusedZero
   pub refused_keeps_line : RefusedKeepsLine
