@@ -14,7 +14,7 @@ use Rattle.reading.specs.declared.Read.TheVariants.{Label, Footage, Refused}
 use Rattle.exports.specs.declared.handed.TzqCount.{TzqCount}
 use Rattle.exports.specs.declared.handed.TzqRead.{TzqRead}
 use Rattle.exports.specs.Handed.{handed_read, handed_answer}
-use Rattle.promises.specs.ReadFieldsC.{HandedWhole, HandedAnswer, ReadFieldsForC}
+use Rattle.promises.specs.ReadFieldsC.{ReadWhole, AnswerWhole, ReadFieldsForC}
 
 -- the test of a kind says whether it is that of a position
 pub kind-told : (kind : Kind) → (is_position kind ≡ true) ↔ (kind ≡ Position)
@@ -25,21 +25,21 @@ kind-is true = (λ h. refl, λ h. refl)
 kind-is false = (λ h. ap is_position h, λ h. ap kind_from h)
 
 -- what is handed over of a text, and of a timecode
-pub read_is : (a : Read) → HandedWhole (handed_read a) a
+pub read_is : (a : Read) → ReadWhole (handed_read a) a
 unfolding handed_read
 read_is (Label tc) = (refl, refl, refl, refl, kind-told tc.kind)
 read_is (Footage tc film) = (refl, refl, refl, refl, kind-told tc.kind)
 read_is (Refused e) = (refl, refl, refl, refl, refl)
 
-answer-is : (a : Answer) → HandedAnswer (handed_answer a) a
+answer-is : (a : Answer) → AnswerWhole (handed_answer a) a
 unfolding handed_answer
 answer-is (answer.At tc) = (refl, refl, kind-told tc.kind)
 answer-is (answer.Refused e) = (refl, refl, refl)
 
-whole : (t : TzqRead) (a : Read) → t ≡ handed_read a → HandedWhole t a
+whole : (t : TzqRead) (a : Read) → t ≡ handed_read a → ReadWhole t a
 whole t a e = rw e (read_is a)
 
-timecode : (t : TzqCount) (a : Answer) → t ≡ handed_answer a → HandedAnswer t a
+timecode : (t : TzqCount) (a : Answer) → t ≡ handed_answer a → AnswerWhole t a
 timecode t a e = rw e (answer-is a)
 
 pub read_fields_for_c : ReadFieldsForC

@@ -69,14 +69,14 @@ ReadsAs (Footage tc film) refused count format place position =
 ReadsAs (Refused e) refused count format place position =
     (refused ≡ e.number) × (count ≡ pos 0) × (format ≡ 0) × (place ≡ e.place) × (position ≡ false)
 
-abbrev pub HandedWhole : TzqRead → Read → Type 0
-HandedWhole t a = ReadsAs a t.refused t.count t.format t.place t.position
+abbrev pub ReadWhole : TzqRead → Read → Type 0
+ReadWhole t a = ReadsAs a t.refused t.count t.format t.place t.position
 
 -- ---- a timecode
 -- of a timecode its count, and whether it is a position; of a refusal its number, count 0 and no position
-abbrev pub HandedAnswer : TzqCount → Answer → Type 0
-HandedAnswer t (answer.At tc) = (t.refused ≡ 0) × (t.count ≡ tc.count) × ((t.position ≡ true) ↔ (tc.kind ≡ Position))
-HandedAnswer t (answer.Refused e) = (t.refused ≡ e.number) × (t.count ≡ pos 0) × (t.position ≡ false)
+abbrev pub AnswerWhole : TzqCount → Answer → Type 0
+AnswerWhole t (answer.At tc) = (t.refused ≡ 0) × (t.count ≡ tc.count) × ((t.position ≡ true) ↔ (tc.kind ≡ Position))
+AnswerWhole t (answer.Refused e) = (t.refused ≡ e.number) × (t.count ≡ pos 0) × (t.position ≡ false)
 
 -- a record that C hands over is a timecode: its count, its rate, a position exactly where it says so
 pub record TakenFromC (t : TzqTimecode) (tc : Timecode) : Type 0 where
@@ -86,26 +86,26 @@ pub record TakenFromC (t : TzqTimecode) (tc : Timecode) : Type 0 where
 
 -- so it is of whatever the contracts of the readers, the makers and the arithmetic for C allow; of what C hands over; and film formats are 1 to 4
 pub record ReadFieldsForC : Type 0 where
-  pub read : Gives tzq_read.ended tzq-read-reads.Learnt (λ κs a x. HandedWhole x.0 (read_for (kind_from a.1.1.0) a.0.now Nothing a.1.0))
+  pub read : Gives tzq_read.ended tzq-read-reads.Learnt (λ κs a x. ReadWhole x.0 (read_for (kind_from a.1.1.0) a.0.now Nothing a.1.0))
   pub read_as : Gives tzq_read_as.ended tzq-read-as-reads.Learnt (λ κs a x.
-      HandedWhole x.0 (read_for (kind_from a.1.1.1.0) a.0.now (Format a.1.0) a.1.1.0))
+      ReadWhole x.0 (read_for (kind_from a.1.1.1.0) a.0.now (Format a.1.0) a.1.1.0))
   pub read-runtime : Gives tzq_read_runtime.ended tzq-read-runtime-reads.Learnt (λ κs a x.
-      HandedAnswer x.0 (settled (kind_from a.1.1.0) (read_runtime a.0.now a.1.0)))
+      AnswerWhole x.0 (settled (kind_from a.1.1.0) (read_runtime a.0.now a.1.0)))
   pub with_frames : Gives tzq_with_frames.ended tzq-with-frames-reads.Learnt (λ κs a x.
-      HandedAnswer x.0 (settled (kind_from a.1.1.0) (frames_at a.0 a.1.0)))
+      AnswerWhole x.0 (settled (kind_from a.1.1.0) (frames_at a.0 a.1.0)))
   pub with_premiere_ticks : Gives tzq_with_premiere_ticks.ended tzq-with-premiere-ticks-reads.Learnt (λ κs a x.
-      HandedAnswer x.0 (settled (kind_from a.1.1.0) (ticks_at a.0 a.1.0)))
+      AnswerWhole x.0 (settled (kind_from a.1.1.0) (ticks_at a.0 a.1.0)))
   pub with_seconds : Gives tzq_with_seconds.ended tzq-with-seconds-reads.Learnt (λ κs a x.
-      HandedAnswer x.0 (settled (kind_from a.1.1.1.0) (seconds_at a.0 a.1.0 a.1.1.0)))
-  pub add : Gives tzq_add.ended tzq-add-reads.Learnt (λ κs a x. HandedAnswer x.0 (add_of (timecode_from a.0) (timecode_from a.1.0)))
-  pub sub : Gives tzq_sub.ended tzq-sub-reads.Learnt (λ κs a x. HandedAnswer x.0 (sub_of (timecode_from a.0) (timecode_from a.1.0)))
-  pub mul : Gives tzq_mul.ended tzq-mul-reads.Learnt (λ κs a x. HandedAnswer x.0 (mul_of (timecode_from a.0) a.1.0 a.1.1.0))
-  pub div : Gives tzq_div.ended tzq-div-reads.Learnt (λ κs a x. HandedAnswer x.0 (div_of (timecode_from a.0) a.1.0))
-  pub rem : Gives tzq_rem.ended tzq-rem-reads.Learnt (λ κs a x. HandedAnswer x.0 (rem_of (timecode_from a.0) a.1.0))
-  pub divq : Gives tzq_divq.ended tzq-divq-reads.Learnt (λ κs a x. HandedAnswer x.0 (divq_of (timecode_from a.0) a.1.0 a.1.1.0))
-  pub remq : Gives tzq_remq.ended tzq-remq-reads.Learnt (λ κs a x. HandedAnswer x.0 (remq_of (timecode_from a.0) a.1.0 a.1.1.0))
-  pub neg : Gives tzq_neg.ended tzq-neg-reads.Learnt (λ κs a x. HandedAnswer x.0 (neg_of (timecode_from a.0)))
-  pub abs : Gives tzq_abs.ended tzq-abs-reads.Learnt (λ κs a x. HandedAnswer x.0 (abs_of (timecode_from a.0)))
-  pub rebase : Gives tzq_rebase.ended tzq-rebase-reads.Learnt (λ κs a x. HandedAnswer x.0 (rebase_of (timecode_from a.0) a.1.0))
+      AnswerWhole x.0 (settled (kind_from a.1.1.1.0) (seconds_at a.0 a.1.0 a.1.1.0)))
+  pub add : Gives tzq_add.ended tzq-add-reads.Learnt (λ κs a x. AnswerWhole x.0 (add_of (timecode_from a.0) (timecode_from a.1.0)))
+  pub sub : Gives tzq_sub.ended tzq-sub-reads.Learnt (λ κs a x. AnswerWhole x.0 (sub_of (timecode_from a.0) (timecode_from a.1.0)))
+  pub mul : Gives tzq_mul.ended tzq-mul-reads.Learnt (λ κs a x. AnswerWhole x.0 (mul_of (timecode_from a.0) a.1.0 a.1.1.0))
+  pub div : Gives tzq_div.ended tzq-div-reads.Learnt (λ κs a x. AnswerWhole x.0 (div_of (timecode_from a.0) a.1.0))
+  pub rem : Gives tzq_rem.ended tzq-rem-reads.Learnt (λ κs a x. AnswerWhole x.0 (rem_of (timecode_from a.0) a.1.0))
+  pub divq : Gives tzq_divq.ended tzq-divq-reads.Learnt (λ κs a x. AnswerWhole x.0 (divq_of (timecode_from a.0) a.1.0 a.1.1.0))
+  pub remq : Gives tzq_remq.ended tzq-remq-reads.Learnt (λ κs a x. AnswerWhole x.0 (remq_of (timecode_from a.0) a.1.0 a.1.1.0))
+  pub neg : Gives tzq_neg.ended tzq-neg-reads.Learnt (λ κs a x. AnswerWhole x.0 (neg_of (timecode_from a.0)))
+  pub abs : Gives tzq_abs.ended tzq-abs-reads.Learnt (λ κs a x. AnswerWhole x.0 (abs_of (timecode_from a.0)))
+  pub rebase : Gives tzq_rebase.ended tzq-rebase-reads.Learnt (λ κs a x. AnswerWhole x.0 (rebase_of (timecode_from a.0) a.1.0))
   pub handed_over : (t : TzqTimecode) → TakenFromC t (timecode_from t)
   pub formats : (format_number FF35mm4perf ≡ 1) × (format_number FF35mm3perf ≡ 2) × (format_number FF35mm2perf ≡ 3) × (format_number FF16mm ≡ 4)
