@@ -2,7 +2,7 @@
 // What a line is, and what it asks, is decided by streams and asking; here are the commands, the buffers, the reads and the writes.
 #![tactic(auto)]
 
-ghost use Rattle.std.specs.Prelude.{◌≡◌, ◌≤◌, length, IfOk, OnOk};
+ghost use Rattle.std.specs.Prelude.{◌≡◌, ℕ, ◌≤◌, length, take, IfOk, OnOk, OnErr};
 ghost use Rattle.streams.specs.Turns.{waiting_behind};
 
 use std::io;
@@ -41,6 +41,7 @@ fn answered(
 }
 
 // A chunk of input, line by line; its answers are written before the next one is read.
+// Where a write fails the buffer has what waits behind some beginning of the chunk.
 fn feed(
     rt: &impl Print,
     chunk: &[u8],
@@ -50,6 +51,7 @@ fn feed(
 ) -> io::Result<Gathered>
     ensures gathered { IfOk result (λ last. last ≡ (waiting_behind buffer.old first chunk.now).gathered) }
     ensures buffer { OnOk result (buffer.new ≡ (waiting_behind buffer.old first chunk.now).buffer) }
+    ensures left { OnErr result ((k : ℕ) × (k ≤ length chunk.now) × (buffer.new ≡ (waiting_behind buffer.old first (take k chunk.now)).buffer)) }
 {
     let mut g = first;
     let mut used = 0;

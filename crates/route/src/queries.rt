@@ -1,5 +1,5 @@
 // The lines of standard input, each a query of one directory.
-ghost use Rattle.std.specs.Prelude.{◌≡◌, ◌≤◌, length, IfOk, OnOk};
+ghost use Rattle.std.specs.Prelude.{◌≡◌, ℕ, ◌≤◌, length, take, IfOk, OnOk, OnErr};
 ghost use Rattle.streams.specs.Turns.{waiting_behind};
 
 use crate::sheet;
@@ -50,6 +50,7 @@ fn answered(
 }
 
 // A chunk of input, line by line; its answers are written before the next one is read.
+// Where a write fails the buffer has what waits behind some beginning of the chunk.
 fn feed(
     rt: &impl Print,
     chunk: &[u8],
@@ -61,6 +62,7 @@ fn feed(
 ) -> io::Result<Gathered>
     ensures gathered { IfOk result (λ last. last ≡ (waiting_behind buffer.old first chunk.now).gathered) }
     ensures buffer { OnOk result (buffer.new ≡ (waiting_behind buffer.old first chunk.now).buffer) }
+    ensures left { OnErr result ((k : ℕ) × (k ≤ length chunk.now) × (buffer.new ≡ (waiting_behind buffer.old first (take k chunk.now)).buffer)) }
 {
     let mut g = first;
     let mut used = 0;

@@ -1,6 +1,7 @@
 pub mod Parting
 pub mod Gathering
 pub mod Turns
+pub mod Beginnings
 pub mod Putting
 pub mod Pieces
 pub mod Standing

@@ -1,14 +1,14 @@
--- What each turn of the loop keeps: what waits stays what waits behind the whole chunk; and what gets smaller: what is left of the chunk.
+-- What each turn of the loop keeps: what waits is what waits behind the bytes that are taken; and what gets smaller: what is left of the chunk.
 -- Assumes nothing.
 use Prim.Native.Nat.{◌-◌}
 use mathlib.Core.Path.{◌≡◌}
-use lib.ListN.{length, drop}
-use Rattle.streams.specs.Turns.{waiting_behind}
+use lib.ListN.{length, take}
+use Rattle.streams.specs.Turns.{waiting, waiting_behind}
 use Rattle.route.proofs.queries.feed.Given as goal
 
 abbrev pub invariant-loop-next : goal.invariant-loop-next
 invariant-loop-next g l =
-    waiting_behind l.initial.buffer l.initial.g l.chunk ≡ waiting_behind l.buffer l.g (drop l.next l.chunk)
+    waiting_behind l.initial.buffer l.initial.g (take l.next l.chunk) ≡ waiting l.buffer l.g
 
 abbrev pub decreases-loop-next : goal.decreases-loop-next
 decreases-loop-next g l = length l.chunk - l.next
