@@ -40,7 +40,7 @@ use Rattle.timecodes.specs.Made.{made}
 use Rattle.timecodes.specs.Statements.{CountUnder}
 use Rattle.timecodes.specs.Admitted.{Valid}
 use Rattle.timecodes.specs.MadeLaws.{in_day-own, under-day}
-use Rattle.promises.specs.Demand2.{two_digit_text, StrictText, read_at, ReadAs, Demand2, FillsEachRate, Demand2At5, Demand2At11}
+use Rattle.promises.specs.Demand2.{two_digit_text, StrictText, read_at, ReadAs, FillsEachRate, Demand2At5, Demand2At11}
 use Rattle.promises.proofs.Read.{mark-divides, read-label-for}
 use Rattle.promises.proofs.StrictLabels.{two_digits, two-digit-length, strict-digits, strict-scan}
 

@@ -19,7 +19,7 @@ with-is (Rate n) held size = record { number = refl; kind = refl; own = (refl, r
 with-is (Shot first end) held size = record { number = refl; kind = refl; own = (refl, refl, refl, refl); behind = refl; bytes = refl }
 with-is (Reel n) held size = record { number = refl; kind = refl; own = (refl, refl, refl, refl); behind = refl; bytes = refl }
 
-without_is : (refused : ℕ) → Without (record_of_kind refused 0) refused
+pub without_is : (refused : ℕ) → Without (record_of_kind refused 0) refused
 unfolding record_of_kind
 without_is refused =
     record { number = refl; kind = refl; none = record { rate = refl; first = refl; end = refl; reel = refl }; held = refl; size = refl }

@@ -6,40 +6,25 @@ use Rattle.shot_lists.specs.declared.records.Record.{Record}
 use Rattle.shot_lists.specs.declared.records.Record.TheVariants.{Rate, Shot, Reel}
 use Rattle.shot_lists.specs.declared.records.Entry.{Entry}
 use Rattle.shot_lists.specs.declared.records.Entry.TheVariants as entered
-use Rattle.shot_lists.specs.Entries.{on_disk}
-use Rattle.shot_lists.specs.Reading.{Reading, AllOf, FaultOf, checked_of, read_of}
 use Rattle.exports.specs.declared.lists.TzqRecord.{TzqRecord}
-use Rattle.exports.specs.declared.lists.TzqChecked.{TzqChecked}
-use Rattle.exports.specs.HandedLists.{record_of_kind, handed_record, handed_entry, handed_checked}
-use Rattle.promises.specs.ListsFieldsC.{With, Without, EntryWhole, CheckedWhole, ListsFieldsForC}
+use Rattle.exports.specs.HandedLists.{handed_record, handed_entry}
+use Rattle.promises.specs.ListsFieldsC.{RecordFields, EntryFields, ListsFieldsForC}
+use Rattle.promises.proofs.ListsC.{without_is}
 
-with-is : (r : Record) (held size : ℕ) → With (handed_record r held size) r held size
+with-is : (r : Record) (held size : ℕ) → RecordFields (handed_record r held size) r held size
 unfolding handed_record
 with-is (Rate n) held size = record { number = refl; own = (refl, refl, refl, refl, refl); behind = refl; bytes = refl }
 with-is (Shot first end) held size = record { number = refl; own = (refl, refl, refl, refl, refl); behind = refl; bytes = refl }
 with-is (Reel n) held size = record { number = refl; own = (refl, refl, refl, refl, refl); behind = refl; bytes = refl }
 
-without_is : (refused : ℕ) → Without (record_of_kind refused 0) refused
-unfolding record_of_kind
-without_is refused =
-    record { number = refl; kind = refl; none = record { rate = refl; first = refl; end = refl; reel = refl }; held = refl; size = refl }
-
-entry-is : (a : Entry) → EntryWhole (handed_entry a) a
+entry-is : (a : Entry) → EntryFields (handed_entry a) a
 unfolding handed_entry
 entry-is (entered.Taken r held size) = with-is r held size
 entry-is (entered.Refused e) = without_is e.number
 entry-is entered.End = without_is 0
 
-checked-is : (t : Reading) → CheckedWhole (handed_checked (checked_of t)) t
-unfolding handed_checked
-checked-is (AllOf rs) = (refl, refl)
-checked-is (FaultOf e) = (refl, refl)
-
-entry_whole : (t : TzqRecord) (a : Entry) → t ≡ handed_entry a → EntryWhole t a
-entry_whole t a e = subst (λ (x : TzqRecord). EntryWhole x a) (sym e) (entry-is a)
-
-checked-whole : (t : TzqChecked) (r : Reading) → t ≡ handed_checked (checked_of r) → CheckedWhole t r
-checked-whole t r e = subst (λ (x : TzqChecked). CheckedWhole x r) (sym e) (checked-is r)
+entry_whole : (t : TzqRecord) (a : Entry) → t ≡ handed_entry a → EntryFields t a
+entry_whole t a e = subst (λ (x : TzqRecord). EntryFields x a) (sym e) (entry-is a)
 
 pub lists_fields_for_c : ListsFieldsForC
-lists_fields_for_c = record { record_at = λ κs a x p. entry_whole x.0 _ p; check_list = λ κs a x p. checked-whole x.0 (read_of on_disk a.0.now) p }
+lists_fields_for_c = record { record_at = λ κs a x p. entry_whole x.0 _ p }

@@ -1,12 +1,11 @@
 -- What C is handed is the answer's numbers: those of the struct that the contract names.
 -- Assumes nothing.
-use mathlib.Core.Path.{◌≡◌, refl, sym, ◌∙◌, ap, subst}
+use mathlib.Core.Path.{◌≡◌, refl, sym, ◌∙◌, ap}
 use mathlib.Core.Logic.{◌↔◌}
 use mathlib.Core.Bool.{Bool, true, false}
-use lib.Dec.{T}
 use Rattle.timecodes.specs.declared.Answer.{Answer}
 use Rattle.timecodes.specs.declared.kinds.Kind.{Kind}
-use Rattle.timecodes.specs.declared.kinds.Kind.TheVariants.{Length, Position}
+use Rattle.timecodes.specs.declared.kinds.Kind.TheVariants.{Position}
 use Rattle.timecodes.specs.Kinds.{kind_from, is_position}
 use Rattle.timecodes.specs.KindLaws.{position-told}
 use Rattle.timecodes.specs.Timecode as answer

@@ -60,6 +60,5 @@ read_fields_for_c = record {
   neg = λ κs a x p. timecode x.0 _ p;
   abs = λ κs a x p. timecode x.0 _ p;
   rebase = λ κs a x p. timecode x.0 _ p;
-  handed_over = λ t. record { count = refl; rate = refl; position = kind-is t.position };
   formats = (refl, refl, refl, refl);
 }

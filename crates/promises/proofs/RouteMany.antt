@@ -1,6 +1,6 @@
 -- A directory that is tested once: the contracts' equations, one behind the other.
 -- Assumes nothing.
-use mathlib.Core.Path.{◌≡◌, ap, ◌∙◌}
+use mathlib.Core.Path.{ap, ◌∙◌}
 use Rattle.router.specs.Tested.{routed_in}
 use Rattle.router.proofs.Statements.{tested_once}
 use Rattle.promises.specs.RouteMany.{AskedMany}

@@ -13,7 +13,7 @@ use Rattle.rates.proofs.Sound.{drop-small}
 use Rattle.timecodes.specs.declared.Timecode.{Timecode}
 use Rattle.timecodes.specs.Admitted.{admits, is_within}
 use Rattle.timecodes.specs.AdmittedLaws.{admits-valid}
-use Rattle.labels.specs.Label.{label_count, is_dropped, dropped_in, hours_in, minutes_in, seconds_in, frames_in}
+use Rattle.labels.specs.Label.{label_count, is_dropped, minutes_in, seconds_in, frames_in}
 use Rattle.labels.specs.LabelLaws.{all-dropped}
 use Rattle.labels.specs.Sections.{sections_of}
 use Rattle.labels.proofs.Statements.{has_label}

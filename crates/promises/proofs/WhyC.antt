@@ -18,7 +18,7 @@ use Rattle.promises.specs.WhyC.{FactIs, ToldIs, ReasonIs, WhyForC}
 
 -- the numbers of the fact, in a struct that has them
 module _ (r : Reason) where
-  fact_is : (fact : Fact) → r.fact ≡ fact → FactIs (told_reason r) fact
+  pub fact_is : (fact : Fact) → r.fact ≡ fact → FactIs (told_reason r) fact
   unfolding told_reason no_fact limit_fact first_fact
   fact_is Nothing e = rw e
       (record { field = refl; limit = refl; value = refl }, record { negative = refl; hours = refl; minutes = refl; seconds = refl; frames = refl })

@@ -1,38 +1,25 @@
--- What C is handed of why a text is read as it is: the numbers of the struct that the contract names.
+-- What C is handed of why a text is read as it is, field by field: the numbers of the struct that the contract names.
 -- Assumes nothing.
 use mathlib.Core.Path.{◌≡◌, refl}
-use Rattle.numbers.specs.Total.{fitted-in}
 use Rattle.timecodes.specs.Kinds.{kind_from}
-use Rattle.reasons.specs.declared.Fact.{Fact}
-use Rattle.reasons.specs.declared.Fact.TheVariants.{Nothing, Limit, First}
 use Rattle.reasons.specs.declared.Reason.{Reason}
 use Rattle.reasons.specs.declared.Reasoned.{Reasoned}
 use Rattle.reasons.specs.declared.Reasoned.TheVariants.{Told, Refused}
 use Rattle.reasons.specs.Why.{why_of}
 use Rattle.exports.specs.declared.why.TzqReason.{TzqReason}
-use Rattle.exports.specs.HandedWhy.{stated_from, no_fact, limit_fact, first_fact, told_reason, no_reason, handed_reason}
-use Rattle.promises.specs.WhyFieldsC.{FactIs, ToldIs, ReasonIs, WhyFieldsForC}
+use Rattle.exports.specs.HandedWhy.{stated_from, told_reason, no_reason, handed_reason}
+use Rattle.promises.specs.WhyFieldsC.{ToldFields, ReasonFields, WhyFieldsForC}
+use Rattle.promises.proofs.WhyC.{fact_is}
 use Rattle.promises.proofs.ReadFieldsC.{read_is}
 use Rattle.promises.proofs.FirstLabelC.{why-short}
 
--- the numbers of the fact, in a struct that has them
+-- what is told, and what is not
 module _ (r : Reason) where
-  fact_is : (fact : Fact) → r.fact ≡ fact → FactIs (told_reason r) fact
-  unfolding told_reason no_fact limit_fact first_fact
-  fact_is Nothing e = rw e
-      (record { field = refl; limit = refl; value = refl }, record { negative = refl; hours = refl; minutes = refl; seconds = refl; frames = refl })
-  fact_is (Limit f) e = rw e (
-    record { field = refl; limit = λ h. fitted-in f.limit _ h; value = λ h. fitted-in f.value _ h },
-    record { negative = refl; hours = refl; minutes = refl; seconds = refl; frames = refl },
-  )
-  fact_is (First s) e = rw e
-      (record { field = refl; limit = refl; value = refl }, record { negative = refl; hours = refl; minutes = refl; seconds = refl; frames = refl })
-
-  told_is : ToldIs (told_reason r) r
+  told_is : ToldFields (told_reason r) r
   unfolding told_reason
-  told_is = record { refused = refl; read = read_is r.read; fact = fact_is r.fact refl; length = refl }
+  told_is = record { refused = refl; read = read_is r.read; fact = fact_is r r.fact refl; length = refl }
 
-reason-is : (t : TzqReason) (w : Reasoned) → t ≡ handed_reason w → ReasonIs t w
+reason-is : (t : TzqReason) (w : Reasoned) → t ≡ handed_reason w → ReasonFields t w
 unfolding no_reason
 reason-is t (Told r) e = rw e (told_is r)
 reason-is t (Refused x) e = rw e (record {
@@ -56,6 +43,4 @@ why_fields_for_c = record {
   room = λ κs a x p.
       why-short x.0 (kind_from a.1.1.1.1.0) a.0.now (stated_from a.1.0 a.1.1.0) a.1.1.1.0 a.1.1.1.1.1.0.now
       a.1.1.1.1.1.1.0 p.0;
-  stated = λ format. (refl, refl);
-  fields = (refl, refl, refl, refl, refl, refl, refl);
 }

@@ -2,7 +2,6 @@
 -- Assumes nothing.
 use Rattle.std.specs.Prelude.{ℕ, ◌≡◌, ◌↔◌, Bool, true, false, ℤ, pos}
 use Rattle.outcomes.specs.Outcome.{Gives}
-use Rattle.timecodes.specs.declared.Timecode.{Timecode}
 use Rattle.timecodes.specs.declared.Answer.{Answer}
 use Rattle.timecodes.specs.declared.Answer.TheVariants as answer
 use Rattle.timecodes.specs.declared.kinds.Kind.TheVariants.{Position}
@@ -22,7 +21,6 @@ use Rattle.reading.specs.declared.Stated.TheVariants.{Nothing, Format}
 use Rattle.reading.specs.declared.Read.{Read}
 use Rattle.reading.specs.declared.Read.TheVariants.{Label, Footage, Refused}
 use Rattle.reading.specs.For.{read_for}
-use Rattle.exports.specs.declared.handed.TzqTimecode.{TzqTimecode}
 use Rattle.exports.specs.declared.handed.TzqCount.{TzqCount}
 use Rattle.exports.specs.declared.handed.TzqRead.{TzqRead}
 use Rattle.exports.specs.Handed.{timecode_from}
@@ -78,13 +76,7 @@ abbrev pub AnswerWhole : TzqCount → Answer → Type 0
 AnswerWhole t (answer.At tc) = (t.refused ≡ 0) × (t.count ≡ tc.count) × ((t.position ≡ true) ↔ (tc.kind ≡ Position))
 AnswerWhole t (answer.Refused e) = (t.refused ≡ e.number) × (t.count ≡ pos 0) × (t.position ≡ false)
 
--- a record that C hands over is a timecode: its count, its rate, a position exactly where it says so
-pub record TakenFromC (t : TzqTimecode) (tc : Timecode) : Type 0 where
-  pub count : tc.count ≡ t.count
-  pub rate : tc.rate ≡ t.rate
-  pub position : (tc.kind ≡ Position) ↔ (t.position ≡ true)
-
--- so it is of whatever the contracts of the readers, the makers and the arithmetic for C allow; of what C hands over; and film formats are 1 to 4
+-- so it is of whatever the contracts of the readers, the makers and the arithmetic for C allow; and film formats are 1 to 4
 pub record ReadFieldsForC : Type 0 where
   pub read : Gives tzq_read.ended tzq-read-reads.Learnt (λ κs a x. ReadWhole x.0 (read_for (kind_from a.1.1.0) a.0.now Nothing a.1.0))
   pub read_as : Gives tzq_read_as.ended tzq-read-as-reads.Learnt (λ κs a x.
@@ -107,5 +99,4 @@ pub record ReadFieldsForC : Type 0 where
   pub neg : Gives tzq_neg.ended tzq-neg-reads.Learnt (λ κs a x. AnswerWhole x.0 (neg_of (timecode_from a.0)))
   pub abs : Gives tzq_abs.ended tzq-abs-reads.Learnt (λ κs a x. AnswerWhole x.0 (abs_of (timecode_from a.0)))
   pub rebase : Gives tzq_rebase.ended tzq-rebase-reads.Learnt (λ κs a x. AnswerWhole x.0 (rebase_of (timecode_from a.0) a.1.0))
-  pub handed_over : (t : TzqTimecode) → TakenFromC t (timecode_from t)
   pub formats : (format_number FF35mm4perf ≡ 1) × (format_number FF35mm3perf ≡ 2) × (format_number FF35mm2perf ≡ 3) × (format_number FF16mm ≡ 4)
