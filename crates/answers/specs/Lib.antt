@@ -1,3 +1,4 @@
+pub mod Causes
 pub mod Order
 pub mod OrderLaws
 pub mod Refusals

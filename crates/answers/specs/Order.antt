@@ -1,9 +1,8 @@
 -- The order of refusals (BEHAVIOUR: Refusals): a list of conditions, of which the first that holds refuses.
 -- Assumes nothing.
-use Rattle.std.specs.Prelude.{ℕ, ◌≡◌, Bool, false, cond, List, [], ◌∷◌}
+use Rattle.std.specs.Prelude.{ℕ, ◌≡◌, Bool, false, cond, List, [], ◌∷◌, Result, Ok, Err}
 use Rattle.answers.specs.declared.Refusal.{Refusal}
-use Rattle.answers.specs.declared.Verdict.{Verdict}
-use Rattle.answers.specs.declared.Verdict.TheVariants.{Passed, Refused}
+use Rattle.answers.specs.Causes.{refusal_number}
 
 -- a refusal, and whether its condition holds
 pub record Condition : Type 0 where
@@ -21,7 +20,7 @@ unless refused (c ∷ rest) answer = cond c.holds (refused c.refusal) (unless re
 -- the number that is given: that of the first condition that holds; 0 where none does
 abbrev pub first : List Condition → ℕ
 first [] = 0
-first (c ∷ rest) = cond c.holds c.refusal.number (first rest)
+first (c ∷ rest) = cond c.holds (refusal_number c.refusal) (first rest)
 
 -- none of the refusals has a place in a text
 abbrev pub NoPlaces : List Condition → Type 0
@@ -29,8 +28,8 @@ NoPlaces [] = Unit {0}
 NoPlaces (c ∷ rest) = (c.refusal.place ≡ 0) × NoPlaces rest
 
 -- whether a call goes on behind these conditions, or why it is refused
-abbrev pub judged : List Condition → Verdict
-judged conditions = unless Refused conditions Passed
+abbrev pub judged : List Condition → Result (Unit {0}) Refusal
+judged conditions = unless Err conditions (Ok tt)
 
 -- no condition holds
 abbrev pub Clear : List Condition → Type 0

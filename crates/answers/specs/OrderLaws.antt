@@ -1,32 +1,32 @@
 -- Laws of the order of refusals, for every type of answers (BEHAVIOUR: Refusals): what a list of conditions refuses, and what an answer behind it tells.
 -- Assumes nothing.
-use Rattle.std.specs.Prelude.{ℕ, ◌≡◌, refl, Bool, true, false, not, cond, List, [], ◌∷◌, ◌++◌}
+use Rattle.std.specs.Prelude.{ℕ, ◌≡◌, refl, Bool, true, false, not, cond, List, [], ◌∷◌, ◌++◌, Ok, Err}
 use Rattle.std.proofs.Common.{sym, ◌∙◌, ap, arith}
 use Rattle.answers.specs.declared.Refusal.{Refusal}
-use Rattle.answers.specs.declared.Verdict.TheVariants.{Passed, Refused}
+use Rattle.answers.specs.Causes.{refusal_number}
 use Rattle.answers.specs.Order.{Condition, unless, first, NoPlaces, judged, Clear}
 
 -- ---- the verdict, and what is answered behind it
 
 -- what is refused is refused to every type of answers
-pub judged-refused : {A : Type 0} (conditions : List Condition) (e : Refusal) → judged conditions ≡ Refused e
+pub judged-refused : {A : Type 0} (conditions : List Condition) (e : Refusal) → judged conditions ≡ Err e
     → (refused : Refusal → A) (answer : A) → unless refused conditions answer ≡ refused e
 judged-refused [] e h refused answer = let z : ◌≡◌ {A = ℕ} 0 1 = cc in absurd (omega arith)
 judged-refused (c ∷ rest) e h refused answer = by c.holds (λ k. judged-refused rest e k refused answer) h
   where
-    by : (t : Bool) → (judged rest ≡ Refused e → unless refused rest answer ≡ refused e)
-        → cond t (Refused c.refusal) (judged rest) ≡ Refused e
+    by : (t : Bool) → (judged rest ≡ Err e → unless refused rest answer ≡ refused e)
+        → cond t (Err c.refusal) (judged rest) ≡ Err e
         → cond t (refused c.refusal) (unless refused rest answer) ≡ refused e
     by true later h = let same : c.refusal ≡ e = cc in ap refused same
     by false later h = later h
 
 -- what is passed is clear of every condition
-pub judged-clear : (conditions : List Condition) → judged conditions ≡ Passed → Clear conditions
+pub judged-clear : (conditions : List Condition) → judged conditions ≡ (Ok tt) → Clear conditions
 judged-clear [] h = tt
 judged-clear (c ∷ rest) h = by c.holds refl (λ k. judged-clear rest k) h
   where
-    by : (t : Bool) → c.holds ≡ t → (judged rest ≡ Passed → Clear rest)
-        → cond t (Refused c.refusal) (judged rest) ≡ Passed → (c.holds ≡ false) × Clear rest
+    by : (t : Bool) → c.holds ≡ t → (judged rest ≡ (Ok tt) → Clear rest)
+        → cond t (Err c.refusal) (judged rest) ≡ (Ok tt) → (c.holds ≡ false) × Clear rest
     by true e later h = let z : ◌≡◌ {A = ℕ} 0 1 = cc in absurd (omega arith)
     by false e later h = (e, later h)
 
@@ -70,13 +70,13 @@ unless-append refused (c ∷ rest) more answer =
 
 -- ---- the number given is that of the first condition that holds
 
-pub unless-number : {A : Type 0} (number_of : A → ℕ) (refused : Refusal → A) → ((e : Refusal) → number_of (refused e) ≡ e.number)
+pub unless-number : {A : Type 0} (number_of : A → ℕ) (refused : Refusal → A) → ((e : Refusal) → number_of (refused e) ≡ refusal_number e)
     → (conditions : List Condition) (answer : A) → number_of answer ≡ 0 → number_of (unless refused conditions answer) ≡ first conditions
 unless-number number_of refused told [] answer none = none
 unless-number number_of refused told (c ∷ rest) answer none = by c.holds (unless-number number_of refused told rest answer none)
   where
     by : (t : Bool) → number_of (unless refused rest answer) ≡ first rest
-        → number_of (cond t (refused c.refusal) (unless refused rest answer)) ≡ cond t c.refusal.number (first rest)
+        → number_of (cond t (refused c.refusal) (unless refused rest answer)) ≡ cond t (refusal_number c.refusal) (first rest)
     by true later = told c.refusal
     by false later = later
 

@@ -1,18 +1,13 @@
--- Refusal numbers and bounds (BEHAVIOUR: Refusals): one name a number, the bounds of a count, and the answer that is a count or a refusal.
+-- Refusals and bounds (BEHAVIOUR: Refusals): one name a number, the bounds of a count, and the answer that is a count or a refusal.
 -- Assumes nothing.
-use Rattle.std.specs.Prelude.{ℕ, Bool, not, [], ◌∷◌, leb, ℤ, pos, nat_abs}
+use Rattle.std.specs.Prelude.{ℕ, Bool, not, [], ◌∷◌, leb, ℤ, pos, nat_abs, Result, Ok, Err}
 use Rattle.answers.specs.declared.Refusal.{Refusal}
-use Rattle.answers.specs.declared.Counted.{Counted}
-use Rattle.answers.specs.declared.Counted.TheVariants.{Count, Refused}
+use Rattle.answers.specs.Causes.{refusal_number, refusal}
 use Rattle.answers.specs.Order.{Condition, when, unless}
-
--- a refusal's number, without a place in a text: its place is 0
-abbrev pub refusal : ℕ → Refusal
-refusal n = record { number = n; place = 0 }
 
 -- the refusal of a text, with its place in it
 abbrev pub at_place : Refusal → (place : ℕ) → Refusal
-at_place e place = record { number = e.number; place = place }
+at_place e place = record { cause = e.cause; place = place }
 
 -- 1: the text has no shape
 abbrev pub no_shape : Refusal
@@ -98,14 +93,14 @@ abbrev pub bad_count : ℤ → Condition
 bad_count z = when out_of_bounds (not (is_count z))
 
 -- the resulting count, held to its bounds
-unfoldable pub held : ℤ → Counted
-held z = unless Refused (bad_count z ∷ []) (Count z)
+unfoldable pub held : ℤ → Result ℤ Refusal
+held z = unless Err (bad_count z ∷ []) (Ok z)
 
--- the number of an answer (0: not refused), and its count (a refusal's is 0)
-abbrev pub number_of : Counted → ℕ
-number_of (Count z) = 0
-number_of (Refused e) = e.number
+-- the number of an answer (0: not refused), whatever is answered, and its count (a refusal's is 0)
+abbrev pub number_of : {A : Type 0} → Result A Refusal → ℕ
+number_of (Ok a) = 0
+number_of (Err e) = refusal_number e
 
-abbrev pub count_of : Counted → ℤ
-count_of (Count z) = z
-count_of (Refused e) = pos 0
+abbrev pub count_of : Result ℤ Refusal → ℤ
+count_of (Ok z) = z
+count_of (Err e) = pos 0

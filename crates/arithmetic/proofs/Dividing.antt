@@ -1,5 +1,6 @@
 -- A divisor p/q that is admitted: what that tells, and that the dividend fits; and one that is not.
 -- Assumes nothing.
+use Rattle.std.specs.Prelude.{Ok, Err}
 use Prim.Native.Nat.{ℕ, ◌<◌, ◌≤◌, ◌^◌}
 use mathlib.Core.Path.{◌≡◌, sym, ◌∙◌}
 use mathlib.Core.List.{[], ◌∷◌, ◌++◌}
@@ -9,8 +10,6 @@ use borrow.Author.Tests.{ltb-true}
 use lib.IntN.{ℤ, pos, nat_abs, ◌*ℤ◌}
 use Rattle.numbers.specs.DistanceLaws.{abs-product}
 use Rattle.answers.specs.declared.Refusal.{Refusal}
-use Rattle.answers.specs.declared.Verdict.TheVariants as verdict
-use Rattle.answers.specs.declared.Counted.TheVariants.{Count, Refused}
 use Rattle.answers.specs.Order.{judged, unless}
 use Rattle.answers.specs.OrderLaws.{judged-clear, judged-refused, unless-clear, unless-append, not_in}
 use Rattle.answers.specs.Refusals.{most_count, bad_count, held}
@@ -18,7 +17,7 @@ use Rattle.time.specs.Bounds.{most_factor, is_fraction}
 use Rattle.time.specs.BoundsLaws.{InBounds, is_fraction-told}
 use Rattle.arithmetic.specs.Divisor.{is_divisor, divisor_when}
 
-module _ (p : ℤ) (q : ℕ) (passed : judged (divisor_when p q) ≡ verdict.Passed) where
+module _ (p : ℤ) (q : ℕ) (passed : judged (divisor_when p q) ≡ (Ok tt)) where
   pub divisor-within : InBounds most_factor p q
   divisor-within = is_fraction-told most_factor p q (not_in (is_fraction most_factor p q) (judged-clear (divisor_when p q) passed).0)
 
@@ -30,17 +29,17 @@ module _ (p : ℤ) (q : ℕ) (passed : judged (divisor_when p q) ≡ verdict.Pas
   dividend-lt count h = rw (abs-product count (pos q)) (omega (arith, mul-le-mul h divisor-within.bottom))
 
   -- only the resulting count may still refuse
-  pub held-divided : (z : ℤ) → held z ≡ unless Refused (divisor_when p q ++ (bad_count z ∷ [])) (Count z)
+  pub held-divided : (z : ℤ) → held z ≡ unless Err (divisor_when p q ++ (bad_count z ∷ [])) (Ok z)
   unfolding held
   held-divided z =
       sym
-      (unless-append Refused (divisor_when p q) (bad_count z ∷ []) (Count z)
-      ∙ unless-clear Refused (divisor_when p q) (unless Refused (bad_count z ∷ []) (Count z)) (judged-clear (divisor_when p q) passed))
+      (unless-append Err (divisor_when p q) (bad_count z ∷ []) (Ok z)
+      ∙ unless-clear Err (divisor_when p q) (unless Err (bad_count z ∷ []) (Ok z)) (judged-clear (divisor_when p q) passed))
 
 -- one that is not refuses, whatever the count would be
-pub divided-refused : (p : ℤ) (q : ℕ) (e : Refusal) → judged (divisor_when p q) ≡ verdict.Refused e
-    → (z : ℤ) → Refused e ≡ unless Refused (divisor_when p q ++ (bad_count z ∷ [])) (Count z)
+pub divided-refused : (p : ℤ) (q : ℕ) (e : Refusal) → judged (divisor_when p q) ≡ Err e
+    → (z : ℤ) → Err e ≡ unless Err (divisor_when p q ++ (bad_count z ∷ [])) (Ok z)
 divided-refused p q e h z =
     sym
-    (unless-append Refused (divisor_when p q) (bad_count z ∷ []) (Count z)
-    ∙ judged-refused (divisor_when p q) e h Refused (unless Refused (bad_count z ∷ []) (Count z)))
+    (unless-append Err (divisor_when p q) (bad_count z ∷ []) (Ok z)
+    ∙ judged-refused (divisor_when p q) e h Err (unless Err (bad_count z ∷ []) (Ok z)))

@@ -1,5 +1,7 @@
 -- Two timecodes joined, as a sum or a difference: what an answer tells of its kind, its frame and its day, and at one rate that of the counts.
 -- Assumes nothing.
+use Rattle.answers.specs.declared.Refusal.{Refusal}
+use Rattle.std.specs.Prelude.{Some, Result, Ok, Err}
 use Prim.Native.Nat.{ℕ}
 use mathlib.Core.Path.{◌≡◌, refl, sym, ◌∙◌, ap, ap₂, subst}
 use mathlib.Core.Logic.{◌↔◌}
@@ -10,18 +12,14 @@ use Rattle.numbers.specs.ProductLaws.{mul-add, mul-sub}
 use Rattle.numbers.specs.Nearest.{Nearest, nearest_z}
 use Rattle.numbers.specs.NearestSignedLaws.{exact}
 use Rattle.numbers.proofs.Statements.{nearest_is, nearest_one}
-use Rattle.answers.specs.declared.Counted.{Counted}
-use Rattle.answers.specs.declared.Counted.TheVariants as counted
 use Rattle.answers.specs.Order.{unless, Clear}
 use Rattle.answers.specs.OrderLaws.{unless-clear, not_in}
 use Rattle.answers.specs.Refusals.{bad_count, held}
 use Rattle.rates.specs.Rates.{is_rate, frame_ticks, bad_rate}
 use Rattle.rates.proofs.Sound.{frame_ticks-pos}
 use Rattle.timecodes.specs.declared.Timecode.{Timecode}
-use Rattle.timecodes.specs.declared.Answer.TheVariants.{At, Refused}
 use Rattle.timecodes.specs.declared.kinds.Kind.{Kind}
 use Rattle.timecodes.specs.declared.kinds.Kind.TheVariants.{Length, Position}
-use Rattle.timecodes.specs.declared.kinds.Mixed.TheVariants.{Of}
 use Rattle.timecodes.specs.Kinds.{mixed_kinds, is_never, kind_in}
 use Rattle.timecodes.specs.Timecode.{timecode_as, placed, moved_to, number_of}
 use Rattle.timecodes.specs.Made.{OfDay, made, settled}
@@ -38,9 +36,9 @@ spread false = mul-add
 spread true = mul-sub
 
 -- a length that is settled is that of the left one, where that is a length
-length_moved : (a : Timecode) (x : Counted) → a.kind ≡ Length → settled Length (placed a.rate x) ≡ moved_to a a.rate x
-length_moved a (counted.Count z) e = ap (λ (k : Kind). At (timecode_as k z a.rate)) (sym e)
-length_moved a (counted.Refused r) e = refl
+length_moved : (a : Timecode) (x : Result ℤ Refusal) → a.kind ≡ Length → settled Length (placed a.rate x) ≡ moved_to a a.rate x
+length_moved a (Ok z) e = ap (λ (k : Kind). Ok (timecode_as k z a.rate)) (sym e)
+length_moved a (Err r) e = refl
 
 module _ (minus : Bool) (a b : Timecode) where
   abbrev frame : ℤ
@@ -49,7 +47,7 @@ module _ (minus : Bool) (a b : Timecode) where
   abbrev kind : Kind
   kind = joined_kind (joining_of minus) a b
 
-  module _ (end : Timecode) (h : joined minus a b ≡ At end) where
+  module _ (end : Timecode) (h : joined minus a b ≡ Ok end) where
     -- what an answer tells
     told : Clear (joined_when minus a b) × (made kind frame a.rate ≡ end)
     unfolding joined
@@ -58,8 +56,8 @@ module _ (minus : Bool) (a b : Timecode) where
     kind-told : kind ≡ end.kind
     kind-told = sym (made-kind kind frame a.rate) ∙ ap (λ (k : Timecode). k.kind) told.1
 
-    pub joined-kind : mixed_kinds (joining_of minus) a.kind b.kind ≡ Of end.kind
-    joined-kind = mixed-told (mixed_kinds (joining_of minus) a.kind b.kind) told.0.1.1.0 ∙ ap Of kind-told
+    pub joined-kind : mixed_kinds (joining_of minus) a.kind b.kind ≡ Some end.kind
+    joined-kind = mixed-told (mixed_kinds (joining_of minus) a.kind b.kind) told.0.1.1.0 ∙ ap Some kind-told
 
     -- the end, as a timecode of a kind that it has
     ends : (k : Kind) → end.kind ≡ k → made k frame a.rate ≡ end
@@ -103,17 +101,17 @@ module _ (minus : Bool) (a b : Timecode) where
         let n = frame_ticks a.rate in
         ap (λ (z : ℤ). nearest_z z n) whole ∙ exact (sum_or minus a.count b.count) n (frame_ticks-pos a.rate s.rate)
 
-    pub joined-exact-as : (k : Kind) → mixed_kinds (joining_of minus) a.kind b.kind ≡ Of k
+    pub joined-exact-as : (k : Kind) → mixed_kinds (joining_of minus) a.kind b.kind ≡ Some k
         → joined minus a b ≡ settled k (placed a.rate (held (sum_or minus a.count b.count)))
     unfolding joined
     joined-exact-as k m =
-        unless-clear Refused (admits_both (joining_of minus) a b) (unless Refused (bad_count frame ∷ []) (At (made kind frame a.rate)))
+        unless-clear Err (admits_both (joining_of minus) a b) (unless Err (bad_count frame ∷ []) (Ok (made kind frame a.rate)))
         (valid-admits_both (joining_of minus) a b s t (ap is_never m))
         ∙ sym (settled-held kind a.rate frame)
         ∙ ap₂ (λ (x : Kind) (z : ℤ). settled x (placed a.rate (held z))) (ap kind_in m) same-frame
 
     -- two lengths
-    pub joined-exact : mixed_kinds (joining_of minus) a.kind b.kind ≡ Of Length → a.kind ≡ Length
+    pub joined-exact : mixed_kinds (joining_of minus) a.kind b.kind ≡ Some Length → a.kind ≡ Length
         → joined minus a b ≡ moved_to a a.rate (held (sum_or minus a.count b.count))
     joined-exact m f = joined-exact-as Length m ∙ length_moved a (held (sum_or minus a.count b.count)) f
 
@@ -123,11 +121,11 @@ module _ (minus : Bool) (a b : Timecode) where
       ↔ (Clear (bad_rate a.rate ∷ bad_rate b.rate ∷ []) × (is_never (mixed_kinds (joining_of minus) a.kind b.kind) ≡ true))
   unfolding joined
   joined-refused =
-      barred-exactly number_of Refused (λ e. refl) (bad_rate a.rate ∷ bad_rate b.rate ∷ []) (bad_input a ∷ bad_input b ∷ bad_count frame ∷ [])
-      refl refl (At (made kind frame a.rate)) refl (is_never (mixed_kinds (joining_of minus) a.kind b.kind))
+      barred-exactly number_of Err (λ e. refl) (bad_rate a.rate ∷ bad_rate b.rate ∷ []) (bad_input a ∷ bad_input b ∷ bad_count frame ∷ [])
+      refl refl (Ok (made kind frame a.rate)) refl (is_never (mixed_kinds (joining_of minus) a.kind b.kind))
 
   -- what is joined is within its bounds
-  pub joined-takes : (end : Timecode) → joined minus a b ≡ At end → Valid a × Valid b
+  pub joined-takes : (end : Timecode) → joined minus a b ≡ Ok end → Valid a × Valid b
   unfolding joined
   joined-takes end h =
       let clear = (at_told (joined_when minus a b) (made kind frame a.rate) end h).0 in (

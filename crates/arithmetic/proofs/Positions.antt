@@ -1,5 +1,6 @@
 -- The statements of specs/PositionStatements.antt, proved: by what an answer tells, by the table of kinds, and by the number of the day.
 -- Assumes nothing.
+use Rattle.std.specs.Prelude.{Some, Result, Ok, Err}
 use Prim.Native.Nat.{ℕ, ◌-◌, ◌≤◌, ◌<◌}
 use native.Mathlib.Nat.{div-add-mod'}
 use native.Mathlib.Omega.{arith}
@@ -13,7 +14,6 @@ use lib.IntN.{ℤ, pos, negsuc, neg_ℤ, nat_abs, ◌+ℤ◌, ◌-ℤ◌, -ℤ-+
 use Rattle.numbers.specs.DistanceLaws.{far}
 use Rattle.numbers.specs.ModuloLaws.{reduced-in}
 use Rattle.answers.specs.declared.Refusal.{Refusal}
-use Rattle.answers.specs.declared.Counted.{Counted}
 use Rattle.answers.specs.Order.{Condition, unless, Clear}
 use Rattle.answers.specs.OrderLaws.{unless-told, not_in, in-not}
 use Rattle.answers.specs.Laws.{held_in}
@@ -22,11 +22,9 @@ use Rattle.rates.specs.Rates.{is_rate, bad_rate}
 use Rattle.rates.specs.Day.{day_frames}
 use Rattle.rates.proofs.Days.{day-pos, day-le}
 use Rattle.timecodes.specs.declared.Timecode.{Timecode}
-use Rattle.timecodes.specs.declared.Answer.TheVariants.{At, Refused}
 use Rattle.timecodes.specs.declared.kinds.Kind.{Kind}
 use Rattle.timecodes.specs.declared.kinds.Kind.TheVariants.{Length, Position}
 use Rattle.timecodes.specs.declared.kinds.Joining.TheVariants.{Sum, Difference, Comparison}
-use Rattle.timecodes.specs.declared.kinds.Mixed.TheVariants.{Of}
 use Rattle.timecodes.specs.Kinds.{is_position, mixed_kinds, is_never, kind_in}
 use Rattle.timecodes.specs.Timecode.{timecode_as, timecode, position, recounted, moved, placed, number_of}
 use Rattle.timecodes.specs.Made.{made, in_day, settled}
@@ -35,7 +33,6 @@ use Rattle.timecodes.specs.AdmittedLaws.{at_told, admits_length-valid, admits_le
 use Rattle.timecodes.specs.KindLaws.{below15, barred-exactly, position-exactly}
 use Rattle.timecodes.specs.MadeLaws.{in_day-one, in_day-own, under-day}
 use Rattle.timecodes.specs.Instant.{instant}
-use Rattle.arithmetic.specs.declared.Compared.TheVariants as compared
 use Rattle.arithmetic.specs.Sum.{add_of, sub_of}
 use Rattle.arithmetic.specs.Product.{product_when, mul_of}
 use Rattle.arithmetic.specs.Divisor.{bad_divisor}
@@ -57,13 +54,13 @@ position-apart : Position ≡ Length → ⊥
 position-apart e = let z : true ≡ false = ap is_position e in subst T z tt
 
 -- each row of the table
-sum_by : (a b end : Kind) → mixed_kinds Sum a b ≡ Of end → (end ≡ Length) ↔ ((a ≡ Length) × (b ≡ Length))
+sum_by : (a b end : Kind) → mixed_kinds Sum a b ≡ Some end → (end ≡ Length) ↔ ((a ≡ Length) × (b ≡ Length))
 sum_by Length Length end e = (λ k. (refl, refl), λ k. sym (ap kind_in e))
 sum_by Length Position end e = (λ k. absurd (position-apart (ap kind_in e ∙ k)), λ k. absurd (position-apart k.1))
 sum_by Position Length end e = (λ k. absurd (position-apart (ap kind_in e ∙ k)), λ k. absurd (position-apart k.0))
 sum_by Position Position end e = let z : true ≡ false = ap is_never e in absurd (subst T z tt)
 
-difference-by : (a b end : Kind) → mixed_kinds Difference a b ≡ Of end → (end ≡ Length) ↔ (a ≡ b)
+difference-by : (a b end : Kind) → mixed_kinds Difference a b ≡ Some end → (end ≡ Length) ↔ (a ≡ b)
 difference-by Length Length end e = (λ k. refl, λ k. sym (ap kind_in e))
 difference-by Length Position end e = let z : true ≡ false = ap is_never e in absurd (subst T z tt)
 difference-by Position Length end e = (λ k. absurd (position-apart (ap kind_in e ∙ k)), λ k. absurd (position-apart k))
@@ -121,10 +118,10 @@ difference_takes = joined-takes true
 pub compare_takes : CompareTakes
 unfolding compare_of
 compare_takes a b o h =
-    let clear = (unless-told compared.Refused (admits_both Comparison a b) (compared.Order (order_of (instant a) (instant b))) (compared.Order o) none h).0 in
+    let clear = (unless-told Err (admits_both Comparison a b) (Ok (order_of (instant a) (instant b))) (Ok o) none h).0 in
     (admits_both-left Comparison a b clear, admits_both-right Comparison a b clear)
   where
-    none : (e : Refusal) → compared.Refused e ≡ compared.Order o → ⊥
+    none : (e : Refusal) → Err e ≡ Ok o → ⊥
     none e k = let clash : ◌≡◌ {A = ℕ} 0 1 = cc in omega arith
 
 -- 15 behind two rates, and the kinds by their row
@@ -144,23 +141,23 @@ pub compare_refused : CompareRefused
 unfolding compare_of
 compare_refused a b =
     behind-rates a b
-    (barred-exactly compare.number_of compared.Refused (λ e. refl) (bad_rate a.rate ∷ bad_rate b.rate ∷ []) (bad_input a ∷ bad_input b ∷ [])
-    refl refl (compared.Order (order_of (instant a) (instant b))) refl (is_never (mixed_kinds Comparison a.kind b.kind)))
+    (barred-exactly compare.number_of Err (λ e. refl) (bad_rate a.rate ∷ bad_rate b.rate ∷ []) (bad_input a ∷ bad_input b ∷ [])
+    refl refl (Ok (order_of (instant a) (instant b))) refl (is_never (mixed_kinds Comparison a.kind b.kind)))
     (comparison-never a.kind b.kind)
 
 -- an operation for lengths only, whatever comes behind its admission
 only : (tc end : Timecode) (more : List Condition) → below15 more ≡ true
-    → (number_of (unless Refused (admits_length tc ++ more) (At end)) ≡ 15) ↔ PositionAtRate tc
+    → (number_of (unless Err (admits_length tc ++ more) (Ok end)) ≡ 15) ↔ PositionAtRate tc
 only tc end more below =
-    let x = position-exactly number_of Refused (λ e. refl) (bad_rate tc.rate ∷ []) (bad_input tc ∷ more) refl below (At end) refl tc.kind in
+    let x = position-exactly number_of Err (λ e. refl) (bad_rate tc.rate ∷ []) (bad_input tc ∷ more) refl below (Ok end) refl tc.kind in
     (λ e. let c = x.0 e in (not_in _ c.0.0, c.1), λ h. x.1 ((in-not h.0, tt), h.1))
 
 rebased-only : (tc : Timecode) (rate : ℕ) → (number_of (rebase_of tc rate) ≡ 15) ↔ ((is_rate rate ≡ true) × PositionAtRate tc)
 unfolding rebase_of
 rebased-only tc rate =
     let x =
-    position-exactly number_of Refused (λ e. refl) (bad_rate rate ∷ bad_rate tc.rate ∷ []) (bad_input tc ∷ []) refl refl
-    (At (moved tc tc.count rate)) refl tc.kind in
+    position-exactly number_of Err (λ e. refl) (bad_rate rate ∷ bad_rate tc.rate ∷ []) (bad_input tc ∷ []) refl refl
+    (Ok (moved tc tc.count rate)) refl tc.kind in
     (λ e. let c = x.0 e in (not_in _ c.0.0, (not_in _ c.0.1.0, c.1)), λ h. x.1 ((in-not h.0, (in-not h.1.0, tt)), h.1.1))
 
 pub lengths_only : LengthsOnly
@@ -180,7 +177,7 @@ lengths_only =
 -- ---- what is answered of a length
 
 -- behind its admission and more
-length_to : (tc end : Timecode) (more : List Condition) (z : ℤ) → unless Refused (admits_length tc ++ more) (At (recounted tc z)) ≡ At end
+length_to : (tc end : Timecode) (more : List Condition) (z : ℤ) → unless Err (admits_length tc ++ more) (Ok (recounted tc z)) ≡ Ok end
     → LengthTo tc end z tc.rate
 length_to tc end more z h =
     let told = at_told (admits_length tc ++ more) (recounted tc z) end h in
@@ -197,7 +194,7 @@ own-count tc end z x =
       is = x.is ∙ ap (λ (y : ℤ). timecode y tc.rate) (sym (ap (λ (t : Timecode). t.count) x.is));
     }
 
-rebased-to : (tc end : Timecode) (rate : ℕ) → rebase_of tc rate ≡ At end → LengthTo tc end tc.count rate
+rebased-to : (tc end : Timecode) (rate : ℕ) → rebase_of tc rate ≡ Ok end → LengthTo tc end tc.count rate
 unfolding rebase_of
 rebased-to tc end rate h =
     let told = at_told (bad_rate rate ∷ admits_length tc) (moved tc tc.count rate) end h in
@@ -233,8 +230,8 @@ module _ (rate : ℕ) (h : is_rate rate ≡ true) where
   length-of z l = record { rate = h; within = within-day z l }
 
   -- what is settled of a number within a day of 0
-  settled-as : (kind : Kind) (z : ℤ) → nat_abs z ≤ day_frames rate → settled kind (placed rate (held z)) ≡ At (made kind z rate)
-  settled-as kind z l = ap (λ (x : Counted). settled kind (placed rate x)) (held_in z (within-day z l))
+  settled-as : (kind : Kind) (z : ℤ) → nat_abs z ≤ day_frames rate → settled kind (placed rate (held z)) ≡ Ok (made kind z rate)
+  settled-as kind z l = ap (λ (x : Result ℤ Refusal). settled kind (placed rate x)) (held_in z (within-day z l))
 
   -- the day itself is reduced to 0, and -1 to its last frame
   day-none : in_day rate (pos (day_frames rate)) ≡ pos 0
@@ -247,11 +244,11 @@ module _ (rate : ℕ) (h : is_rate rate ≡ true) where
   last_frame = ap pos (reduced-in (negsuc 0) (day_frames rate) (day-pos rate h) ∙ omega (arith, div-add-mod' 0 (day_frames rate)))
 
   -- one frame on from the last, either way round
-  over : (z : ℤ) → z ≡ pos (day_frames rate) → settled Position (placed rate (held z)) ≡ At (position (pos 0) rate)
+  over : (z : ℤ) → z ≡ pos (day_frames rate) → settled Position (placed rate (held z)) ≡ Ok (position (pos 0) rate)
   over z e =
       ap (λ (y : ℤ). settled Position (placed rate (held y))) e
       ∙ settled-as Position (pos (day_frames rate)) (omega arith)
-      ∙ ap (λ (y : ℤ). At (position y rate)) day-none
+      ∙ ap (λ (y : ℤ). Ok (position y rate)) day-none
 
   abbrev final : Timecode
   final = position (pos (day_frames rate - 1)) rate
@@ -262,39 +259,39 @@ module _ (rate : ℕ) (h : is_rate rate ≡ true) where
   one-valid : Valid (timecode (pos 1) rate)
   one-valid = length-of (pos 1) (omega (arith, day-pos rate h))
 
-  day-forth : add_of final (timecode (pos 1) rate) ≡ At (position (pos 0) rate)
+  day-forth : add_of final (timecode (pos 1) rate) ≡ Ok (position (pos 0) rate)
   day-forth =
       sum_exact_as final (timecode (pos 1) rate) final-valid one-valid refl Position refl
       ∙ over (pos (day_frames rate - 1) +ℤ pos 1) (ap pos (omega (arith, day-pos rate h)))
 
-  day-turned : add_of (timecode (pos 1) rate) final ≡ At (position (pos 0) rate)
+  day-turned : add_of (timecode (pos 1) rate) final ≡ Ok (position (pos 0) rate)
   day-turned =
       sum_exact_as (timecode (pos 1) rate) final one-valid final-valid refl Position refl
       ∙ over (pos 1 +ℤ pos (day_frames rate - 1)) (ap pos (omega (arith, day-pos rate h)))
 
-  day-back : sub_of (position (pos 0) rate) (timecode (pos 1) rate) ≡ At final
+  day-back : sub_of (position (pos 0) rate) (timecode (pos 1) rate) ≡ Ok final
   day-back =
       difference_exact_as (position (pos 0) rate) (timecode (pos 1) rate) (of_day 0 (day-pos rate h)) one-valid refl Position refl
       ∙ settled-as Position (negsuc 0) (omega (arith, day-pos rate h))
-      ∙ ap (λ (y : ℤ). At (position y rate)) last_frame
+      ∙ ap (λ (y : ℤ). Ok (position y rate)) last_frame
 
   -- ---- there and back again
   module _ (p q : ℕ) (k : p < day_frames rate) (l : q < day_frames rate) where
     between : nat_abs (pos p -ℤ pos q) ≤ day_frames rate
     between = omega (arith, far p q)
 
-    there : sub_of (position (pos p) rate) (position (pos q) rate) ≡ At (timecode (pos p -ℤ pos q) rate)
+    there : sub_of (position (pos p) rate) (position (pos q) rate) ≡ Ok (timecode (pos p -ℤ pos q) rate)
     there =
         difference_exact_as (position (pos p) rate) (position (pos q) rate) (of_day p k) (of_day q l) refl Length refl
         ∙ settled-as Length (pos p -ℤ pos q) between
 
-    again : add_of (position (pos q) rate) (timecode (pos p -ℤ pos q) rate) ≡ At (position (pos p) rate)
+    again : add_of (position (pos q) rate) (timecode (pos p -ℤ pos q) rate) ≡ Ok (position (pos p) rate)
     again =
         let sum : pos q +ℤ (pos p -ℤ pos q) ≡ pos p = +ℤ_comm (pos q) (pos p -ℤ pos q) ∙ -ℤ-+ℤ_cancel (pos p) (pos q) in
         sum_exact_as (position (pos q) rate) (timecode (pos p -ℤ pos q) rate) (of_day q l) (length-of (pos p -ℤ pos q) between) refl Position refl
         ∙ ap (λ (z : ℤ). settled Position (placed rate (held z))) sum
         ∙ settled-as Position (pos p) (omega arith)
-        ∙ ap (λ (z : ℤ). At (position z rate)) (in_day-own rate h p k)
+        ∙ ap (λ (z : ℤ). Ok (position z rate)) (in_day-own rate h p k)
 
 pub midnight : Midnight
 midnight = record { forth = day-forth; back = day-back; turned = day-turned }

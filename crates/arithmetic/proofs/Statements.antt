@@ -1,5 +1,6 @@
 -- The statements of specs/Statements.antt, proved: by what an answer tells of its conditions, and what each rounding is.
 -- Assumes nothing.
+use Rattle.std.specs.Prelude.{Ok, Err}
 use Prim.Native.Nat.{ℕ, ◌<◌}
 use mathlib.Core.Path.{◌≡◌, subst, subst₂, ap₂}
 use mathlib.Core.Bool.{true, false, not}
@@ -22,7 +23,6 @@ use Rattle.timecodes.specs.AdmittedLaws.{at_told}
 use Rattle.timecodes.specs.Instant.{instant}
 use Rattle.time.specs.Bounds.{most_factor, is_fraction}
 use Rattle.time.specs.BoundsLaws.{is_fraction-told}
-use Rattle.arithmetic.specs.declared.Compared.TheVariants.{Order, Refused}
 use Rattle.arithmetic.specs.Product.{product_of, mul_when, mul_of}
 use Rattle.arithmetic.specs.Divisor.{is_divisor}
 use Rattle.arithmetic.specs.Truncating.{div_when, div_of, rem_of}
@@ -82,12 +82,12 @@ remainder_nearest tc end p q h =
     (nearest_is (rem_z (tc.count *ℤ pos q) p) q (factor-pos p q told.0.1.1.1.0))
 
 -- an order is no refusal
-order-apart : (o : ℤ) (e : Refusal) → Refused e ≡ Order o → ⊥
+order-apart : (o : ℤ) (e : Refusal) → Err e ≡ Ok o → ⊥
 order-apart o e h = let clash : ◌≡◌ {A = ℕ} 0 1 = cc in omega arith
 
 pub compare_is_order : CompareIsOrder
 unfolding compare_of
 compare_is_order a b o h =
-    let told = (unless-told Refused (admits_both Comparison a b) (Order (order_of (instant a) (instant b))) (Order o) (order-apart o) h).1 in
+    let told = (unless-told Err (admits_both Comparison a b) (Ok (order_of (instant a) (instant b))) (Ok o) (order-apart o) h).1 in
     let same : order_of (instant a) (instant b) ≡ o = cc in
     subst (Ordered (instant a) (instant b)) same (order_is (instant a) (instant b))

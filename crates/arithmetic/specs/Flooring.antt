@@ -1,13 +1,10 @@
 -- Division by p/q floors (BEHAVIOUR: Arithmetic). The division that truncates: Truncating.antt.
 -- Assumes nothing.
-use Rattle.std.specs.Prelude.{ℕ, List, [], ◌∷◌, ◌++◌, ℤ, pos, ◌*ℤ◌}
+use Rattle.answers.specs.declared.Refusal.{Refusal}
+use Rattle.std.specs.Prelude.{ℕ, List, [], ◌∷◌, ◌++◌, ℤ, pos, ◌*ℤ◌, Result, Ok, Err}
 use Rattle.numbers.specs.Floor.{floor_z}
 use Rattle.answers.specs.Order.{Condition, unless}
 use Rattle.timecodes.specs.declared.Timecode.{Timecode}
-use Rattle.timecodes.specs.declared.Answer.{Answer}
-use Rattle.timecodes.specs.declared.Answer.TheVariants.{At, Refused}
-use Rattle.answers.specs.declared.Counted.{Counted}
-use Rattle.answers.specs.declared.Counted.TheVariants as counted
 use Rattle.answers.specs.Refusals.{bad_count}
 use Rattle.timecodes.specs.Timecode.{recounted}
 use Rattle.timecodes.specs.Admitted.{admits_length}
@@ -21,12 +18,12 @@ floored_of count p q = floor_z (count *ℤ pos q) p
 abbrev pub floored_when : (count p : ℤ) (q : ℕ) → List Condition
 floored_when count p q = divisor_when p q ++ (bad_count (floored_of count p q) ∷ [])
 
-unfoldable pub floored_counted : (count p : ℤ) (q : ℕ) → Counted
-floored_counted count p q = unless counted.Refused (floored_when count p q) (counted.Count (floored_of count p q))
+unfoldable pub floored_counted : (count p : ℤ) (q : ℕ) → Result ℤ Refusal
+floored_counted count p q = unless Err (floored_when count p q) (Ok (floored_of count p q))
 
 -- before them 6, 15 and 5 of the timecode
 abbrev pub divq_when : Timecode → (p : ℤ) (q : ℕ) → List Condition
 divq_when tc p q = admits_length tc ++ floored_when tc.count p q
 
-unfoldable pub divq_of : Timecode → (p : ℤ) (q : ℕ) → Answer
-divq_of tc p q = unless Refused (divq_when tc p q) (At (recounted tc (floored_of tc.count p q)))
+unfoldable pub divq_of : Timecode → (p : ℤ) (q : ℕ) → Result Timecode Refusal
+divq_of tc p q = unless Err (divq_when tc p q) (Ok (recounted tc (floored_of tc.count p q)))

@@ -1,6 +1,6 @@
 -- What holds of arithmetic beyond one call (BEHAVIOUR: Arithmetic): each answer is what it is meant to be. With positions: PositionStatements.antt.
 -- Assumes nothing.
-use Rattle.std.specs.Prelude.{ℕ, ◌≡◌, ◌↔◌, ℤ, pos, negsuc, ◌+ℤ◌, ◌-ℤ◌, ◌*ℤ◌, ◌<ℤ◌}
+use Rattle.std.specs.Prelude.{ℕ, ◌≡◌, ◌↔◌, ℤ, pos, negsuc, ◌+ℤ◌, ◌-ℤ◌, ◌*ℤ◌, ◌<ℤ◌, Ok}
 use Rattle.std.specs.Int.Signed.{rem_z}
 use Rattle.numbers.specs.Nearest.{Nearest}
 use Rattle.numbers.specs.Truncate.{Truncated}
@@ -8,12 +8,10 @@ use Rattle.numbers.specs.Floor.{Floor}
 use Rattle.answers.specs.Refusals.{held}
 use Rattle.rates.specs.Rates.{frame_ticks}
 use Rattle.timecodes.specs.declared.Timecode.{Timecode}
-use Rattle.timecodes.specs.declared.Answer.TheVariants.{At}
 use Rattle.timecodes.specs.declared.kinds.Kind.TheVariants.{Length}
 use Rattle.timecodes.specs.Timecode.{moved_to}
 use Rattle.timecodes.specs.Admitted.{Valid}
 use Rattle.timecodes.specs.Instant.{instant}
-use Rattle.arithmetic.specs.declared.Compared.TheVariants.{Order}
 use Rattle.arithmetic.specs.Sum.{add_of, sub_of}
 use Rattle.arithmetic.specs.Product.{mul_of}
 use Rattle.arithmetic.specs.Truncating.{div_of, rem_of}
@@ -26,13 +24,13 @@ use Rattle.arithmetic.specs.Compare.{compare_of}
 -- a sum of two timecodes that is a length is the frame of the left one's rate that is nearest to the exact instant
 abbrev pub SumNearest : Type 0
 SumNearest =
-    (a b end : Timecode) → add_of a b ≡ At end → end.kind ≡ Length
+    (a b end : Timecode) → add_of a b ≡ Ok end → end.kind ≡ Length
     → (end.rate ≡ a.rate) × Nearest (instant a +ℤ instant b) (frame_ticks a.rate) end.count
 
 -- and a difference that is a length likewise, that of two positions too: it is not reduced
 abbrev pub DifferenceNearest : Type 0
 DifferenceNearest =
-    (a b end : Timecode) → sub_of a b ≡ At end → end.kind ≡ Length
+    (a b end : Timecode) → sub_of a b ≡ Ok end → end.kind ≡ Length
     → (end.rate ≡ a.rate) × Nearest (instant a -ℤ instant b) (frame_ticks a.rate) end.count
 
 -- at one rate a sum of two lengths is that of the counts
@@ -49,24 +47,24 @@ DifferenceExact =
 
 -- a product with p/q is the count nearest to the exact one
 abbrev pub ProductNearest : Type 0
-ProductNearest = (tc end : Timecode) (p : ℤ) (q : ℕ) → mul_of tc p q ≡ At end → Nearest (tc.count *ℤ p) q end.count
+ProductNearest = (tc end : Timecode) (p : ℤ) (q : ℕ) → mul_of tc p q ≡ Ok end → Nearest (tc.count *ℤ p) q end.count
 
 -- ---- divisions
 
 -- integer division truncates: quotient times n plus remainder is the count, and the remainder is smaller than n and has the count's sign
 abbrev pub QuotientRemainder : Type 0
 QuotientRemainder =
-    (tc quotient rest : Timecode) (n : ℤ) → div_of tc n ≡ At quotient → rem_of tc n ≡ At rest
+    (tc quotient rest : Timecode) (n : ℤ) → div_of tc n ≡ Ok quotient → rem_of tc n ≡ Ok rest
     → Truncated tc.count n quotient.count rest.count
 
 -- division by p/q floors: the answer is the largest count that is not above the exact quotient
 abbrev pub QuotientFloor : Type 0
-QuotientFloor = (tc end : Timecode) (p : ℤ) (q : ℕ) → divq_of tc p q ≡ At end → Floor (tc.count *ℤ pos q) p end.count
+QuotientFloor = (tc end : Timecode) (p : ℤ) (q : ℕ) → divq_of tc p q ≡ Ok end → Floor (tc.count *ℤ pos q) p end.count
 
 -- its remainder is the count nearest to (f x q rem p)/q
 abbrev pub RemainderNearest : Type 0
 RemainderNearest =
-    (tc end : Timecode) (p : ℤ) (q : ℕ) → remq_of tc p q ≡ At end → Nearest (rem_z (tc.count *ℤ pos q) p) q end.count
+    (tc end : Timecode) (p : ℤ) (q : ℕ) → remq_of tc p q ≡ Ok end → Nearest (rem_z (tc.count *ℤ pos q) p) q end.count
 
 -- ---- comparison
 
@@ -78,4 +76,4 @@ pub record Ordered (x y o : ℤ) : Type 0 where
 
 -- the order answered is that of the instants
 abbrev pub CompareIsOrder : Type 0
-CompareIsOrder = (a b : Timecode) (o : ℤ) → compare_of a b ≡ Order o → Ordered (instant a) (instant b) o
+CompareIsOrder = (a b : Timecode) (o : ℤ) → compare_of a b ≡ Ok o → Ordered (instant a) (instant b) o

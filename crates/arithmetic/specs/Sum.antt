@@ -1,13 +1,12 @@
 -- A sum or difference of two timecodes (BEHAVIOUR: Arithmetic, Positions): the exact instant, rounded at the left one's rate, made of their kind.
 -- Assumes nothing.
-use Rattle.std.specs.Prelude.{List, [], ◌∷◌, ◌++◌, Bool, true, false, ℤ, ◌+ℤ◌, ◌-ℤ◌}
+use Rattle.answers.specs.declared.Refusal.{Refusal}
+use Rattle.std.specs.Prelude.{List, [], ◌∷◌, ◌++◌, Bool, true, false, ℤ, ◌+ℤ◌, ◌-ℤ◌, Result, Ok, Err}
 use Rattle.numbers.specs.Nearest.{nearest_z}
 use Rattle.answers.specs.Order.{Condition, unless}
 use Rattle.answers.specs.Refusals.{bad_count}
 use Rattle.rates.specs.Rates.{frame_ticks}
 use Rattle.timecodes.specs.declared.Timecode.{Timecode}
-use Rattle.timecodes.specs.declared.Answer.{Answer}
-use Rattle.timecodes.specs.declared.Answer.TheVariants.{At, Refused}
 use Rattle.timecodes.specs.declared.kinds.Joining.{Joining}
 use Rattle.timecodes.specs.declared.kinds.Joining.TheVariants.{Sum, Difference}
 use Rattle.timecodes.specs.Made.{made}
@@ -32,14 +31,14 @@ abbrev pub joined_when : (minus : Bool) → Timecode → Timecode → List Condi
 joined_when minus a b = admits_both (joining_of minus) a b ++ (bad_count (joined_frame minus a b) ∷ [])
 
 -- rounded and held to its bounds first; where the two come to a position, that is then reduced by whole days
-unfoldable pub joined : (minus : Bool) → Timecode → Timecode → Answer
+unfoldable pub joined : (minus : Bool) → Timecode → Timecode → Result Timecode Refusal
 joined minus a b =
-    unless Refused (joined_when minus a b) (At (made (joined_kind (joining_of minus) a b) (joined_frame minus a b) a.rate))
+    unless Err (joined_when minus a b) (Ok (made (joined_kind (joining_of minus) a b) (joined_frame minus a b) a.rate))
 
 -- the sum
-abbrev pub add_of : Timecode → Timecode → Answer
+abbrev pub add_of : Timecode → Timecode → Result Timecode Refusal
 add_of = joined false
 
 -- the difference
-abbrev pub sub_of : Timecode → Timecode → Answer
+abbrev pub sub_of : Timecode → Timecode → Result Timecode Refusal
 sub_of = joined true

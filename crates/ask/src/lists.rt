@@ -1,74 +1,44 @@
-// Commands over shot lists: bytes as HEX, records as words. A line has 8192 bytes at most: that is under 4096 bytes of HEX, and under
-// 2731 numbers, since a record has three bytes of the line for each of its numbers at least.
-ghost use Rattle.std.specs.Prelude.{◌≤◌};
+// Commands over lists: bytes as HEX, records, rates and shards as words. A line has 8192 bytes at most: that is under 4096 bytes of HEX, under
+// 2731 numbers of records, since a record has three bytes of the line for each of its numbers at least, and at most 2048 shards.
+use crate::command;
+use crate::command::Command;
+use showing::Shown;
+use streams::Sheet;
 
-use asking::{Listed, Numbers};
-use hex_bytes::Hexed;
-
-fn not_understood(out: &mut [u8], used: usize) -> usize {
-    showing::show(out, used, showing::only_word(b'?'))
+// RATE COUNT, and rates, none or more, up to 64: the timecode through them.
+pub(crate) fn converted(c: &Command) -> Option<Shown> {
+    let mut list = [0; 64];
+    let n = command::whole(asking::rates(c.line, c.rest, &mut list))?;
+    Some(showing::of_converted(chains::convert(c.tc, list.get(..n)?)))
 }
 
-// The bytes that HEX gave. (That they are more than the buffer has cannot be.)
-fn shown_list(h: Hexed, bytes: &[u8], out: &mut [u8], used: usize) -> usize {
-    let n = h.count;
-    if h.all {
-        if n <= bytes.len() {
-            return showing::show_list(out, used, &bytes[0..n]);
-        }
-    }
-    not_understood(out, used)
+// HEX: the records of the list.
+pub(crate) fn put_list(c: &Command, sheet: &mut Sheet<65536>) -> Option<()> {
+    let mut bytes = [0; 4096];
+    let n = hex_bytes::read(c.text()?, &mut bytes)?;
+    showing::show_list(sheet, bytes.get(..n)?);
+    Some(())
 }
 
-// HEX, from a place of the line on: the records of the list. (That the place is past the line's end cannot be.)
-pub(crate) fn read_list(line: &[u8], from: usize, out: &mut [u8], used: usize) -> usize {
-    if line.len() < from {
-        return not_understood(out, used);
-    }
-    let mut bytes = [0u8; 4096];
-    let h = hex_bytes::read(&line[from..], &mut bytes);
-    shown_list(h, &bytes, out, used)
+// PLACE ROOM, and records: the list, written into a line of ROOM bytes, each `#` before, from PLACE on, and the whole line.
+pub(crate) fn put_written(c: &Command, sheet: &mut Sheet<65536>) -> Option<()> {
+    let mut given = [0; 2800];
+    let count = command::whole(asking::records(c.line, c.rest, &mut given))?;
+    let room = c.numbers.up2.min(1024) as usize;
+    let mut line = [b'#'; 1024];
+    let part = &mut line[..room];
+    let w = shot_writer::write_list(given.get(..count)?, part, c.numbers.up1 as usize);
+    showing::show_written_hex(sheet, w, part);
+    Some(())
 }
 
-// The list that is handed over, written into a line from PLACE on, and the whole line.
-fn in_line(given: &[i64], place: u64, line: &mut [u8], out: &mut [u8], used: usize) -> usize {
-    let w = shot_writer::write_list(given, line, place as usize);
-    showing::show_written_hex(out, used, w, line)
-}
-
-// ROOM. (That it is over 1024 cannot be.)
-fn room(n: Numbers) -> usize
-    ensures { result ≤ 1024 }
-{
-    let room = n.up2;
-    if room > 1024 {
-        return 1024;
-    }
-    room as usize
-}
-
-// The numbers that the records' words gave. (That they are more than the list has cannot be.)
-fn written_list(l: Listed, given: &[i64], n: Numbers, out: &mut [u8], used: usize) -> usize {
-    let count = l.count;
-    if l.all {
-        if count <= given.len() {
-            let mut line = [b'#'; 1024];
-            let k = room(n);
-            return in_line(&given[0..count], n.up1, &mut line[0..k], out, used);
-        }
-    }
-    not_understood(out, used)
-}
-
-// PLACE ROOM, and the records as words from a place of the line on.
-pub(crate) fn write_list(
-    n: Numbers,
-    line: &[u8],
-    from: usize,
-    out: &mut [u8],
-    used: usize,
-) -> usize {
-    let mut given = [0i64; 2800];
-    let l = asking::records(line, from, &mut given);
-    written_list(l, &given, n, out, used)
+// RATE, SHARDS, LENGTH and a text: the shards of the directory that the query asks.
+pub(crate) fn put_routed(c: &Command, sheet: &mut Sheet<65536>) -> Option<()> {
+    let n = c.numbers;
+    let mut firsts = [0; 2048];
+    let mut ends = [0; 2048];
+    let k = command::whole(asking::shards(c.line, n.up2 as usize, &mut firsts, &mut ends))?;
+    let found = router::route(n.up1, firsts.get(..k)?, ends.get(..k)?, n.n3, c.text()?);
+    showing::show_routed(sheet, found);
+    Some(())
 }

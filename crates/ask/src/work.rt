@@ -1,12 +1,15 @@
 // Commands that make a timecode or a number of numbers, by the row of each.
-use asking::{Numbers, rows};
+use crate::command::Command;
+use answers::Refusal;
+use asking::rows;
 use showing::Shown;
-use timecodes::{Answer, Kind, Timecode};
+use timecodes::{Kind, Timecode};
 
 // A timecode made of other numbers: RATE COUNT, RATE TICKS or RATE P Q.
-fn made(row: usize, n: Numbers) -> Answer {
+fn made(c: &Command) -> Result<Timecode, Refusal> {
+    let n = c.numbers;
     let kind = Kind::from(n.at1);
-    match row {
+    match c.row {
         rows::COUNT => time::with_frames(n.n2, n.up1, kind),
         rows::FROM_TICKS => time::with_premiere_ticks(n.n2, n.up1, kind),
         _ => time::with_seconds(n.n2, n.up3, n.up1, kind),
@@ -14,55 +17,50 @@ fn made(row: usize, n: Numbers) -> Answer {
 }
 
 // RATE COUNT, and for `rebase` another RATE.
-fn changed(row: usize, tc: Timecode, rate: u64) -> Answer {
-    match row {
-        rows::NEG => arithmetic::neg(tc),
-        rows::ABS => arithmetic::abs(tc),
-        _ => arithmetic::rebase(tc, rate),
+fn changed(c: &Command) -> Result<Timecode, Refusal> {
+    match c.row {
+        rows::NEG => arithmetic::neg(c.tc),
+        rows::ABS => arithmetic::abs(c.tc),
+        _ => arithmetic::rebase(c.tc, c.numbers.up3),
     }
 }
 
-// RATE COUNT RATE COUNT.
-fn joined(row: usize, a: Timecode, b: Timecode) -> Answer {
-    match row {
-        rows::ADD => arithmetic::add(a, b),
-        _ => arithmetic::sub(a, b),
-    }
-}
-
-// RATE COUNT P Q or RATE COUNT N.
-fn scaled(row: usize, tc: Timecode, p: i64, q: u64) -> Answer {
-    match row {
-        rows::MUL => arithmetic::mul(tc, p, q),
-        rows::DIV => arithmetic::div(tc, p),
-        rows::REM => arithmetic::rem(tc, p),
-        rows::DIVQ => arithmetic::divq(tc, p, q),
-        _ => arithmetic::remq(tc, p, q),
-    }
-}
-
-// RATE COUNT, the third and the fourth number.
-fn other(n: Numbers) -> Timecode {
+// The third and the fourth number: RATE COUNT.
+fn other(c: &Command) -> Timecode {
+    let n = c.numbers;
     timecodes::new(n.n4, n.up3, Kind::from(n.at3))
 }
 
-// A command whose answer is a timecode.
-fn timecode_of(row: usize, tc: Timecode, n: Numbers) -> Answer {
-    match row {
-        rows::COUNT..=rows::FROM_SECONDS => made(row, n),
-        rows::NEG..=rows::REBASE => changed(row, tc, n.up3),
-        rows::ADD..=rows::SUB => joined(row, tc, other(n)),
-        _ => scaled(row, tc, n.n3, n.up4),
+// RATE COUNT P Q or RATE COUNT N.
+fn scaled(c: &Command) -> Result<Timecode, Refusal> {
+    let n = c.numbers;
+    match c.row {
+        rows::MUL => arithmetic::mul(c.tc, n.n3, n.up4),
+        rows::DIV => arithmetic::div(c.tc, n.n3),
+        rows::REM => arithmetic::rem(c.tc, n.n3),
+        rows::DIVQ => arithmetic::divq(c.tc, n.n3, n.up4),
+        _ => arithmetic::remq(c.tc, n.n3, n.up4),
     }
 }
 
-// By the command's row; the first two numbers are RATE COUNT.
-pub(crate) fn shown(row: usize, tc: Timecode, n: Numbers) -> Shown {
-    match row {
-        rows::MINUTE => showing::of_counted(minutes::minute_start(n.up1)),
-        rows::TICKS => showing::of_ticked(time::premiere_ticks(tc)),
-        rows::SECONDS => showing::of_timed(time::seconds(tc)),
-        rows::CMP => showing::of_compared(arithmetic::cmp(tc, other(n))),
-        _ => showing::of_answer(timecode_of(row, tc, n)),
+// A command whose answer is a timecode.
+fn timecode_of(c: &Command) -> Result<Timecode, Refusal> {
+    match c.row {
+        rows::COUNT | rows::FROM_TICKS | rows::FROM_SECONDS => made(c),
+        rows::NEG | rows::ABS | rows::REBASE => changed(c),
+        rows::ADD => arithmetic::add(c.tc, other(c)),
+        rows::SUB => arithmetic::sub(c.tc, other(c)),
+        _ => scaled(c),
+    }
+}
+
+// By the command's row.
+pub(crate) fn shown(c: &Command) -> Shown {
+    match c.row {
+        rows::MINUTE => showing::of_counted(minutes::minute_start(c.numbers.up1)),
+        rows::TICKS => showing::of_ticked(time::premiere_ticks(c.tc)),
+        rows::SECONDS => showing::of_timed(time::seconds(c.tc)),
+        rows::CMP => showing::of_compared(arithmetic::cmp(c.tc, other(c))),
+        _ => showing::of_answer(timecode_of(c)),
     }
 }

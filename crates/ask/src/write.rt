@@ -1,53 +1,44 @@
 // Commands that write a text into a line of ROOM bytes, each `#` before, from PLACE on, and show the whole line.
-ghost use Rattle.std.specs.Prelude.{◌≤◌};
-
-use asking::{Numbers, rows};
-use timecodes::{Kind, Timecode};
-use written::Written;
+use crate::command::Command;
+use answers::Refusal;
+use asking::rows;
+use streams::Sheet;
+use timecodes::Kind;
 
 // RATE COUNT PLACE, FORMAT RATE COUNT PLACE, RATE COUNT PRECISION PLACE: the text, laid into the line.
-fn laid(row: usize, tc: Timecode, n: Numbers, line: &mut [u8]) -> Written {
-    match row {
-        rows::LABEL => label_writer::write_label(tc, line, n.up3 as usize),
-        rows::FOOTAGE => footage_writer::write_footage(
-            timecodes::new(n.n3, n.up2, Kind::from(n.at2)),
-            n.up1,
-            line,
-            n.up4 as usize,
-        ),
-        _ => runtime_writer::write_runtime(tc, n.up3, line, n.up4 as usize),
+fn laid(c: &Command, line: &mut [u8]) -> Result<usize, Refusal> {
+    let n = c.numbers;
+    match c.row {
+        rows::LABEL => label_writer::write_label(c.tc, line, n.up3 as usize),
+        rows::FOOTAGE => {
+            let tc = timecodes::new(n.n3, n.up2, Kind::from(n.at2));
+            footage_writer::write_footage(tc, n.up1, line, n.up4 as usize)
+        }
+        _ => runtime_writer::write_runtime(c.tc, n.up3, line, n.up4 as usize),
     }
 }
 
-// ROOM, the last number. (That it is over 128 cannot be.)
-fn room(row: usize, n: Numbers) -> usize
-    ensures { result ≤ 128 }
-{
-    let mut room = n.up5;
-    if row == rows::LABEL {
-        room = n.up4;
-    }
-    if room > 128 {
-        return 128;
-    }
-    room as usize
-}
-
-fn in_line(
-    row: usize,
-    tc: Timecode,
-    n: Numbers,
-    line: &mut [u8],
-    out: &mut [u8],
-    used: usize,
-) -> usize {
-    let w = laid(row, tc, n, line);
-    showing::show_written(out, used, w, line)
-}
-
-// The answer as a line.
-pub(crate) fn written(row: usize, tc: Timecode, n: Numbers, out: &mut [u8], used: usize) -> usize {
+// The answer as a line. ROOM is the last number.
+pub(crate) fn put_written(c: &Command, sheet: &mut Sheet<65536>) {
+    let n = c.numbers;
+    let asked = if c.row == rows::LABEL { n.up4 } else { n.up5 };
+    let room = asked.min(128) as usize;
     let mut line = [b'#'; 128];
-    let k = room(row, n);
-    in_line(row, tc, n, &mut line[0..k], out, used)
+    let part = &mut line[..room];
+    let w = laid(c, part);
+    showing::show_written(sheet, w, part);
+}
+
+// RATE FORMAT PLACE ROOM TEXT, as a position where the rate has its mark, and with no film format where it is `-`: the reader's answer, the
+// fact behind it, and its phrase, laid into the line.
+pub(crate) fn put_why(c: &Command, sheet: &mut Sheet<65536>) -> Option<()> {
+    let n = c.numbers;
+    let text = c.text()?;
+    let stated = (!n.at2).then_some(n.up2);
+    let room = n.up4.min(128) as usize;
+    let mut line = [b'#'; 128];
+    let part = &mut line[..room];
+    let w = reasons::why(text, stated, n.up1, Kind::from(n.at1), part, n.up3 as usize);
+    showing::show_why(sheet, w, n.up1, part);
+    Some(())
 }

@@ -9,6 +9,7 @@ pub mod Recording
 pub mod RecordTexts
 pub mod Placed
 pub mod RecordsListed
+pub mod Same
 pub mod Numerals
 pub mod Ranges
 pub mod ShardTexts

@@ -1,5 +1,7 @@
 -- The loop of `rates`: what is wanted from here is what is wanted from the start.
 -- Assumes nothing.
+use Rattle.std.specs.Prelude.{None}
+use Rattle.asking.specs.Numbers.{some_word}
 use Prim.Native.Nat.{ℕ, zero, suc, ◌+◌, ◌-◌, ◌≤◌, ◌<◌}
 use mathlib.Core.Path.{◌≡◌, refl, sym, ap, ◌∙◌}
 use mathlib.Core.List.{List}
@@ -9,7 +11,6 @@ use lib.Dec.{leb}
 use lib.IntN.{ℤ}
 use lib.ListN.{length, drop, set, get_or, length-set}
 use Rattle.numbers.specs.Sign.{up_from}
-use Rattle.asking.specs.declared.values.Word.TheVariants.{Number, Nothing}
 use Rattle.asking.specs.declared.words.Value.{Value}
 use Rattle.asking.specs.declared.numbered.Listed.{Listed}
 use Rattle.asking.specs.Numbers.{number_at}
@@ -35,7 +36,7 @@ module _ (line : List ℕ) (from : ℕ) (list₀ list : List ℕ) (at n : ℕ) (
   ends_by e = let q = s.same ∙ e in (sym (ap (λ z. z.listed) q), sym (ap (λ z. z.list) q))
 
   -- no number stands there
-  pub lists-other : number_at at (drop at line) ≡ Nothing → Ends (record { all = leb (length line) at; count = n }) list
+  pub lists-other : number_at at (drop at line) ≡ None → Ends (record { all = leb (length line) at; count = n }) list
   unfolding list_from
   lists-other e = ends_by (by s.k)
     where
@@ -48,7 +49,7 @@ module _ (line : List ℕ) (from : ℕ) (list₀ list : List ℕ) (at n : ℕ) (
   unfolding list_from
   lists-full h = let z : s.k ≡ 0 = omega (arith, s.left, s.long) in ends_by (rw z)
 
-  pub lists-turn : (z : ℤ) (next u : ℕ) → n < length list → number_at at (drop at line) ≡ Number z next → u ≡ up_from z
+  pub lists-turn : (z : ℤ) (next u : ℕ) → n < length list → number_at at (drop at line) ≡ some_word z next → u ≡ up_from z
       → Lists line from list₀ (set list n u) next (n + 1)
   unfolding list_from
   lists-turn z next u h e f = record {

@@ -1,22 +1,23 @@
 -- Digits by their value: what is held of it is enough to tell whether it is within 64 bits.
 -- Assumes nothing.
+use Rattle.std.specs.Prelude.{None}
+use Rattle.asking.specs.Numbers.{some_word}
 use Prim.Native.Nat.{ℕ, zero, suc, ◌+◌, ◌-◌, ◌*◌, ◌≤◌, ◌<◌}
 use mathlib.Core.Path.{◌≡◌, refl, sym, ◌∙◌}
-use mathlib.Core.Logic.{◌⊎◌, inl, inr, ⊎_elim}
+use mathlib.Core.Logic.{inl, inr, ⊎_elim}
 use mathlib.Core.List.{List, [], ◌∷◌}
 use mathlib.Core.Bool.{Bool, true, false}
 use native.Mathlib.Omega.{arith}
 use native.Mathlib.Numerals.{add-one}
-use lib.ListN.{length, take, drop, get_or, length-drop, drop_of_length-le}
-use lib.Seq.{take-suc, take-length, drop-cons, drop-drop}
-use lib.Dec.{eqb, ltb}
+use lib.ListN.{length, take, drop, get_or, length-drop}
+use lib.Seq.{take-suc, drop-drop}
+use lib.Dec.{ltb}
 use borrow.Author.Tests.{lt-ltb, le-ltb, le-leb, lt-leb, ltb-true, ltb-false, eq-eqb, ne_eqb}
 use lib.IntN.{negsuc}
 use Rattle.numbers.specs.Sign.{signed}
 use Rattle.digits.specs.Digits.{is_byte, is_digit, all_digits, value_from, value_of, first_is, span, leading}
 use Rattle.digits.proofs.Values.{digit-bounds, all_head, all_tail, value-snoc}
 use Rattle.digits.proofs.Runs.{span-within, leading-all}
-use Rattle.asking.specs.declared.values.Word.TheVariants.{Number, Nothing}
 use Rattle.asking.specs.Numbers.{signed_word, digits_at, signed_at, number_at, Held, pushed}
 
 -- ---- one digit more
@@ -65,9 +66,6 @@ valuing-turn d m i r s a h e =
       held = rw (e, f) (held-pushed (value_of (take i d)) m b s.held (digit-bounds b (digit_at d a i h)).1);
     }
 
-pub valuing-done : (d : List ℕ) (m i : ℕ) → Valuing d m i → length d ≤ i → Held (value_of d) m
-valuing-done d m i s h = let e : i ≡ length d = omega arith in rw (e, take-length) at s.held
-
 -- ---- within 64 bits
 within_by : (minus : Bool) (v m next : ℕ) → Held v m → signed_word minus m next ≡ signed_word minus v next
 unfolding signed_word
@@ -76,23 +74,23 @@ within_by true v m next (inr p) = rw (lt-leb m 9223372036854775808 p.1, lt-leb v
 within_by false v m next (inr p) = rw (le-ltb m 9223372036854775808 (omega (arith, p)), le-ltb v 9223372036854775808 (omega (arith, p)))
 
 module _ (m next : ℕ) where
-  pub word-within : (minus : Bool) → m < 9223372036854775808 → Number (signed minus m) next ≡ signed_word minus m next
+  pub word-within : (minus : Bool) → m < 9223372036854775808 → some_word (signed minus m) next ≡ signed_word minus m next
   unfolding signed_word
   word-within true h = rw (le-leb m 9223372036854775808 (omega arith))
   word-within false h = rw (lt-ltb m 9223372036854775808 h)
 
-  pub word-past : (minus : Bool) → 9223372036854775808 < m → Nothing ≡ signed_word minus m next
+  pub word-past : (minus : Bool) → 9223372036854775808 < m → None ≡ signed_word minus m next
   unfolding signed_word
   word-past true h = rw (lt-leb m 9223372036854775808 h)
   word-past false h = rw (le-ltb m 9223372036854775808 (omega arith))
 
 -- 2^63 itself is within them below zero only
 pub word-least : (minus : Bool) (m next : ℕ) → 9223372036854775808 ≤ m → m ≤ 9223372036854775808 → minus ≡ true
-    → Number (negsuc 9223372036854775807) next ≡ signed_word minus m next
+    → some_word (negsuc 9223372036854775807) next ≡ signed_word minus m next
 unfolding signed_word
 word-least minus m next h k e = let f : m ≡ 9223372036854775808 = omega arith in rw (e, f)
 
-pub word-most : (minus : Bool) (m next : ℕ) → 9223372036854775808 ≤ m → minus ≡ false → Nothing ≡ signed_word minus m next
+pub word-most : (minus : Bool) (m next : ℕ) → 9223372036854775808 ≤ m → minus ≡ false → None ≡ signed_word minus m next
 unfolding signed_word
 word-most minus m next h e = rw (e, le-ltb m 9223372036854775808 h)
 
@@ -104,15 +102,9 @@ stands_by b (c ∷ l) e = omega arith
 pub stands-within : (line : List ℕ) (at b : ℕ) → first_is (is_byte b) (drop at line) ≡ true → at < length line
 stands-within line at b e = omega (arith, length-drop at line, stands_by b (drop at line) e)
 
-pub stands_here : (line : List ℕ) (at b : ℕ) → at < length line → eqb (get_or line at 0) b ≡ first_is (is_byte b) (drop at line)
-stands_here line at b h = rw (drop-cons line at 0 h)
-
-pub stands-past : (line : List ℕ) (at b : ℕ) → length line ≤ at → false ≡ first_is (is_byte b) (drop at line)
-stands-past line at b h = rw (drop_of_length-le line {i = at} h)
-
 -- ---- the digits at a place
 module _ (line : List ℕ) (at n : ℕ) (e : n ≡ span (drop at line)) where
-  pub digits-none : (minus : Bool) → n ≡ 0 → Nothing ≡ digits_at minus at (drop at line)
+  pub digits-none : (minus : Bool) → n ≡ 0 → None ≡ digits_at minus at (drop at line)
   unfolding digits_at
   digits-none minus z = rw (eq-eqb (span (drop at line)) 0 (sym e ∙ z))
 
@@ -143,7 +135,7 @@ module _ (line : List ℕ) (at : ℕ) where
   signed-plain e = rw e
 
   -- ---- a number behind a space
-  pub number-none : first_is (is_byte 32) (drop at line) ≡ false → Nothing ≡ number_at at (drop at line)
+  pub number-none : first_is (is_byte 32) (drop at line) ≡ false → None ≡ number_at at (drop at line)
   unfolding number_at
   number-none e = rw e
 

@@ -1,5 +1,8 @@
 -- The number that stands at a place is the one that the grammar has there, and there is no other.
 -- Assumes nothing.
+use Rattle.asking.proofs.Same.{number-value, number-next}
+use Rattle.std.specs.Prelude.{None}
+use Rattle.asking.specs.Numbers.{some_word}
 use Prim.Native.Nat.{ℕ, suc, ◌+◌}
 use mathlib.Core.Path.{◌≡◌, refl, sym, ap, subst, ◌∙◌}
 use mathlib.Core.List.{List, [], ◌∷◌, ◌++◌}
@@ -14,7 +17,6 @@ use Rattle.numbers.specs.Sign.{signed}
 use Rattle.digits.specs.Digits.{is_byte, is_digit, IsField, value_of, first_is, digit_first, span, leading}
 use Rattle.digits.proofs.Values.{all_head}
 use Rattle.digits.proofs.Runs.{span_run, leading-run, leading-field, leading_length, leading-rest, span-stops}
-use Rattle.asking.specs.declared.values.Word.TheVariants.{Number, Nothing}
 use Rattle.asking.specs.Numbers.{is_within, signed_word, digits_at, signed_at, number_at}
 use Rattle.asking.specs.Table.{word_first, is_over}
 use Rattle.asking.specs.Asked.{is_position, is_unstated, is_marked, value_at}
@@ -23,7 +25,7 @@ use Rattle.asking.proofs.Taken.{and-false, marked-stated, value-plain}
 
 -- ---- a number of the grammar is taken
 digits-taken : (sign : Bool) (at : ℕ) (d l : List ℕ) → IsField d → is_within sign (value_of d) ≡ true → digit_first l ≡ false
-    → digits_at sign at (d ++ l) ≡ Number (signed sign (value_of d)) (at + length d)
+    → digits_at sign at (d ++ l) ≡ some_word (signed sign (value_of d)) (at + length d)
 unfolding digits_at signed_word
 digits-taken sign at d l f w s =
     rw (leading-run d l f.digits s, span_run d l f.digits s, ne_eqb (length d) 0 (λ e. omega (arith, e, f.some)), w)
@@ -36,7 +38,7 @@ pub not_first : (c : ℕ) (d l : List ℕ) → IsField d → is_digit c ≡ fals
 not_first c [] l f h = absurd (omega (arith, f.some))
 not_first c (b ∷ d) l f h = ne_eqb b c (λ e. true-false (sym (all_head b d f.digits) ∙ ap is_digit e ∙ h))
 
-pub signed-taken : {d : List ℕ} {z : ℤ} → Numeral d z → (at : ℕ) (l : List ℕ) → digit_first l ≡ false → signed_at at (d ++ l) ≡ Number z (at + length d)
+pub signed-taken : {d : List ℕ} {z : ℤ} → Numeral d z → (at : ℕ) (l : List ℕ) → digit_first l ≡ false → signed_at at (d ++ l) ≡ some_word z (at + length d)
 unfolding signed_at
 signed-taken (plain {d} f w) at l s = rw (not_first 45 d l f refl) (digits-taken false at d l f w s)
 signed-taken (minus {d} f w) at l s =
@@ -44,7 +46,7 @@ signed-taken (minus {d} f w) at l s =
     digits-taken true (at + 1) d l f w s ∙ rw e
 
 pub number-taken : {d : List ℕ} {z : ℤ} → Numeral d z → (at : ℕ) (l : List ℕ) → digit_first l ≡ false
-    → number_at at (32 ∷ d ++ l) ≡ Number z (at + 1 + length d)
+    → number_at at (32 ∷ d ++ l) ≡ some_word z (at + 1 + length d)
 unfolding number_at
 number-taken f at l s = signed-taken f (at + 1) l s
 
@@ -54,7 +56,7 @@ unfolding is_marked is_unstated is_position word_first
 marked-here l = refl
 
 pub marked-taken : {d : List ℕ} {z : ℤ} → Numeral d z → (at : ℕ) (l : List ℕ) → digit_first l ≡ false
-    → value_at 64 at (32 ∷ 64 ∷ d ++ l) ≡ Number z (at + 2 + length d)
+    → value_at 64 at (32 ∷ 64 ∷ d ++ l) ≡ some_word z (at + 2 + length d)
 unfolding value_at is_unstated is_position word_first
 marked-taken f at l s = signed-taken f (at + 2) l s
 
@@ -81,7 +83,7 @@ pub number-unmarked : {d : List ℕ} {z : ℤ} → Numeral d z → (kind : ℕ) 
 number-unmarked f kind l = sym (marked-stated kind _ (stated f kind l)) ∙ no-position f kind l
 
 pub plain-taken : {d : List ℕ} {z : ℤ} → Numeral d z → (kind at : ℕ) (l : List ℕ) → digit_first l ≡ false
-    → value_at kind at (32 ∷ d ++ l) ≡ Number z (at + 1 + length d)
+    → value_at kind at (32 ∷ d ++ l) ≡ some_word z (at + 1 + length d)
 plain-taken f kind at l s = value-plain kind at _ (stated f kind l) (no-position f kind l) ∙ number-taken f at l s
 
 -- `-` alone, of a film format
@@ -114,7 +116,7 @@ pub record Taken (at : ℕ) (l : List ℕ) (z : ℤ) (next : ℕ) : Type 0 where
   pub stops : digit_first rest ≡ false
   pub past : next ≡ at + 1 + length digits
 
-nothing : {z : ℤ} {next : ℕ} → Nothing ≡ Number z next → ⊥
+nothing : {z : ℤ} {next : ℕ} → None ≡ some_word z next → ⊥
 nothing e = let z : ◌≡◌ {A = ℕ} 0 1 = cc in omega arith
 
 -- of digits behind a sign
@@ -124,18 +126,12 @@ record Digits (sign : Bool) (at : ℕ) (l : List ℕ) (z : ℤ) (next : ℕ) : T
   value : z ≡ signed sign (value_of (leading l))
   past : next ≡ at + span l
 
-number-value : {x y : ℤ} {m n : ℕ} → Number x m ≡ Number y n → x ≡ y
-number-value e = cc
-
-number-next : {x y : ℤ} {m n : ℕ} → Number x m ≡ Number y n → m ≡ n
-number-next e = cc
-
-digits-told : (sign : Bool) (at : ℕ) (l : List ℕ) (z : ℤ) (next : ℕ) → digits_at sign at l ≡ Number z next → Digits sign at l z next
+digits-told : (sign : Bool) (at : ℕ) (l : List ℕ) (z : ℤ) (next : ℕ) → digits_at sign at l ≡ some_word z next → Digits sign at l z next
 unfolding digits_at signed_word
 digits-told sign at l z next e = by (eqb (span l) 0) refl (is_within sign (value_of (leading l))) refl e
   where
     by : (x : Bool) → eqb (span l) 0 ≡ x → (y : Bool) → is_within sign (value_of (leading l)) ≡ y
-        → cond x Nothing (cond y (Number (signed sign (value_of (leading l))) (at + span l)) Nothing) ≡ Number z next
+        → cond x None (cond y (some_word (signed sign (value_of (leading l))) (at + span l)) None) ≡ some_word z next
         → Digits sign at l z next
     by true p y q f = absurd (nothing f)
     by false p true q f = record { some = eqb-false (span l) 0 p; within = q; value = sym (number-value f); past = sym (number-next f) }
@@ -162,21 +158,21 @@ module _ (at : ℕ) (t : List ℕ) (z : ℤ) (next : ℕ) where
     past = omega (arith, d.past, leading_length t);
   }
 
-pub signed-told : (at : ℕ) (t : List ℕ) (z : ℤ) (next : ℕ) → signed_at at t ≡ Number z next → Signed at t z next
+pub signed-told : (at : ℕ) (t : List ℕ) (z : ℤ) (next : ℕ) → signed_at at t ≡ some_word z next → Signed at t z next
 unfolding signed_at
 signed-told at [] z next e = plain-told at [] z next (digits-told false at [] z next e)
 signed-told at (c ∷ t) z next e = by (eqb c 45) refl e
   where
-    by : (x : Bool) → eqb c 45 ≡ x → cond x (digits_at true (at + 1) t) (digits_at false at (c ∷ t)) ≡ Number z next → Signed at (c ∷ t) z next
+    by : (x : Bool) → eqb c 45 ≡ x → cond x (digits_at true (at + 1) t) (digits_at false at (c ∷ t)) ≡ some_word z next → Signed at (c ∷ t) z next
     by true p f = rw (eqb-true c 45 p) (minus-told at t z next (digits-told true (at + 1) t z next f))
     by false p f = plain-told at (c ∷ t) z next (digits-told false at (c ∷ t) z next f)
 
-pub number-told : (at : ℕ) (l : List ℕ) (z : ℤ) (next : ℕ) → number_at at l ≡ Number z next → Taken at l z next
+pub number-told : (at : ℕ) (l : List ℕ) (z : ℤ) (next : ℕ) → number_at at l ≡ some_word z next → Taken at l z next
 unfolding number_at
 number-told at [] z next e = absurd (nothing e)
 number-told at (b ∷ t) z next e = by (eqb b 32) refl e
   where
-    by : (x : Bool) → eqb b 32 ≡ x → cond x (signed_at (at + 1) t) Nothing ≡ Number z next → Taken at (b ∷ t) z next
+    by : (x : Bool) → eqb b 32 ≡ x → cond x (signed_at (at + 1) t) None ≡ some_word z next → Taken at (b ∷ t) z next
     by true p f =
         let s = signed-told (at + 1) t z next f in
         record {

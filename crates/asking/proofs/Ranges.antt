@@ -1,7 +1,11 @@
 -- The range at a place of a line, and the loop of `ranges`: what is wanted from here is what is wanted from the start.
 -- Assumes nothing.
-use Prim.Native.Nat.{ℕ, zero, suc, ◌+◌, ◌-◌, ◌≤◌, ◌<◌}
-use mathlib.Core.Path.{◌≡◌, refl, sym, ap, ◌∙◌}
+use Rattle.asking.proofs.Same.{range-first, range-end, range-next}
+use Rattle.std.specs.Prelude.{None, Option, Some}
+use Rattle.asking.specs.Numbers.{some_word}
+use Rattle.asking.specs.ShardWords.{some_range}
+use Prim.Native.Nat.{ℕ, zero, suc, ◌+◌, ◌-◌, ◌≤◌, ◌<◌, min}
+use mathlib.Core.Path.{ap₂, ◌≡◌, refl, sym, ap, ◌∙◌}
 use mathlib.Core.List.{List, []}
 use mathlib.Core.Bool.{Bool, true, false, cond, ◌&&◌, and-eq-true_iff}
 use native.Mathlib.Omega.{arith}
@@ -9,13 +13,11 @@ use lib.Dec.{leb}
 use lib.IntN.{ℤ, pos}
 use lib.ListN.{length, drop, set, length-append, length-drop, length-set}
 use lib.Seq.{drop-drop}
-use borrow.Author.Tests.{lt-leb, le-leb}
+use borrow.Author.Tests.{lt-leb, le-leb, leb-true, leb-false}
 use Rattle.numbers.specs.Sign.{up_from}
 use Rattle.digits.specs.Digits.{is_byte, first_is}
 use Rattle.asking.specs.declared.values.Word.{Word}
-use Rattle.asking.specs.declared.values.Word.TheVariants.{Number, Nothing}
 use Rattle.asking.specs.declared.sharded.Ranged.{Ranged}
-use Rattle.asking.specs.declared.sharded.Range.TheVariants as range
 use Rattle.asking.specs.Numbers.{signed_at}
 use Rattle.asking.specs.Table.{is_over}
 use Rattle.asking.specs.ShardWords.{number_then, range_at, sharding, ranges_from, ranges_of, is_none, spelled_of, shards_at, shards_of}
@@ -25,62 +27,68 @@ use Rattle.asking.proofs.Numerals.{signed-told}
 
 -- ---- the range at a place
 module _ (line : List ℕ) (at : ℕ) where
-  pub range-no-first : signed_at at (drop at line) ≡ Nothing → range.Nothing ≡ range_at line at
+  pub range-no-first : signed_at at (drop at line) ≡ None → None ≡ range_at line at
   unfolding range_at
   range-no-first e = rw e
 
-  module _ (y : ℤ) (between : ℕ) (e : signed_at at (drop at line) ≡ Number y between) where
-    pub range-apart : first_is (is_byte 45) (drop between line) ≡ false → range.Nothing ≡ range_at line at
+  module _ (y : ℤ) (between : ℕ) (e : signed_at at (drop at line) ≡ some_word y between) where
+    pub range-apart : first_is (is_byte 45) (drop between line) ≡ false → None ≡ range_at line at
     unfolding range_at
     range-apart f = rw (e, f)
 
     -- and by the place that its end was looked for at
-    module _ (f : first_is (is_byte 45) (drop between line) ≡ true) (from : ℕ) (w : Word) (g : w ≡ signed_at from (drop from line)) where
-      pub range-no-end : w ≡ Nothing → from ≡ between + 1 → range.Nothing ≡ range_at line at
+    module _ (f : first_is (is_byte 45) (drop between line) ≡ true) (from : ℕ) (w : Option Word) (g : w ≡ signed_at from (drop from line)) where
+      pub range-no-end : w ≡ None → from ≡ between + 1 → None ≡ range_at line at
       unfolding range_at
       range-no-end h i = rw (e, f, ← i, ← g, h)
 
-      pub range-some : (z : ℤ) (next : ℕ) → w ≡ Number z next → from ≡ between + 1 → range.Of y z next ≡ range_at line at
+      pub range-some : (z : ℤ) (next : ℕ) → w ≡ some_word z next → from ≡ between + 1 → some_range y z next ≡ range_at line at
       unfolding range_at
       range-some z next h i = rw (e, f, ← i, ← g, h)
 
 -- ---- what it tells
 pub record RangeTold (line : List ℕ) (at : ℕ) (y z : ℤ) (next : ℕ) : Type 0 where
   pub between : ℕ
-  pub first : signed_at at (drop at line) ≡ Number y between
+  pub first : signed_at at (drop at line) ≡ some_word y between
   pub dash : first_is (is_byte 45) (drop between line) ≡ true
-  pub end : signed_at (between + 1) (drop (between + 1) line) ≡ Number z next
+  pub end : signed_at (between + 1) (drop (between + 1) line) ≡ some_word z next
 
 module _ (line : List ℕ) (at : ℕ) (y z : ℤ) (next : ℕ) where
-  pub range-told : range_at line at ≡ range.Of y z next → RangeTold line at y z next
+  pub range-told : range_at line at ≡ some_range y z next → RangeTold line at y z next
   unfolding range_at
   range-told e = by (signed_at at (drop at line)) refl e
     where
-      last : (a : ℤ) (between : ℕ) → signed_at at (drop at line) ≡ Number a between → first_is (is_byte 45) (drop between line) ≡ true
-          → (v : Word) → signed_at (between + 1) (drop (between + 1) line) ≡ v → number_then v (λ b n. range.Of a b n) ≡ range.Of y z next
+      last : (a : ℤ) (between : ℕ) → signed_at at (drop at line) ≡ some_word a between → first_is (is_byte 45) (drop between line) ≡ true
+          → (v : Option Word) → signed_at (between + 1) (drop (between + 1) line) ≡ v → number_then v (λ b n. some_range a b n) ≡ some_range y z next
           → RangeTold line at y z next
-      last a between p q (Number b n) r f = record { between = between; first = p ∙ cc; dash = q; end = r ∙ cc }
-      last a between p q Nothing r f = let x : ◌≡◌ {A = ℕ} 0 1 = cc in absurd (omega arith)
+      last a between p q (Some w) r f =
+          record {
+            between = between;
+            first = p ∙ ap (λ x. some_word x between) (range-first f);
+            dash = q;
+            end = r ∙ ap₂ some_word (range-end f) (range-next f);
+          }
+      last a between p q None r f = let x : ◌≡◌ {A = ℕ} 0 1 = cc in absurd (omega arith)
 
-      dashed : (a : ℤ) (between : ℕ) → signed_at at (drop at line) ≡ Number a between → (t : Bool) → first_is (is_byte 45) (drop between line) ≡ t
-          → cond t (number_then (signed_at (between + 1) (drop (between + 1) line)) (λ b n. range.Of a b n)) range.Nothing ≡ range.Of y z next
+      dashed : (a : ℤ) (between : ℕ) → signed_at at (drop at line) ≡ some_word a between → (t : Bool) → first_is (is_byte 45) (drop between line) ≡ t
+          → cond t (number_then (signed_at (between + 1) (drop (between + 1) line)) (λ b n. some_range a b n)) None ≡ some_range y z next
           → RangeTold line at y z next
       dashed a between p true q f = last a between p q (signed_at (between + 1) (drop (between + 1) line)) refl f
       dashed a between p false q f = let x : ◌≡◌ {A = ℕ} 0 1 = cc in absurd (omega arith)
 
-      by : (w : Word) → signed_at at (drop at line) ≡ w
+      by : (w : Option Word) → signed_at at (drop at line) ≡ w
           → number_then w (λ a between. cond (first_is (is_byte 45) (drop between line))
-          (number_then (signed_at (between + 1) (drop (between + 1) line)) (λ b n. range.Of a b n)) range.Nothing) ≡ range.Of y z next
+          (number_then (signed_at (between + 1) (drop (between + 1) line)) (λ b n. some_range a b n)) None) ≡ some_range y z next
           → RangeTold line at y z next
-      by (Number a between) p f = dashed a between p (first_is (is_byte 45) (drop between line)) refl f
-      by Nothing p f = let x : ◌≡◌ {A = ℕ} 0 1 = cc in absurd (omega arith)
+      by (Some w) p f = dashed w.number w.next p (first_is (is_byte 45) (drop w.next line)) refl f
+      by None p f = let x : ◌≡◌ {A = ℕ} 0 1 = cc in absurd (omega arith)
 
 pub numeral-some : {d : List ℕ} {z : ℤ} → Numeral d z → 0 < length d
 numeral-some (plain f w) = f.some
 numeral-some (minus f w) = omega arith
 
 -- a number that stands at a place ends behind it, within the line
-signed-past : (line : List ℕ) (at : ℕ) (z : ℤ) (next : ℕ) → signed_at at (drop at line) ≡ Number z next → (at < next) × (next ≤ length line)
+signed-past : (line : List ℕ) (at : ℕ) (z : ℤ) (next : ℕ) → signed_at at (drop at line) ≡ some_word z next → (at < next) × (next ≤ length line)
 signed-past line at z next e =
     let t = signed-told at (drop at line) z next e in
     let some = numeral-some t.numeral in
@@ -88,7 +96,7 @@ signed-past line at z next e =
     (omega (arith, some, t.past), omega (arith, some, t.past, long, length-drop at line))
 
 -- and so does a range
-pub range-past : (line : List ℕ) (at : ℕ) (y z : ℤ) (next : ℕ) → range_at line at ≡ range.Of y z next → (at < next) × (next ≤ length line)
+pub range-past : (line : List ℕ) (at : ℕ) (y z : ℤ) (next : ℕ) → range_at line at ≡ some_range y z next → (at < next) × (next ≤ length line)
 range-past line at y z next e =
     let t = range-told line at y z next e in
     let first = signed-past line at y t.between t.first in
@@ -120,7 +128,7 @@ module _ (line : List ℕ) (from : ℕ) (firsts₀ ends₀ firsts ends : List �
   Ends r f e = let x = ranges_of line from firsts₀ ends₀ in (r ≡ x.ranged) × ((f ≡ x.firsts) × (e ≡ x.ends))
 
   -- no range stands there
-  pub ranging-none : range_at line at ≡ range.Nothing → Ends (record { well = false; count = n; next = at }) firsts ends
+  pub ranging-none : range_at line at ≡ None → Ends (record { well = false; count = n; next = at }) firsts ends
   unfolding ranges_from
   ranging-none e =
       let q = s.same ∙ by s.k in
@@ -130,7 +138,7 @@ module _ (line : List ℕ) (from : ℕ) (firsts₀ ends₀ firsts ends : List �
       by zero = refl
       by (suc k) = rw e
 
-  module _ (y z : ℤ) (next : ℕ) (e : range_at line at ≡ range.Of y z next)
+  module _ (y z : ℤ) (next : ℕ) (e : range_at line at ≡ some_range y z next)
       (f g : List ℕ) (p : f ≡ set firsts n (up_from y)) (q : g ≡ set ends n (up_from z)) where
     -- a range, and no `,` behind it
     pub ranging-over : first_is (is_byte 44) (drop next line) ≡ false → (over : Bool) → over ≡ is_over (drop next line)
@@ -174,11 +182,13 @@ unfolding is_none
 none_within line at e = stands-within line at 45 ((and-eq-true_iff (first_is (is_byte 45) (drop at line)) _).0 e).0
 
 -- ---- room in both lists
-pub hold-not : (count a b : ℕ) → a < count → false ≡ (leb count a && leb count b)
-hold-not count a b h = rw (lt-leb count a h)
-
-pub hold-first : (count a b : ℕ) → count ≤ a → leb count b ≡ (leb count a && leb count b)
-hold-first count a b h = rw (le-leb count a h)
+pub hold-both : (count a b : ℕ) → leb count (min a b) ≡ (leb count a && leb count b)
+hold-both count a b = by (leb count a) refl (leb count b) refl
+  where
+    by : (s : Bool) → leb count a ≡ s → (t : Bool) → leb count b ≡ t → leb count (min a b) ≡ (s && t)
+    by true p true q = le-leb count (min a b) (omega (arith, leb-true count a p, leb-true count b q))
+    by true p false q = lt-leb count (min a b) (omega (arith, leb-false count b q))
+    by false p t q = lt-leb count (min a b) (omega (arith, leb-false count a p))
 
 -- ---- what a word spells
 module _ (line : List ℕ) (at : ℕ) (firsts ends : List ℕ) where
@@ -203,15 +213,15 @@ module _ (line : List ℕ) (at : ℕ) (firsts ends : List ℕ) where
 
 -- ---- a word of shards behind one space
 module _ (line : List ℕ) (at : ℕ) where
-  pub shards-apart : first_is (is_byte 32) (drop at line) ≡ false → Nothing ≡ shards_at line at
+  pub shards-apart : first_is (is_byte 32) (drop at line) ≡ false → None ≡ shards_at line at
   unfolding shards_at
   shards-apart e = rw e
 
   module _ (e : first_is (is_byte 32) (drop at line) ≡ true) (r : Ranged) (f : r ≡ (spelled_of line (at + 1) [] []).ranged) where
-    pub shards-not : r.well ≡ false → Nothing ≡ shards_at line at
+    pub shards-not : r.well ≡ false → None ≡ shards_at line at
     unfolding shards_at
     shards-not g = rw (e, ← f, g)
 
-    pub shards-place : r.well ≡ true → (z : ℤ) → z ≡ pos (at + 1) → Number z r.next ≡ shards_at line at
+    pub shards-place : r.well ≡ true → (z : ℤ) → z ≡ pos (at + 1) → some_word z r.next ≡ shards_at line at
     unfolding shards_at
     shards-place g z h = rw (e, ← f, g, h)

@@ -1,5 +1,7 @@
 -- What stands next in a line of records: a record's word, or one of its numbers.
 -- Assumes nothing.
+use Rattle.std.specs.Prelude.{None}
+use Rattle.asking.specs.Numbers.{some_word}
 use Prim.Native.Nat.{ℕ, zero, suc, ◌+◌, ◌-◌}
 use mathlib.Core.Path.{◌≡◌, refl}
 use mathlib.Core.List.{List}
@@ -9,7 +11,6 @@ use lib.Dec.{leb}
 use lib.IntN.{ℤ, pos, nat_abs}
 use lib.ListN.{length}
 use borrow.Author.Tests.{eq-eqb, ne_eqb}
-use Rattle.asking.specs.declared.values.Word.TheVariants.{Number, Nothing}
 use Rattle.asking.specs.Numbers.{number_at}
 use Rattle.laws.specs.Spelt.{spelt}
 use Rattle.asking.specs.Table.{word_first}
@@ -17,21 +18,21 @@ use Rattle.asking.specs.RecordWords.{kind_at, next_at, due_behind, is_done}
 
 -- ---- the kind of a record
 module _ (at : ℕ) (l : List ℕ) where
-  pub kind-rate : word_first (spelt " rate") l ≡ true → Number (pos 1) (at + 5) ≡ kind_at at l
+  pub kind-rate : word_first (spelt " rate") l ≡ true → some_word (pos 1) (at + 5) ≡ kind_at at l
   unfolding kind_at
   kind-rate e = rw e
 
   module _ (e : word_first (spelt " rate") l ≡ false) where
-    pub kind-shot : word_first (spelt " shot") l ≡ true → Number (pos 2) (at + 5) ≡ kind_at at l
+    pub kind-shot : word_first (spelt " shot") l ≡ true → some_word (pos 2) (at + 5) ≡ kind_at at l
     unfolding kind_at
     kind-shot f = rw (e, f)
 
     module _ (f : word_first (spelt " shot") l ≡ false) where
-      pub kind-reel : word_first (spelt " reel") l ≡ true → Number (pos 3) (at + 5) ≡ kind_at at l
+      pub kind-reel : word_first (spelt " reel") l ≡ true → some_word (pos 3) (at + 5) ≡ kind_at at l
       unfolding kind_at
       kind-reel g = rw (e, f, g)
 
-      pub kind-none : word_first (spelt " reel") l ≡ false → Nothing ≡ kind_at at l
+      pub kind-none : word_first (spelt " reel") l ≡ false → None ≡ kind_at at l
       unfolding kind_at
       kind-none g = rw (e, f, g)
 

@@ -1,14 +1,16 @@
 -- The grammar of records by what is due: nothing, a record's word, or one of its numbers; so the reader takes them.
 -- Assumes nothing.
+use Rattle.asking.proofs.Same.{number-value, number-next}
+use Rattle.std.specs.Prelude.{None}
+use Rattle.asking.specs.Numbers.{some_word}
 use Prim.Native.Nat.{ℕ, suc, ◌+◌}
-use mathlib.Core.Path.{◌≡◌, refl}
+use mathlib.Core.Path.{◌≡◌, refl, sym}
 use mathlib.Core.List.{List, [], ◌∷◌, ◌++◌}
 use mathlib.Core.Bool.{Bool, true, false, cond}
 use native.Mathlib.Omega.{arith}
 use lib.IntN.{ℤ, pos}
 use lib.ListN.{length, drop}
 use Rattle.digits.specs.Digits.{digit_first}
-use Rattle.asking.specs.declared.values.Word.TheVariants.{Number, Nothing}
 use Rattle.laws.specs.Spelt.{spelt}
 use Rattle.asking.specs.Table.{word_first}
 use Rattle.asking.specs.RecordWords.{kind_at, due_behind}
@@ -55,7 +57,7 @@ worded-due is_rate = refl
 worded-due is_shot = refl
 worded-due is_reel = refl
 
-pub kind-taken : {w : List ℕ} {k : ℤ} {due : ℕ} → Worded w k due → (at : ℕ) (t : List ℕ) → kind_at at (w ++ t) ≡ Number k (at + length w)
+pub kind-taken : {w : List ℕ} {k : ℤ} {due : ℕ} → Worded w k due → (at : ℕ) (t : List ℕ) → kind_at at (w ++ t) ≡ some_word k (at + length w)
 unfolding kind_at word_first
 kind-taken is_rate at t = refl
 kind-taken is_shot at t = refl
@@ -71,21 +73,21 @@ pub record KindTold (at : ℕ) (l : List ℕ) (k : ℤ) (next : ℕ) : Type 0 wh
 
 module _ (at : ℕ) (l : List ℕ) (k : ℤ) (next : ℕ) where
   -- the word that was found
-  one_told : (w : List ℕ) (n : ℤ) (due : ℕ) → Worded w n due → word_first w l ≡ true → Number n (at + length w) ≡ Number k next → KindTold at l k next
+  one_told : (w : List ℕ) (n : ℤ) (due : ℕ) → Worded w n due → word_first w l ≡ true → some_word n (at + length w) ≡ some_word k next → KindTold at l k next
   one_told w n due d e f = record {
     word = w;
     due = due;
-    worded = let g : n ≡ k = cc in rw g at d;
+    worded = rw (number-value f) at d;
     is = word-front w l e;
-    past = cc;
+    past = sym (number-next f);
   }
 
-  pub kind-told : kind_at at l ≡ Number k next → KindTold at l k next
+  pub kind-told : kind_at at l ≡ some_word k next → KindTold at l k next
   unfolding kind_at
   kind-told e = by (word_first (spelt " rate") l) refl (word_first (spelt " shot") l) refl (word_first (spelt " reel") l) refl e
     where
       by : (x : Bool) → word_first (spelt " rate") l ≡ x → (y : Bool) → word_first (spelt " shot") l ≡ y → (z : Bool) → word_first (spelt " reel") l ≡ z
-          → cond x (Number (pos 1) (at + 5)) (cond y (Number (pos 2) (at + 5)) (cond z (Number (pos 3) (at + 5)) Nothing)) ≡ Number k next
+          → cond x (some_word (pos 1) (at + 5)) (cond y (some_word (pos 2) (at + 5)) (cond z (some_word (pos 3) (at + 5)) None)) ≡ some_word k next
           → KindTold at l k next
       by true p y q z r f = one_told (spelt " rate") (pos 1) 1 is_rate p f
       by false p true q z r f = one_told (spelt " shot") (pos 2) 2 is_shot q f

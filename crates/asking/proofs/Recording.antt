@@ -1,5 +1,7 @@
 -- The loop of `records`: what is wanted from here is what is wanted from the start.
 -- Assumes nothing.
+use Rattle.std.specs.Prelude.{None}
+use Rattle.asking.specs.Numbers.{some_word}
 use Prim.Native.Nat.{ℕ, zero, suc, ◌+◌, ◌-◌, ◌≤◌, ◌<◌}
 use mathlib.Core.Path.{◌≡◌, refl, sym, ap, ◌∙◌}
 use mathlib.Core.List.{List}
@@ -7,7 +9,6 @@ use mathlib.Core.Bool.{Bool}
 use native.Mathlib.Omega.{arith}
 use lib.IntN.{ℤ}
 use lib.ListN.{length, drop, set, length-set}
-use Rattle.asking.specs.declared.values.Word.TheVariants.{Number, Nothing}
 use Rattle.asking.specs.declared.numbered.Listed.{Listed}
 use Rattle.asking.specs.RecordWords.{next_at, due_behind, is_done, record_listing, records_from, records_of}
 
@@ -33,7 +34,7 @@ module _ (line : List ℕ) (from : ℕ) (list₀ list : List ℤ) (at due n : �
         (ap (λ (z : Bool). record { all = z; count = n }) d ∙ sym (ap (λ z. z.listed) q), sym (ap (λ z. z.list) q))
 
     -- neither a record nor a number that is due stands there
-    pub recording-other : next_at due at (drop at line) ≡ Nothing → Ends (record { all = done; count = n }) list
+    pub recording-other : next_at due at (drop at line) ≡ None → Ends (record { all = done; count = n }) list
     unfolding records_from
     recording-other e = ends_by (by s.k)
       where
@@ -46,7 +47,7 @@ module _ (line : List ℕ) (from : ℕ) (list₀ list : List ℤ) (at due n : �
     unfolding records_from
     recording-full h = let z : s.k ≡ 0 = omega (arith, s.left, s.long) in ends_by (rw z)
 
-  pub recording-turn : (z : ℤ) (next after : ℕ) → n < length list → next_at due at (drop at line) ≡ Number z next → after ≡ due_behind due z
+  pub recording-turn : (z : ℤ) (next after : ℕ) → n < length list → next_at due at (drop at line) ≡ some_word z next → after ≡ due_behind due z
       → Recording line from list₀ (set list n z) next after (n + 1)
   unfolding records_from
   recording-turn z next after h e f = record {

@@ -1,5 +1,7 @@
 -- Records of the grammar are listed as they are made, and what is listed as all is made so: one kind or number after the other.
 -- Assumes nothing.
+use Rattle.std.specs.Prelude.{None, Option, Some}
+use Rattle.asking.specs.Numbers.{some_word}
 use Prim.Native.Nat.{ℕ, zero, suc, ◌+◌, ◌≤◌}
 use mathlib.Core.Path.{◌≡◌, refl, sym, ap, subst, ◌∙◌}
 use mathlib.Core.List.{List, [], ◌∷◌, ◌++◌}
@@ -11,7 +13,6 @@ use lib.ListN.{length, take, drop, set, length-drop, drop_of_length-le}
 use lib.Seq.{drop-drop, drop-append_seam, take-append_seam}
 use borrow.Author.Tests.{eqb-true, leb-true, le-leb}
 use Rattle.asking.specs.declared.values.Word.{Word}
-use Rattle.asking.specs.declared.values.Word.TheVariants.{Number, Nothing}
 use Rattle.asking.specs.Numbers.{number_at}
 use Rattle.asking.specs.Numbered.{Listing, list_then}
 use Rattle.asking.specs.Table.{word_first}
@@ -38,7 +39,7 @@ module _ (line : List ℕ) where
 
   module _ (m at due n : ℕ) (list : List ℤ) where
     -- one more
-    one_more : (z : ℤ) (next after : ℕ) (zs : List ℤ) → next_at due at (drop at line) ≡ Number z next → due_behind due z ≡ after
+    one_more : (z : ℤ) (next after : ℕ) (zs : List ℤ) → next_at due at (drop at line) ≡ some_word z next → due_behind due z ≡ after
         → records_from m line next after (n + 1) (set list n z) ≡ listed_from (n + 1) (set list n z) zs
         → records_from (suc m) line at due n list ≡ listed_from n list (z ∷ zs)
     unfolding records_from placed_from
@@ -65,7 +66,7 @@ module _ (line : List ℕ) where
       (due-listed r m (at + 1 + length d) (n + 1) (set list n z) (number-left line at d t q) (omega arith))
 
   -- ---- and back: what is taken next, and the rest behind it
-  kind-rest : (at : ℕ) (z : ℤ) (next : ℕ) (zs : List ℤ) → kind_at at (drop at line) ≡ Number z next → Due (due_behind 0 z) (drop next line) zs
+  kind-rest : (at : ℕ) (z : ℤ) (next : ℕ) (zs : List ℤ) → kind_at at (drop at line) ≡ some_word z next → Due (due_behind 0 z) (drop next line) zs
       → Due 0 (drop at line) (z ∷ zs)
   kind-rest at z next zs e r =
       let t = kind-told at (drop at line) z next e in
@@ -73,14 +74,14 @@ module _ (line : List ℕ) where
       let left : drop next line ≡ behind = ap (λ x. drop x line) t.past ∙ word-left at t.word behind t.is in
       subst (λ x. Due 0 x (z ∷ zs)) (sym t.is) (word t.worded (rw (worded-due t.worded, left) at r))
 
-  number-rest : (at due : ℕ) (z : ℤ) (next : ℕ) (zs : List ℤ) → number_at at (drop at line) ≡ Number z next → Due due (drop next line) zs
+  number-rest : (at due : ℕ) (z : ℤ) (next : ℕ) (zs : List ℤ) → number_at at (drop at line) ≡ some_word z next → Due due (drop next line) zs
       → Due (suc due) (drop at line) (z ∷ zs)
   number-rest at due z next zs e r =
       let t = number-told at (drop at line) z next e in
       let left : drop next line ≡ t.rest = ap (λ x. drop x line) t.past ∙ number-left line at t.digits t.rest t.is in
       subst (λ x. Due (suc due) x (z ∷ zs)) (sym t.is) (number t.numeral (rw left at r))
 
-  next-rest : (due at : ℕ) (z : ℤ) (next : ℕ) (zs : List ℤ) → next_at due at (drop at line) ≡ Number z next → Due (due_behind due z) (drop next line) zs
+  next-rest : (due at : ℕ) (z : ℤ) (next : ℕ) (zs : List ℤ) → next_at due at (drop at line) ≡ some_word z next → Due (due_behind due z) (drop next line) zs
       → Due due (drop at line) (z ∷ zs)
   unfolding next_at due_behind
   next-rest zero at z next zs e r = kind-rest at z next zs e r
@@ -115,18 +116,18 @@ module _ (line : List ℕ) where
   records-told (suc m) at due n list e =
       by (next_at due at (drop at line)) refl (λ next after l. records-told m next after (n + 1) l) e
     where
-      by : (y : Word) → next_at due at (drop at line) ≡ y
+      by : (y : Option Word) → next_at due at (drop at line) ≡ y
           → ((next after : ℕ) (l : List ℤ) → (records_from m line next after (n + 1) l).listed.all ≡ true → RecordsTold m next after (n + 1) l)
           → (list_then y (λ z next. records_from m line next (due_behind due z) (n + 1) (set list n z)) (record_listing line at due n list)).listed.all ≡ true
           → RecordsTold (suc m) at due n list
-      by Nothing q more f = none_told (suc m) at due n list f
-      by (Number z next) q more f =
-          let t = more next (due_behind due z) (set list n z) f in
+      by None q more f = none_told (suc m) at due n list f
+      by (Some w) q more f =
+          let t = more w.next (due_behind due w.number) (set list n w.number) f in
           record {
-            zs = z ∷ t.zs;
-            rest = next-rest due at z next t.zs q t.rest;
+            zs = w.number ∷ t.zs;
+            rest = next-rest due at w.number w.next t.zs q t.rest;
             room = omega (arith, t.room);
-            is = one_more m at due n list z next (due_behind due z) t.zs q refl t.is;
+            is = one_more m at due n list w.number w.next (due_behind due w.number) t.zs q refl t.is;
           }
 
 -- ---- from the list's front on

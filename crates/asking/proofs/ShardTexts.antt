@@ -1,5 +1,9 @@
 -- What a word of shards spells is what is read of it, and what is read is spelt: range by range.
 -- Assumes nothing.
+use Rattle.asking.proofs.Same.{number-value, number-next, range-first, range-end, range-next}
+use Rattle.std.specs.Prelude.{None, Option, Some}
+use Rattle.asking.specs.Numbers.{some_word}
+use Rattle.asking.specs.ShardWords.{some_range}
 use Prim.Native.Nat.{ℕ, zero, suc, ◌+◌, ◌*◌, ◌≤◌}
 use mathlib.Core.Path.{◌≡◌, refl, sym, ap, subst, ◌∙◌}
 use mathlib.Core.List.{List, [], ◌∷◌, ◌++◌, map, append_assoc, append-nil}
@@ -11,9 +15,7 @@ use lib.Seq.{drop-drop}
 use borrow.Author.Tests.{eqb-true}
 use Rattle.numbers.specs.Sign.{up_from}
 use Rattle.digits.specs.Digits.{is_byte, first_is, digit_first}
-use Rattle.asking.specs.declared.values.Word.TheVariants.{Number, Nothing}
 use Rattle.asking.specs.declared.sharded.Range.{Range}
-use Rattle.asking.specs.declared.sharded.Range.TheVariants as range
 use Rattle.asking.specs.Numbers.{signed_at}
 use Rattle.asking.specs.Table.{is_over}
 use Rattle.asking.specs.ShardWords.{range_at, Sharding, sharding, range_then, ranges_from, is_none, spelled_of, place_then, shards_at}
@@ -51,11 +53,11 @@ module _ (line : List ℕ) (at : ℕ) (d e t : List ℕ) (y z : ℤ) (f : Numera
   past_is : drop (at + length d + 1 + length e) line ≡ t
   past_is = signed-left line (at + length d + 1) e t behind-is
 
-  range-taken : digit_first t ≡ false → range_at line at ≡ range.Of y z (at + length d + 1 + length e)
+  range-taken : digit_first t ≡ false → range_at line at ≡ some_range y z (at + length d + 1 + length e)
   range-taken s =
       sym
       (range-some line at y (at + length d) (ap (signed_at at) q ∙ signed-taken f at (45 ∷ e ++ t) refl) (rw between_is refl)
-      (at + length d + 1) (Number z (at + length d + 1 + length e))
+      (at + length d + 1) (some_word z (at + length d + 1 + length e))
       (sym (ap (signed_at (at + length d + 1)) behind-is ∙ signed-taken g (at + length d + 1) t s)) z (at + length d + 1 + length e) refl refl)
 
 -- ---- and what is read is one
@@ -69,7 +71,7 @@ record RangeText (line : List ℕ) (at : ℕ) (y z : ℤ) (next : ℕ) : Type 0 
   past : next ≡ at + length d + 1 + length e
   left : drop next line ≡ t
 
-range-text : (line : List ℕ) (at : ℕ) (y z : ℤ) (next : ℕ) → range_at line at ≡ range.Of y z next → RangeText line at y z next
+range-text : (line : List ℕ) (at : ℕ) (y z : ℤ) (next : ℕ) → range_at line at ≡ some_range y z next → RangeText line at y z next
 range-text line at y z next e =
     let r = range-told line at y z next e in
     let a = signed-told at (drop at line) y r.between r.first in
@@ -97,7 +99,7 @@ abbrev ranged_from : (n next : ℕ) (firsts ends : List ℕ) (ys zs : List ℤ) 
 ranged_from n next firsts ends ys zs = sharding true (n + length ys) next (placed_from n firsts (map up_from ys)) (placed_from n ends (map up_from zs))
 
 module _ (line : List ℕ) where
-  module _ (m at n : ℕ) (firsts ends : List ℕ) (y z : ℤ) (next : ℕ) (e : range_at line at ≡ range.Of y z next) where
+  module _ (m at n : ℕ) (firsts ends : List ℕ) (y z : ℤ) (next : ℕ) (e : range_at line at ≡ some_range y z next) where
     one_last : is_over (drop next line) ≡ true → ranges_from (suc m) line at n firsts ends ≡ ranged_from n next firsts ends (y ∷ []) (z ∷ [])
     unfolding ranges_from placed_from
     one_last o = rw (e, (over-stops (drop next line) o).1, o)
@@ -143,7 +145,7 @@ module _ (line : List ℕ) where
     read : ranges_from m line at n firsts ends ≡ ranged_from n (at + length w) firsts ends ys zs
 
   -- a range, and the word is over
-  last-told : (m at n : ℕ) (firsts ends : List ℕ) (y z : ℤ) (next : ℕ) → range_at line at ≡ range.Of y z next → is_over (drop next line) ≡ true
+  last-told : (m at n : ℕ) (firsts ends : List ℕ) (y z : ℤ) (next : ℕ) → range_at line at ≡ some_range y z next → is_over (drop next line) ≡ true
       → RangesTold (suc m) at n firsts ends
   last-told m at n firsts ends y z next e o =
       let r = range-text line at y z next e in
@@ -160,7 +162,7 @@ module _ (line : List ℕ) where
       }
 
   -- a range, `,`, and what is told of those behind it
-  more-told : (m at n : ℕ) (firsts ends : List ℕ) (y z : ℤ) (next : ℕ) → range_at line at ≡ range.Of y z next
+  more-told : (m at n : ℕ) (firsts ends : List ℕ) (y z : ℤ) (next : ℕ) → range_at line at ≡ some_range y z next
       → first_is (is_byte 44) (drop next line) ≡ true → RangesTold m (next + 1) (n + 1) (set firsts n (up_from y)) (set ends n (up_from z))
       → RangesTold (suc m) at n firsts ends
   more-told m at n firsts ends y z next e c s =
@@ -195,18 +197,18 @@ module _ (line : List ℕ) where
           cond (first_is (is_byte 44) (drop next line)) (ranges_from m line (next + 1) (n + 1) (set firsts n (up_from y)) (set ends n (up_from z)))
           (sharding (is_over (drop next line)) (n + 1) next (set firsts n (up_from y)) (set ends n (up_from z)))
 
-      by : (v : Range) → range_at line at ≡ v
+      by : (v : Option Range) → range_at line at ≡ v
           → ((next : ℕ) (f g : List ℕ) → (ranges_from m line (next + 1) (n + 1) f g).ranged.well ≡ true → RangesTold m (next + 1) (n + 1) f g)
           → (range_then v behind (sharding false n at firsts ends)).ranged.well ≡ true → RangesTold (suc m) at n firsts ends
-      by range.Nothing q more h = absurd (true-false (sym h))
-      by (range.Of y z next) q more h = comma (first_is (is_byte 44) (drop next line)) refl h
+      by None q more h = absurd (true-false (sym h))
+      by (Some r) q more h = comma (first_is (is_byte 44) (drop r.next line)) refl h
         where
-          comma : (t : Bool) → first_is (is_byte 44) (drop next line) ≡ t
-              → (cond t (ranges_from m line (next + 1) (n + 1) (set firsts n (up_from y)) (set ends n (up_from z)))
-              (sharding (is_over (drop next line)) (n + 1) next (set firsts n (up_from y)) (set ends n (up_from z)))).ranged.well ≡ true
+          comma : (t : Bool) → first_is (is_byte 44) (drop r.next line) ≡ t
+              → (cond t (ranges_from m line (r.next + 1) (n + 1) (set firsts n (up_from r.first)) (set ends n (up_from r.end)))
+              (sharding (is_over (drop r.next line)) (n + 1) r.next (set firsts n (up_from r.first)) (set ends n (up_from r.end)))).ranged.well ≡ true
               → RangesTold (suc m) at n firsts ends
-          comma true c k = more-told m at n firsts ends y z next q c (more next (set firsts n (up_from y)) (set ends n (up_from z)) k)
-          comma false c k = last-told m at n firsts ends y z next q k
+          comma true c k = more-told m at n firsts ends r.first r.end r.next q c (more r.next (set firsts n (up_from r.first)) (set ends n (up_from r.end)) k)
+          comma false c k = last-told m at n firsts ends r.first r.end r.next q k
 
 -- ---- as many first numbers as ends; and four bytes a range, but for the last `,`
 ranges-few : {w : List ℕ} {ys zs : List ℤ} → RangesText w ys zs → (length ys ≡ length zs) × (4 * length ys ≤ length w + 1)
@@ -223,7 +225,7 @@ shards-few (some_shards r) = ranges-few r
 -- the first range of a word, and what stands behind it
 record Opens (w : List ℕ) (y z : ℤ) (t : List ℕ) : Type 0 where
   next : ℕ
-  range_is : range_at w 0 ≡ range.Of y z next
+  range_is : range_at w 0 ≡ some_range y z next
   left : drop next w ≡ t
 
 opens : (d e t : List ℕ) (y z : ℤ) → Numeral d y → Numeral e z → digit_first t ≡ false → Opens (d ++ (45 ∷ e ++ t)) y z t
@@ -236,9 +238,9 @@ opens-last d e y z f g = subst (λ x. Opens (d ++ (45 ∷ x)) y z []) (append-ni
 
 opens_one : (w v : List ℕ) (y z u x : ℤ) (t s : List ℕ) → Opens w y z t → Opens v u x s → w ≡ v → (y ≡ u) × ((z ≡ x) × (t ≡ s))
 opens_one w v y z u x t s a b e =
-    let r : range.Of y z a.next ≡ range.Of u x b.next = sym a.range_is ∙ ap (λ k. range_at k 0) e ∙ b.range_is in
-    let n : a.next ≡ b.next = cc in
-    (cc, (cc, sym a.left ∙ ap (λ k. drop k w) n ∙ ap (drop b.next) e ∙ b.left))
+    let r : some_range y z a.next ≡ some_range u x b.next = sym a.range_is ∙ ap (λ k. range_at k 0) e ∙ b.range_is in
+    let n : a.next ≡ b.next = range-next r in
+    (range-first r, (range-end r, sym a.left ∙ ap (λ k. drop k w) n ∙ ap (drop b.next) e ∙ b.left))
 
 ranges-one : {w v : List ℕ} {ys zs us vs : List ℤ} → RangesText w ys zs → RangesText v us vs → w ≡ v → (ys ≡ us) × (zs ≡ vs)
 ranges-one (last_range {d} {e} {y} {z} f g) (last_range {d = a} {e = b} {y = u} {z = x} h i) p =
@@ -341,7 +343,7 @@ module _ (line : List ℕ) (at : ℕ) (firsts ends : List ℕ) where
 
 -- ---- behind one space, by the place where it begins
 pub shards-taken : {w : List ℕ} {ys zs : List ℤ} → ShardsText w ys zs → (line : List ℕ) (at : ℕ) (l : List ℕ) → drop at line ≡ 32 ∷ w ++ l
-    → is_over l ≡ true → shards_at line at ≡ Number (pos (at + 1)) (at + 1 + length w)
+    → is_over l ≡ true → shards_at line at ≡ some_word (pos (at + 1)) (at + 1 + length w)
 unfolding shards_at
 shards-taken {w} s line at l q o = rw (q, spelled-read line (at + 1) [] [] s l (byte-on line at 32 (w ++ l) q) o)
 
@@ -356,18 +358,18 @@ pub record ShardsTold (line : List ℕ) (at : ℕ) (z : ℤ) (next : ℕ) : Type
   pub place : pos (at + 1) ≡ z
   pub past : next ≡ at + 1 + length w
 
-pub shards-told : (line : List ℕ) (at : ℕ) (z : ℤ) (next : ℕ) → shards_at line at ≡ Number z next → ShardsTold line at z next
+pub shards-told : (line : List ℕ) (at : ℕ) (z : ℤ) (next : ℕ) → shards_at line at ≡ some_word z next → ShardsTold line at z next
 unfolding shards_at
 shards-told line at z next e =
     by (first_is (is_byte 32) (drop at line)) refl (spelled_of line (at + 1) [] []).ranged.well refl e
   where
     by : (s : Bool) → first_is (is_byte 32) (drop at line) ≡ s → (t : Bool) → (spelled_of line (at + 1) [] []).ranged.well ≡ t
-        → cond s (place_then t (at + 1) (spelled_of line (at + 1) [] []).ranged.next) Nothing ≡ Number z next → ShardsTold line at z next
+        → cond s (place_then t (at + 1) (spelled_of line (at + 1) [] []).ranged.next) None ≡ some_word z next → ShardsTold line at z next
     by false p t q f = let x : ◌≡◌ {A = ℕ} 0 1 = cc in absurd (omega arith)
     by true p false q f = let x : ◌≡◌ {A = ℕ} 0 1 = cc in absurd (omega arith)
     by true p true q f =
         let t = spelled-told line (at + 1) [] [] q in
-        let n : (spelled_of line (at + 1) [] []).ranged.next ≡ next = cc in
+        let n : (spelled_of line (at + 1) [] []).ranged.next ≡ next = number-next f in
         record {
           w = t.w;
           l = t.l;
@@ -376,6 +378,6 @@ shards-told line at z next e =
           text = t.text;
           is = byte-here 32 (drop at line) p ∙ ap (λ x. 32 ∷ x) (drop-drop 1 at line ∙ t.is);
           over = t.over;
-          place = cc;
+          place = number-value f;
           past = sym n ∙ ap (λ x. x.ranged.next) t.read;
         }

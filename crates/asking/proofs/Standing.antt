@@ -1,48 +1,45 @@
 -- A word that stands at a place of a line, byte by byte.
 -- Assumes nothing.
-use Prim.Native.Nat.{ℕ, ◌+◌, ◌≤◌, ◌<◌, max}
+use Rattle.std.specs.List.{starts_with}
+use Prim.Native.Nat.{ℕ, ◌+◌, ◌-◌, ◌≤◌, ◌<◌, min}
 use mathlib.Core.Path.{◌≡◌, refl, sym, ap, ◌∙◌}
 use mathlib.Core.List.{List, [], ◌∷◌, ◌++◌}
-use mathlib.Core.Bool.{true, false, and-eq-true_iff}
+use mathlib.Core.Bool.{Bool, true, false, and-eq-true_iff}
 use native.Mathlib.Omega.{arith}
-use native.Mathlib.Numerals.{add-one}
-use lib.ListN.{length, drop, get_or, length-drop, drop_of_length-le}
-use lib.Seq.{drop-cons, drop-drop}
-use borrow.Author.Tests.{eqb-true}
+use lib.Dec.{eqb, leb}
+use lib.ListN.{length, take, drop, length-drop, drop_of_length-le}
+use lib.Seq.{take_all}
+use borrow.Author.Tests.{eqb-true, eqb-false, eq-eqb, ne_eqb, leb-true, leb-false}
 use Rattle.digits.specs.Digits.{is_byte, first_is}
 use Rattle.asking.specs.Table.{word_first}
-use Rattle.asking.proofs.NumberLaws.{stands_by, stands-within}
+use Rattle.asking.proofs.NumberLaws.{stands_by}
 
--- ---- the loop of `word_stands`: i bytes of the word stand there
-pub record Matching (line word : List ℕ) (at i : ℕ) : Type 0 where
-  pub within : i ≤ length word
-  pub place : at + i ≤ max at (length line)
-  pub same : word_first word (drop at line) ≡ word_first (drop i word) (drop (at + i) line)
+-- ---- a word at the front of what is left
+same_tests : (a b : ℕ) → eqb a b ≡ eqb b a
+same_tests a b = by (eqb a b) refl
+  where
+    by : (t : Bool) → eqb a b ≡ t → t ≡ eqb b a
+    by true p = sym (eq-eqb b a (sym (eqb-true a b p)))
+    by false p = sym (ne_eqb b a (λ e. eqb-false a b p (sym e)))
 
-pub matching-start : (line word : List ℕ) (at : ℕ) → Matching line word at 0
-matching-start line word at =
-    let e : at + 0 ≡ at = omega arith in
-    record { within = omega arith; place = omega arith; same = rw e }
+first-begins : (word l : List ℕ) → starts_with eqb l word ≡ word_first word l
+unfolding word_first
+first-begins [] l = refl
+first-begins (b ∷ w) [] = refl
+first-begins (b ∷ w) (c ∷ l) = rw (same_tests b c, first-begins w l)
 
-module _ (line word : List ℕ) (at i : ℕ) (s : Matching line word at i) where
-  module _ (h : i < length word) where
-    pub matching-other : first_is (is_byte (get_or word i 0)) (drop (at + i) line) ≡ false → false ≡ word_first word (drop at line)
-    unfolding word_first
-    matching-other e = sym (s.same ∙ rw (drop-cons word i 0 h, e))
-
-    pub matching-turn : first_is (is_byte (get_or word i 0)) (drop (at + i) line) ≡ true → Matching line word at (i + 1)
-    unfolding word_first
-    matching-turn e =
-        let p : at + i + 1 ≡ at + (i + 1) = omega arith in
-        record {
-          within = omega arith;
-          place = omega (arith, stands-within line (at + i) (get_or word i 0) e);
-          same = s.same ∙ rw (drop-cons word i 0 h, e, drop-drop 1 (at + i) line, p, add-one);
-        }
-
-  pub matching-done : length word ≤ i → true ≡ word_first word (drop at line)
-  unfolding word_first
-  matching-done h = sym (s.same ∙ rw (drop_of_length-le word {i = i} h))
+pub begins-first : (word line : List ℕ) (at m : ℕ) → m ≡ min at (length line)
+    → starts_with eqb (take (length line - m) (drop m line)) word ≡ word_first word (drop at line)
+begins-first word line at m e =
+    let all : take (length line - m) (drop m line) ≡ drop m line = take_all (length line - m) (drop m line) (omega (arith, length-drop m line)) in
+    let left : drop m line ≡ drop at line = by (leb at (length line)) refl in
+    ap (λ z. starts_with eqb z word) (all ∙ left) ∙ first-begins word (drop at line)
+  where
+    by : (t : Bool) → leb at (length line) ≡ t → drop m line ≡ drop at line
+    by true p = let n : m ≡ at = omega (arith, leb-true at (length line) p) in ap (λ z. drop z line) n
+    by false p =
+        let h = leb-false at (length line) p in
+        drop_of_length-le line {i = m} (omega arith) ∙ sym (drop_of_length-le line {i = at} (omega arith))
 
 -- ---- a word that stands there is within the line
 pub word-length : (word l : List ℕ) → word_first word l ≡ true → length word ≤ length l

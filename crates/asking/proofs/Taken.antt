@@ -1,51 +1,39 @@
 -- A line taken apart: where its first word ends.
 -- Assumes nothing.
+use Rattle.std.specs.List.{position_or_len}
+use Rattle.std.specs.Prelude.{None, Option}
+use Rattle.asking.specs.Numbers.{some_word}
+use Rattle.std.specs.Prelude.{Some, None}
 use Prim.Native.Nat.{ℕ, zero, suc, ◌+◌, ◌-◌, ◌≤◌, ◌<◌}
 use mathlib.Core.Path.{◌≡◌, refl, sym, ap, ◌∙◌}
 use mathlib.Core.List.{List, [], ◌∷◌}
 use mathlib.Core.Bool.{Bool, true, false, cond, not, ◌&&◌, and-eq-true_iff}
 use native.Mathlib.Omega.{arith}
-use native.Mathlib.Numerals.{add-one}
 use lib.ListN.{length, take, drop, set, get_or, length-drop, drop_of_length-le}
 use lib.Seq.{drop-cons, drop-drop}
-use lib.Dec.{eqb, ltb, leb}
-use lib.IntN.{ℤ, pos, nat_abs}
+use lib.Dec.{eqb, ltb}
+use lib.IntN.{ℤ, pos}
 use borrow.Author.Tests.{lt-ltb, le-ltb, ltb-true, eq-eqb, ne_eqb, eqb-true, not-true}
-use Rattle.numbers.specs.Sign.{is_neg}
 use Rattle.asking.specs.declared.values.Word.{Word}
-use Rattle.asking.specs.declared.values.Word.TheVariants.{Number, Nothing}
 use Rattle.asking.specs.declared.words.Value.{Value}
-use Rattle.asking.specs.declared.words.Rest.TheVariants as rest
 use Rattle.asking.specs.Numbers.{signed_at, number_at}
 use Rattle.asking.specs.ShardWords.{shards_at}
 use Rattle.laws.specs.Spelt.{spelt}
 use Rattle.asking.specs.Table.{word_of, is_plain, word_first, is_over, row_count, row_named, kind_of}
-use Rattle.asking.specs.Asked.{value, is_position, is_unstated, is_marked, value_at, is_room, is_in_range, allowed, word_at, is_last, rest_at}
+use Rattle.asking.specs.Asked.{value, is_position, is_unstated, is_marked, value_at, allowed, word_at, is_last, rest_at}
 use Rattle.asking.specs.Asked.{unknown, no_values, ended_at, word_then, words_from, asked_of}
 use Rattle.asking.proofs.Standing.{word-front}
 
--- ---- the loop of `word_end`: no space stands before i
-pub record Ending (line : List ℕ) (i : ℕ) : Type 0 where
-  pub within : i ≤ length line
-  pub same : length (word_of line) ≡ i + length (word_of (drop i line))
-
-pub ending-start : (line : List ℕ) → Ending line 0
-ending-start line = record { within = omega arith; same = omega arith }
-
-module _ (line : List ℕ) (i : ℕ) (s : Ending line i) where
-  pub ending-found : i < length line → get_or line i 0 ≡ 32 → i ≡ length (word_of line)
-  unfolding word_of
-  ending-found h e = let n : length (word_of (drop i line)) ≡ 0 = rw (drop-cons line i 0 h, eq-eqb (get_or line i 0) 32 e) in omega (arith, s.same)
-
-  pub ending-turn : i < length line → (get_or line i 0 ≡ 32 → ⊥) → Ending line (i + 1)
-  unfolding word_of
-  ending-turn h e =
-      let n : length (word_of (drop i line)) ≡ suc (length (word_of (drop (suc i) line))) = rw (drop-cons line i 0 h, ne_eqb (get_or line i 0) 32 e) in
-      record { within = omega arith; same = rw add-one (omega (arith, s.same, n)) }
-
-  pub ending-none : length line ≤ i → i ≡ length (word_of line)
-  unfolding word_of
-  ending-none h = let n : length (word_of (drop i line)) ≡ 0 = rw (drop_of_length-le line {i = i} h) in omega (arith, s.same)
+-- ---- where the first word ends
+pub first-space : (line : List ℕ) → position_or_len (λ b. eqb b 32) line ≡ length (word_of line)
+unfolding word_of
+first-space [] = refl
+first-space (b ∷ l) = by (eqb b 32) (first-space l)
+  where
+    by : (t : Bool) → position_or_len (λ c. eqb c 32) l ≡ length (word_of l)
+        → cond (not t) (1 + position_or_len (λ c. eqb c 32) l) 0 ≡ length (cond t [] (b ∷ word_of l))
+    by true e = refl
+    by false e = omega arith
 
 -- ---- the word is the line's first bytes, and has no space
 word-within-by : (b : ℕ) (l : List ℕ) (t : Bool) → length (word_of l) ≤ length l → length (cond t [] (b ∷ word_of l)) ≤ suc (length l)
@@ -75,25 +63,6 @@ pub word-plain : (line : List ℕ) → is_plain (word_of line) ≡ true
 unfolding word_of is_plain
 word-plain [] = refl
 word-plain (b ∷ l) = word-plain-by b l (eqb b 32) refl (word-plain l)
-
--- ---- a word by its letter
-module _ (kind : ℕ) (z : ℤ) where
-  pub allowed-place : kind ≡ 112 → not (is_neg z) ≡ is_in_range kind z
-  unfolding is_in_range
-  allowed-place e = rw (eq-eqb kind 112 e)
-
-  pub allowed-room : (kind ≡ 112 → ⊥) → kind ≡ 109 → is_room 128 z ≡ is_in_range kind z
-  unfolding is_in_range
-  allowed-room e f = rw (ne_eqb kind 112 e, eq-eqb kind 109 f)
-
-  module _ (e : kind ≡ 112 → ⊥) (f : kind ≡ 109 → ⊥) where
-    pub allowed-wide : kind ≡ 119 → is_room 1024 z ≡ is_in_range kind z
-    unfolding is_in_range
-    allowed-wide g = rw (ne_eqb kind 112 e, ne_eqb kind 109 f, eq-eqb kind 119 g)
-
-    pub allowed-any : (kind ≡ 119 → ⊥) → true ≡ is_in_range kind z
-    unfolding is_in_range
-    allowed-any g = rw (ne_eqb kind 112 e, ne_eqb kind 109 f, ne_eqb kind 119 g)
 
 -- ---- two tests
 pub and-false : (t : Bool) → (t && false) ≡ false
@@ -170,7 +139,7 @@ module _ (kind : ℕ) (l : List ℕ) where
 
 -- ---- the number there
 module _ (kind at : ℕ) (l : List ℕ) where
-  pub value-unstated : is_unstated kind l ≡ true → value_at kind at l ≡ Number (pos 0) (at + 2)
+  pub value-unstated : is_unstated kind l ≡ true → value_at kind at l ≡ some_word (pos 0) (at + 2)
   unfolding value_at
   value-unstated e = rw e
 
@@ -200,42 +169,27 @@ shards-unmarked kind l e = rw e
 
 -- ---- where the rest begins
 module _ (kind : ℕ) (line : List ℕ) (at : ℕ) where
-  pub rest_ended : length line ≤ at → rest.At at ≡ rest_at kind at (drop at line)
+  pub rest_ended : length line ≤ at → Some at ≡ rest_at kind at (drop at line)
   unfolding rest_at
   rest_ended h = rw (drop_of_length-le line {i = at} h)
 
   module _ (h : at < length line) where
-    pub rest-own : kind ≡ 42 → rest.At at ≡ rest_at kind at (drop at line)
+    pub rest-own : kind ≡ 42 → Some at ≡ rest_at kind at (drop at line)
     unfolding rest_at
     rest-own e = rw (drop-cons line at 0 h, eq-eqb kind 42 e)
 
     module _ (e : kind ≡ 42 → ⊥) where
-      pub rest-none : (kind ≡ 116 → ⊥) → rest.Other ≡ rest_at kind at (drop at line)
+      pub rest-none : (kind ≡ 116 → ⊥) → None ≡ rest_at kind at (drop at line)
       unfolding rest_at
       rest-none f = rw (drop-cons line at 0 h, ne_eqb kind 42 e, ne_eqb kind 116 f)
 
-      pub rest-other : (get_or line at 0 ≡ 32 → ⊥) → rest.Other ≡ rest_at kind at (drop at line)
+      pub rest-other : (get_or line at 0 ≡ 32 → ⊥) → None ≡ rest_at kind at (drop at line)
       unfolding rest_at
       rest-other f = rw (drop-cons line at 0 h, ne_eqb kind 42 e, ne_eqb (get_or line at 0) 32 f, and-false (eqb kind 116))
 
-      pub rest-text : kind ≡ 116 → get_or line at 0 ≡ 32 → rest.At (at + 1) ≡ rest_at kind at (drop at line)
+      pub rest-text : kind ≡ 116 → get_or line at 0 ≡ 32 → Some (at + 1) ≡ rest_at kind at (drop at line)
       unfolding rest_at
       rest-text f g = rw (drop-cons line at 0 h, ne_eqb kind 42 e, eq-eqb kind 116 f, eq-eqb (get_or line at 0) 32 g)
-
--- ---- a letter that is a number's, and one of the first five
-module _ (k kind : ℕ) where
-  pub number_past : 5 ≤ k → false ≡ (ltb k 5 && not (is_last kind))
-  number_past h = rw (le-ltb k 5 h)
-
-  pub number-space : kind ≡ 32 → false ≡ (ltb k 5 && not (is_last kind))
-  number-space e = rw (eq-eqb kind 32 e) (sym (and-false (ltb k 5)))
-
-  module _ (e : kind ≡ 32 → ⊥) where
-    pub number-text : kind ≡ 116 → false ≡ (ltb k 5 && not (is_last kind))
-    number-text f = rw (ne_eqb kind 32 e, eq-eqb kind 116 f) (sym (and-false (ltb k 5)))
-
-    pub number-other : k < 5 → (kind ≡ 116 → ⊥) → not (eqb kind 42) ≡ (ltb k 5 && not (is_last kind))
-    number-other h f = rw (lt-ltb k 5 h, ne_eqb kind 32 e, ne_eqb kind 116 f)
 
 -- ---- the loop of `words`: what is wanted from here is what is wanted from the start
 pub record Going (row : ℕ) (line : List ℕ) (from : ℕ) (values : List Value) (at k : ℕ) : Type 0 where
@@ -262,12 +216,12 @@ module _ (row : ℕ) (line : List ℕ) (from : ℕ) (values : List Value) (at k 
         rw (not-true (is_last (kind_of row k)) ((and-eq-true_iff (ltb k 5) _).0 (sym e ∙ f)).1, m)
 
     -- by the word there
-    module _ (kind : ℕ) (i : kind ≡ kind_of row k) (w : Word) (j : w ≡ word_at kind line at) where
-      pub going-none : w ≡ Nothing → unknown ≡ words_from 5 row line from 0 no_values
+    module _ (kind : ℕ) (i : kind ≡ kind_of row k) (w : Option Word) (j : w ≡ word_at kind line at) where
+      pub going-none : w ≡ None → unknown ≡ words_from 5 row line from 0 no_values
       going-none g = sym (s.same ∙ more s.n s.left ∙ rw (← i, ← j, g))
 
       -- and by the letter that its mark was looked for with
-      pub going-turn : (z : ℤ) (next : ℕ) (b : Bool) (mark : ℕ) → w ≡ Number z next → b ≡ is_marked mark (drop at line) → mark ≡ kind
+      pub going-turn : (z : ℤ) (next : ℕ) (b : Bool) (mark : ℕ) → w ≡ some_word z next → b ≡ is_marked mark (drop at line) → mark ≡ kind
           → Going row line from (set values k (value z b)) next (k + 1)
       going-turn z next b mark g h m = record {
         n = s.n - 1;
@@ -287,28 +241,13 @@ module _ (row : ℕ) (line : List ℕ) (from : ℕ) (values : List Value) (at k 
           let y : ◌≡◌ {A = Bool} false true = sym (sym e ∙ f) ∙ rw (lt-ltb k 5 (omega arith), g) in
           absurd (let z : ◌≡◌ {A = ℕ} 0 1 = cc in omega arith)
 
--- ---- a room
-module _ (most : ℕ) (z : ℤ) where
-  pub room-below : is_neg z ≡ true → false ≡ is_room most z
-  room-below e = rw e
-
-  pub room-not : (m : ℕ) → is_neg z ≡ false → m ≡ nat_abs z → leb m most ≡ is_room most z
-  room-not m e f = rw (e, f)
-
--- ---- a number where its letter allows it
-pub allowed-yes : (kind : ℕ) (z : ℤ) (next : ℕ) → is_in_range kind z ≡ true → allowed kind (Number z next) ≡ Number z next
-allowed-yes kind z next e = rw e
-
-pub allowed-no : (kind : ℕ) (z : ℤ) (next : ℕ) → is_in_range kind z ≡ false → allowed kind (Number z next) ≡ Nothing
-allowed-no kind z next e = rw e
-
 -- ---- the whole line
 module _ (line : List ℕ) where
   -- the part that `word_end` cuts off is the word
-  pub word-part : (n : ℕ) → n ≡ length (word_of line) → take (n - 0) line ≡ word_of line
-  word-part n e = let f : n - 0 ≡ length (word_of line) = omega arith in ap (λ k. take k line) f ∙ word_first_lem line
+  pub word-part : (n : ℕ) → n ≡ length (word_of line) → take n line ≡ word_of line
+  word-part n e = ap (λ k. take k line) e ∙ word_first_lem line
 
-  pub part-plain : (n : ℕ) → n ≡ length (word_of line) → is_plain (take (n - 0) line) ≡ true
+  pub part-plain : (n : ℕ) → n ≡ length (word_of line) → is_plain (take n line) ≡ true
   part-plain n e = rw (word-part n e) (word-plain line)
 
   pub asked-known : (row : ℕ) → row ≡ row_named (word_of line) → row < row_count → words_from 5 row line (length (word_of line)) 0 no_values ≡ asked_of line

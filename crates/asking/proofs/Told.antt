@@ -1,5 +1,9 @@
 -- What is understood is a line of the grammar: its word is a row's, and what stands behind it is by the row's letters.
 -- Assumes nothing.
+use Rattle.asking.proofs.Same.{number-value, number-next}
+use Rattle.std.specs.Prelude.{None, Option, Some}
+use Rattle.asking.specs.Numbers.{some_word}
+use Rattle.std.specs.Prelude.{Some, None}
 use Prim.Native.Nat.{ℕ, zero, suc, ◌+◌, ◌-◌, ◌≤◌, ◌<◌}
 use mathlib.Core.Path.{◌≡◌, refl, sym, ap, subst, ◌∙◌}
 use mathlib.Core.List.{List, [], ◌∷◌, ◌++◌}
@@ -11,10 +15,8 @@ use lib.ListN.{length, drop, set, get_or, length-append, length-drop, take-appen
 use lib.Seq.{drop-drop}
 use borrow.Author.Tests.{eqb-true, eqb-false, ltb-true, not-true}
 use Rattle.asking.specs.declared.values.Word.{Word}
-use Rattle.asking.specs.declared.values.Word.TheVariants.{Number, Nothing}
 use Rattle.asking.specs.declared.words.Value.{Value}
 use Rattle.asking.specs.declared.words.Asked.{Asked}
-use Rattle.asking.specs.declared.words.Rest.TheVariants as rest
 use Rattle.asking.specs.Numbers.{signed_at, number_at}
 use Rattle.asking.specs.ShardWords.{shards_at}
 use Rattle.asking.specs.Table.{Row, row, rows, row_count, row_at, word_of, same, row_from, row_named, kind_of}
@@ -69,8 +71,8 @@ module _ (n : ℕ) (line : List ℕ) where
   }
   text-told at k values (b ∷ u) q w h = by (eqb b 32) refl h
     where
-      by : (x : Bool) → eqb b 32 ≡ x → (asked_rest n values (cond x (rest.At (at + 1)) rest.Other)).row < row_count
-          → Told n at (116 ∷ []) (b ∷ u) line k values (asked_rest n values (cond x (rest.At (at + 1)) rest.Other))
+      by : (x : Bool) → eqb b 32 ≡ x → (asked_rest n values (cond x (Some (at + 1)) None)).row < row_count
+          → Told n at (116 ∷ []) (b ∷ u) line k values (asked_rest n values (cond x (Some (at + 1)) None))
       by true e g = record {
         vs = [];
         r = u;
@@ -174,7 +176,7 @@ module _ (n : ℕ) (line : List ℕ) where
               begins = more.begins;
             }
 
-        plain : (z : ℤ) (next : ℕ) → is_shards x ≡ false → mark ≡ false → number_at at (drop at line) ≡ Number z next → is_in_range x z ≡ true → (then z next).row < row_count
+        plain : (z : ℤ) (next : ℕ) → is_shards x ≡ false → mark ≡ false → number_at at (drop at line) ≡ some_word z next → is_in_range x z ≡ true → (then z next).row < row_count
             → Told n at (x ∷ l) (drop at line) line k values (then z next)
         plain z next s f q g u =
             let t = number-told at (drop at line) z next q in
@@ -185,7 +187,7 @@ module _ (n : ℕ) (line : List ℕ) where
             (λ vs r b. subst (λ y. Behind at (x ∷ l) y (value z false ∷ vs) r) (sym t.is) (number i s t.numeral g t.stops b))
             u
 
-        marks : (z : ℤ) (next : ℕ) → mark ≡ true → is_position x (drop at line) ≡ true → signed_at (at + 2) (drop 2 (drop at line)) ≡ Number z next
+        marks : (z : ℤ) (next : ℕ) → mark ≡ true → is_position x (drop at line) ≡ true → signed_at (at + 2) (drop 2 (drop at line)) ≡ some_word z next
             → (then z next).row < row_count → Told n at (x ∷ l) (drop at line) line k values (then z next)
         marks z next f g q u =
             let m = position-told x (drop at line) g in
@@ -200,13 +202,13 @@ module _ (n : ℕ) (line : List ℕ) where
             (subst (λ y. Behind at (64 ∷ l) y (value z true ∷ vs) r) (sym is) (marked t.numeral t.stops b)))
             u
 
-        unstates : (z : ℤ) (next : ℕ) → is_unstated x (drop at line) ≡ true → Number (pos 0) (at + 2) ≡ Number z next
+        unstates : (z : ℤ) (next : ℕ) → is_unstated x (drop at line) ≡ true → some_word (pos 0) (at + 2) ≡ some_word z next
             → (then z next).row < row_count → Told n at (x ∷ l) (drop at line) line k values (then z next)
         unstates z next f q u =
             let m = unstated-told x (drop at line) f in
             let is : drop at line ≡ 32 ∷ 45 ∷ drop 2 (drop at line) = m.1.0 in
-            let none : pos 0 ≡ z = cc in
-            let past : at + 2 ≡ next = cc in
+            let none : pos 0 ≡ z = number-value q in
+            let past : at + 2 ≡ next = number-next q in
             one z next true (drop 2 (drop at line)) (at + 2) (sym (marked-unstated x (drop at line) f))
             (ap (λ y. drop y line) (sym past) ∙ sym (drop-drop 2 at line))
             (omega (arith, past, ap length is, length-drop at line)) (sym past)
@@ -215,7 +217,7 @@ module _ (n : ℕ) (line : List ℕ) where
             (subst (λ y. Behind at (102 ∷ l) y (value (pos 0) true ∷ vs) r) (sym is) (unstated m.1.1 b))))
             u
 
-        places : (z : ℤ) (next : ℕ) → x ≡ 115 → shards_at line at ≡ Number z next → (then z next).row < row_count
+        places : (z : ℤ) (next : ℕ) → x ≡ 115 → shards_at line at ≡ some_word z next → (then z next).row < row_count
             → Told n at (x ∷ l) (drop at line) line k values (then z next)
         places z next s q u =
             let t = shards-told line at z next q in
@@ -228,26 +230,26 @@ module _ (n : ℕ) (line : List ℕ) where
             (subst (λ y. Behind at (115 ∷ l) y (value (pos (at + 1)) false ∷ vs) r) (sym t.is) (shards t.text t.over b))))
             u
 
-        placed : x ≡ 115 → (y : Word) → shards_at line at ≡ y → (word_then y then).row < row_count
+        placed : x ≡ 115 → (y : Option Word) → shards_at line at ≡ y → (word_then y then).row < row_count
             → Told n at (x ∷ l) (drop at line) line k values (word_then y then)
-        placed s Nothing q u = absurd (past unknown refl u)
-        placed s (Number z next) q u = places z next s q u
+        placed s None q u = absurd (past unknown refl u)
+        placed s (Some w) q u = places w.number w.next s q u
 
-        by : is_shards x ≡ false → (y : Word) → value_at x at (drop at line) ≡ y → (word_then (allowed x y) then).row < row_count
+        by : is_shards x ≡ false → (y : Option Word) → value_at x at (drop at line) ≡ y → (word_then (allowed x y) then).row < row_count
             → Told n at (x ∷ l) (drop at line) line k values (word_then (allowed x y) then)
-        by s Nothing q u = absurd (past unknown refl u)
-        by s (Number z next) q u = ranged (is_in_range x z) refl u
+        by s None q u = absurd (past unknown refl u)
+        by s (Some w) q u = ranged (is_in_range x w.number) refl u
           where
-            number : (a : Bool) → is_unstated x (drop at line) ≡ a → (b : Bool) → is_position x (drop at line) ≡ b → is_in_range x z ≡ true
-                → (then z next).row < row_count → Told n at (x ∷ l) (drop at line) line k values (then z next)
-            number true e b f g u = unstates z next e (sym (value-unstated x at (drop at line) e) ∙ q) u
+            number : (a : Bool) → is_unstated x (drop at line) ≡ a → (b : Bool) → is_position x (drop at line) ≡ b → is_in_range x w.number ≡ true
+                → (then w.number w.next).row < row_count → Told n at (x ∷ l) (drop at line) line k values (then w.number w.next)
+            number true e b f g u = unstates w.number w.next e (sym (value-unstated x at (drop at line) e) ∙ q) u
             number false e true f g u =
-                marks z next (sym (marked-stated x (drop at line) e) ∙ f) f (sym (value-marked x at (drop at line) e f) ∙ q) u
+                marks w.number w.next (sym (marked-stated x (drop at line) e) ∙ f) f (sym (value-marked x at (drop at line) e f) ∙ q) u
             number false e false f g u =
-                plain z next s (sym (marked-stated x (drop at line) e) ∙ f) (sym (value-plain x at (drop at line) e f) ∙ q) g u
+                plain w.number w.next s (sym (marked-stated x (drop at line) e) ∙ f) (sym (value-plain x at (drop at line) e f) ∙ q) g u
 
-            ranged : (b : Bool) → is_in_range x z ≡ b → (word_then (cond b (Number z next) Nothing) then).row < row_count
-                → Told n at (x ∷ l) (drop at line) line k values (word_then (cond b (Number z next) Nothing) then)
+            ranged : (b : Bool) → is_in_range x w.number ≡ b → (word_then (cond b (some_word w.number w.next) None) then).row < row_count
+                → Told n at (x ∷ l) (drop at line) line k values (word_then (cond b (some_word w.number w.next) None) then)
             ranged true g u = number (is_unstated x (drop at line)) refl (is_position x (drop at line)) refl g u
             ranged false g u = absurd (past unknown refl u)
 

@@ -1,6 +1,8 @@
 -- A line of the grammar is understood as it is made, and what is understood is made so: word by word.
 -- Assumes nothing.
-use Prim.Native.Nat.{ℕ, zero, suc, ◌+◌, ◌-◌, ◌≤◌, ◌<◌}
+use Rattle.asking.specs.Numbers.{some_word}
+use Rattle.std.specs.Prelude.{Some}
+use Prim.Native.Nat.{ℕ, zero, suc, ◌+◌, ◌≤◌, ◌<◌}
 use mathlib.Core.Path.{◌≡◌, refl, sym, ap, ◌∙◌}
 use mathlib.Core.List.{List, [], ◌∷◌, ◌++◌}
 use mathlib.Core.Bool.{Bool, true, false, cond, not, ◌&&◌, and-eq-true_iff}
@@ -11,9 +13,7 @@ use lib.ListN.{length, drop, set, get_or, length-append, length-drop}
 use lib.Seq.{drop-drop, drop-append_seam}
 use borrow.Author.Tests.{eqb-true, eqb-false, lt-ltb, leb-true, not-true}
 use Rattle.laws.specs.Every.{at_every}
-use Rattle.asking.specs.declared.values.Word.TheVariants.{Number}
 use Rattle.asking.specs.declared.words.Value.{Value}
-use Rattle.asking.specs.declared.words.Rest.TheVariants as rest
 use Rattle.asking.specs.Table.{Row, row, rows, row_count, row_at, word_of, is_plain, same, is_over, row_from, row_named, kind_of}
 use Rattle.asking.specs.Asked.{value, is_marked, value_at, is_in_range, is_shards, word_at, is_last, rest_at}
 use Rattle.asking.specs.Asked.{asked, no_values, ended_at, word_then, words_from, asked_of}
@@ -59,7 +59,7 @@ module _ (n : ℕ) (line : List ℕ) (at k : ℕ) (values : List Value) where
   unfolding words_from
   words-number m e = rw e
 
-  ended_is : (kind : ℕ) (t : List ℕ) (begins : ℕ) → kind_of n k ≡ kind → drop at line ≡ t → rest_at kind at t ≡ rest.At begins
+  ended_is : (kind : ℕ) (t : List ℕ) (begins : ℕ) → kind_of n k ≡ kind → drop at line ≡ t → rest_at kind at t ≡ Some begins
       → ended_at n line at k values ≡ asked n values begins
   unfolding ended_at
   ended_is kind t begins p q e = rw (p, q, e)
@@ -67,7 +67,7 @@ module _ (n : ℕ) (line : List ℕ) (at k : ℕ) (values : List Value) where
 -- ---- what the grammar has behind a word is understood so
 module _ (n : ℕ) (line : List ℕ) where
   last-is : (m at k begins kind : ℕ) (values : List Value) (t : List ℕ) → is_last kind ≡ true → kind_of n k ≡ kind → drop at line ≡ t
-      → rest_at kind at t ≡ rest.At begins → words_from m n line at k values ≡ asked n values begins
+      → rest_at kind at t ≡ Some begins → words_from m n line at k values ≡ asked n values begins
   last-is m at k begins kind values t i p q e =
       words_last n line at k values m (ap is_last p ∙ i) ∙ ended_is n line at k values kind t begins p q e
 
@@ -78,13 +78,13 @@ module _ (n : ℕ) (line : List ℕ) where
 
   -- a number by its letter
   number_word : (at kind : ℕ) (t : List ℕ) (z : ℤ) (next : ℕ) → is_shards kind ≡ false → is_in_range kind z ≡ true → drop at line ≡ t
-      → value_at kind at t ≡ Number z next → word_at kind line at ≡ Number z next
+      → value_at kind at t ≡ some_word z next → word_at kind line at ≡ some_word z next
   unfolding word_at
   number_word at kind t z next s g q h = rw (s, q, h, g)
 
   -- what stands there, with its mark, is put into its place
   one-is : (m at k kind : ℕ) (values : List Value) (t : List ℕ) (b : Bool) (z : ℤ) (next : ℕ) → kind_of n k ≡ kind → is_last kind ≡ false
-      → drop at line ≡ t → is_marked kind t ≡ b → word_at kind line at ≡ Number z next
+      → drop at line ≡ t → is_marked kind t ≡ b → word_at kind line at ≡ some_word z next
       → words_from (suc m) n line at k values ≡ words_from m n line next (k + 1) (set values k (value z b))
   one-is m at k kind values t b z next p e q f h = words-number n line at k values m (ap is_last p ∙ e) ∙ rw (p, q, f, h)
 
@@ -95,20 +95,20 @@ module _ (n : ℕ) (line : List ℕ) where
   unfolding rest_at placed_from numbers is_in_range
   behind-is (ended {at}) m k begins values p q w c b =
       let e : at ≡ begins = omega (arith, place_is at begins [] [] q w b) in
-      last-is m at k begins 32 values [] refl (letter-none (row_at n).letters k p) q (ap rest.At e)
+      last-is m at k begins 32 values [] refl (letter-none (row_at n).letters k p) q (ap Some e)
   behind-is (no_text {at}) m k begins values p q w c b =
       let e : at ≡ begins = omega (arith, place_is at begins [] [] q w b) in
-      last-is m at k begins 116 values [] refl (letter-here (row_at n).letters k 116 [] p) q (ap rest.At e)
+      last-is m at k begins 116 values [] refl (letter-here (row_at n).letters k 116 [] p) q (ap Some e)
   behind-is (text {at} {t}) m k begins values p q w c b =
       let e : at + 1 ≡ begins = omega (arith, place_is at begins (32 ∷ t) t q w b) in
-      last-is m at k begins 116 values (32 ∷ t) refl (letter-here (row_at n).letters k 116 [] p) q (ap rest.At e)
+      last-is m at k begins 116 values (32 ∷ t) refl (letter-here (row_at n).letters k 116 [] p) q (ap Some e)
   behind-is (own {at} {t}) m k begins values p q w c b =
       let e : at ≡ begins = omega (arith, place_is at begins t t q w b) in
       last-is m at k begins 42 values t refl (letter-here (row_at n).letters k 42 [] p) q (own_is at begins t e)
     where
-      own_is : (at begins : ℕ) (t : List ℕ) → at ≡ begins → rest_at 42 at t ≡ rest.At begins
-      own_is at begins [] e = ap rest.At e
-      own_is at begins (x ∷ t) e = ap rest.At e
+      own_is : (at begins : ℕ) (t : List ℕ) → at ≡ begins → rest_at 42 at t ≡ Some begins
+      own_is at begins [] e = ap Some e
+      own_is at begins (x ∷ t) e = ap Some e
   behind-is (number {at} {kind} {letters} {d} {l} {z} {vs} {r} e s f g h i) zero k begins values p q w c b = absurd (omega (arith, rw e at c))
   behind-is (number {at} {kind} {letters} {d} {l} {z} {vs} {r} e s f g h i) (suc m) k begins values p q w c b =
       let long : length (drop at line) ≡ suc (length d + length l) = ap length q ∙ ap suc (length-append d l) in

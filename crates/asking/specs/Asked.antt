@@ -1,13 +1,12 @@
 -- What a line asks (docs/ASK.md): its command, the numbers behind the command's word and their marks, and where the rest begins.
 -- Assumes nothing.
-use Rattle.std.specs.Prelude.{ℕ, zero, suc, ◌+◌, List, [], ◌∷◌, Bool, true, false, cond, not, ◌&&◌, ◌||◌, eqb, ltb, leb, ℤ, pos, nat_abs, length, drop, set}
+use Rattle.std.specs.Prelude.{None, Option, Some}
+use Rattle.asking.specs.Numbers.{some_word}
+use Rattle.std.specs.Prelude.{ℕ, zero, suc, ◌+◌, List, [], ◌∷◌, Bool, true, false, cond, not, ◌&&◌, ◌||◌, eqb, ltb, leb, ℤ, pos, nat_abs, length, drop, set, Option, Some, None}
 use Rattle.numbers.specs.Sign.{is_neg}
 use Rattle.asking.specs.declared.values.Word.{Word}
-use Rattle.asking.specs.declared.values.Word.TheVariants.{Number, Nothing}
 use Rattle.asking.specs.declared.words.Value.{Value}
 use Rattle.asking.specs.declared.words.Asked.{Asked}
-use Rattle.asking.specs.declared.words.Rest.{Rest}
-use Rattle.asking.specs.declared.words.Rest.TheVariants as rest
 use Rattle.asking.specs.Numbers.{signed_at, number_at}
 use Rattle.asking.specs.ShardWords.{shards_at}
 use Rattle.laws.specs.Spelt.{spelt}
@@ -32,9 +31,9 @@ is_marked kind l = is_unstated kind l || is_position kind l
 
 -- the number in front, from the place `at` on: behind one space, and behind its mark where it has one; 0 for a film format that is not
 -- stated
-unfoldable pub value_at : (kind at : ℕ) → List ℕ → Word
+unfoldable pub value_at : (kind at : ℕ) → List ℕ → Option Word
 value_at kind at l =
-    cond (is_unstated kind l) (Number (pos 0) (at + 2))
+    cond (is_unstated kind l) (some_word (pos 0) (at + 2))
     (cond (is_position kind l) (signed_at (at + 2) (drop 2 l))
     (number_at at l))
 
@@ -51,9 +50,9 @@ is_in_range kind z =
     (cond (eqb kind 119) (is_room 1024 z)
     true))
 
-abbrev pub allowed : (kind : ℕ) → Word → Word
-allowed kind (Number z next) = cond (is_in_range kind z) (Number z next) Nothing
-allowed kind Nothing = Nothing
+abbrev pub allowed : (kind : ℕ) → Option Word → Option Word
+allowed kind (Some w) = cond (is_in_range kind w.number) (Some w) None
+allowed kind None = None
 
 -- `s`, a word of shards
 abbrev pub is_shards : (kind : ℕ) → Bool
@@ -61,7 +60,7 @@ is_shards kind = eqb kind 115
 
 -- what stands at a place of the line where a row has this letter, and the place past it: shards by the place where they begin, else a
 -- number that is allowed
-unfoldable pub word_at : (kind : ℕ) (line : List ℕ) (at : ℕ) → Word
+unfoldable pub word_at : (kind : ℕ) (line : List ℕ) (at : ℕ) → Option Word
 word_at kind line at = cond (is_shards kind) (shards_at line at) (allowed kind (value_at kind at (drop at line)))
 
 -- a letter that is no word's: none, a text, a rest
@@ -69,9 +68,9 @@ abbrev pub is_last : (kind : ℕ) → Bool
 is_last kind = eqb kind 32 || (eqb kind 116 || eqb kind 42)
 
 -- where the rest begins, by the last letter: for `*` right here; else at the line's end; a text behind one space
-unfoldable pub rest_at : (kind at : ℕ) → List ℕ → Rest
-rest_at kind at [] = rest.At at
-rest_at kind at (b ∷ l) = cond (eqb kind 42) (rest.At at) (cond (eqb kind 116 && eqb b 32) (rest.At (at + 1)) rest.Other)
+unfoldable pub rest_at : (kind at : ℕ) → List ℕ → Option ℕ
+rest_at kind at [] = Some at
+rest_at kind at (b ∷ l) = cond (eqb kind 42) (Some at) (cond (eqb kind 116 && eqb b 32) (Some (at + 1)) None)
 
 -- ---- what is asked
 abbrev pub asked : ℕ → List Value → ℕ → Asked
@@ -88,16 +87,16 @@ no_values = no_value ∷ no_value ∷ no_value ∷ no_value ∷ no_value ∷ []
 abbrev pub unknown : Asked
 unknown = asked row_count no_values 0
 
-abbrev pub asked_rest : ℕ → List Value → Rest → Asked
-asked_rest n values (rest.At begins) = asked n values begins
-asked_rest n values rest.Other = unknown
+abbrev pub asked_rest : ℕ → List Value → Option ℕ → Asked
+asked_rest n values (Some begins) = asked n values begins
+asked_rest n values None = unknown
 
 unfoldable pub ended_at : (row : ℕ) (line : List ℕ) (at k : ℕ) → List Value → Asked
 ended_at n line at k values = asked_rest n values (rest_at (kind_of n k) at (drop at line))
 
-abbrev pub word_then : Word → (ℤ → ℕ → Asked) → Asked
-word_then (Number z next) then = then z next
-word_then Nothing then = unknown
+abbrev pub word_then : Option Word → (ℤ → ℕ → Asked) → Asked
+word_then (Some w) then = then w.number w.next
+word_then None then = unknown
 
 -- the words from the k-th on, which begin at a place of the line: m numbers at most, and the rest
 unfoldable pub words_from : (m row : ℕ) (line : List ℕ) (at k : ℕ) → List Value → Asked

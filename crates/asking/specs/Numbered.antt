@@ -1,9 +1,9 @@
 -- A command's numbers as the operations take them (docs/ASK.md), and numbers listed to the end of a line.
 -- Assumes nothing.
+use Rattle.std.specs.Prelude.{None, Option, Some}
 use Rattle.std.specs.Prelude.{ℕ, zero, suc, ◌+◌, List, leb, ℤ, length, drop, set, get_or}
 use Rattle.numbers.specs.Sign.{up_from}
 use Rattle.asking.specs.declared.values.Word.{Word}
-use Rattle.asking.specs.declared.values.Word.TheVariants.{Number, Nothing}
 use Rattle.asking.specs.declared.words.Value.{Value}
 use Rattle.asking.specs.declared.numbered.Numbers.{Numbers}
 use Rattle.asking.specs.declared.numbered.Listed.{Listed}
@@ -35,9 +35,9 @@ pub record Listing (A : Type 0) : Type 0 where
 abbrev pub listing : (line : List ℕ) (at n : ℕ) (list : List ℕ) → Listing ℕ
 listing line at n list = record { list = list; listed = record { all = leb (length line) at; count = n } }
 
-abbrev pub list_then : {A : Type 0} → Word → (ℤ → ℕ → Listing A) → Listing A → Listing A
-list_then (Number z next) then none = then z next
-list_then Nothing then none = none
+abbrev pub list_then : {A : Type 0} → Option Word → (ℤ → ℕ → Listing A) → Listing A → Listing A
+list_then (Some w) then none = then w.number w.next
+list_then None then none = none
 
 -- m more numbers at most, from the n-th on
 unfoldable pub list_from : (m : ℕ) (line : List ℕ) (at n : ℕ) (list : List ℕ) → Listing ℕ

@@ -1,8 +1,9 @@
 -- The records of a shot list in words to the end of a line (docs/ASK.md), listed each as its kind and its numbers.
 -- Assumes nothing.
+use Rattle.std.specs.Prelude.{None, Option}
+use Rattle.asking.specs.Numbers.{some_word}
 use Rattle.std.specs.Prelude.{ℕ, zero, suc, ◌+◌, List, Bool, cond, ◌&&◌, eqb, leb, ℤ, pos, nat_abs, length, drop, set}
 use Rattle.asking.specs.declared.values.Word.{Word}
-use Rattle.asking.specs.declared.values.Word.TheVariants.{Number, Nothing}
 use Rattle.asking.specs.Numbers.{number_at}
 use Rattle.laws.specs.Spelt.{spelt}
 use Rattle.asking.specs.Table.{word_first}
@@ -10,15 +11,15 @@ use Rattle.asking.specs.Numbered.{Listing, list_then}
 
 -- ---- in a line: l is what is left of it from the place `at` on
 -- the kind of a record by its word, behind one space: a rate is 1, a shot 2, a reel 3; and the place past the word
-unfoldable pub kind_at : (at : ℕ) → List ℕ → Word
+unfoldable pub kind_at : (at : ℕ) → List ℕ → Option Word
 kind_at at l =
-    cond (word_first (spelt " rate") l) (Number (pos 1) (at + 5))
-    (cond (word_first (spelt " shot") l) (Number (pos 2) (at + 5))
-    (cond (word_first (spelt " reel") l) (Number (pos 3) (at + 5))
-    Nothing))
+    cond (word_first (spelt " rate") l) (some_word (pos 1) (at + 5))
+    (cond (word_first (spelt " shot") l) (some_word (pos 2) (at + 5))
+    (cond (word_first (spelt " reel") l) (some_word (pos 3) (at + 5))
+    None))
 
 -- what is listed next: a number of a record where one is due, else the kind of the next record
-unfoldable pub next_at : (due at : ℕ) → List ℕ → Word
+unfoldable pub next_at : (due at : ℕ) → List ℕ → Option Word
 next_at zero at l = kind_at at l
 next_at (suc due) at l = number_at at l
 

@@ -3,7 +3,6 @@ ghost use Rattle.std.specs.Prelude.{◌≡◌, length};
 ghost use Rattle.asking.specs.Numbered.{numbers_of, list_from};
 
 use crate::values;
-use crate::values::Word;
 use crate::words::Value;
 
 // The five numbers by place: `n` as it is given, where its sign counts, `up` as one from 0 on; `at`, whether it is marked.
@@ -61,15 +60,11 @@ pub fn rates(line: &[u8], from: usize, list: &mut [u64]) -> Listed
     let mut at = from;
     let mut n = 0;
     while n < list.len() {
-        let w = values::number(line, at);
-        let Word::Number(z, next) = w else {
-            return Listed {
-                all: line.len() <= at,
-                count: n,
-            };
+        let Some(w) = values::number(line, at) else {
+            break;
         };
-        list[n] = numbers::up_from(z);
-        at = next;
+        list[n] = numbers::up_from(w.number);
+        at = w.next;
         n += 1;
     }
     Listed {

@@ -8,23 +8,32 @@ use crate::values;
 use crate::values::Word;
 
 // The kind of the record whose word stands at a place, behind one space, and the place past the word.
-fn kind_at(line: &[u8], at: usize) -> Word
+fn kind_at(line: &[u8], at: usize) -> Option<Word>
     ensures { result ≡ kind_at at (drop at line.now) }
 {
     if values::word_stands(line, at, b" rate") {
-        return Word::Number(1, at + 5);
+        return Some(Word {
+            number: 1,
+            next: at + 5,
+        });
     }
     if values::word_stands(line, at, b" shot") {
-        return Word::Number(2, at + 5);
+        return Some(Word {
+            number: 2,
+            next: at + 5,
+        });
     }
     if values::word_stands(line, at, b" reel") {
-        return Word::Number(3, at + 5);
+        return Some(Word {
+            number: 3,
+            next: at + 5,
+        });
     }
-    Word::Nothing
+    None
 }
 
 // What is listed next, and the place past it: a number of a record where one is due, else the kind of the next record.
-fn next_at(line: &[u8], at: usize, due: usize) -> Word
+fn next_at(line: &[u8], at: usize, due: usize) -> Option<Word>
     ensures { result ≡ next_at due at (drop at line.now) }
 {
     if due == 0 {
@@ -38,22 +47,19 @@ fn due_behind(due: usize, z: i64) -> usize
     ensures { result ≡ due_behind due z }
 {
     if due != 0 {
-        return due - 1;
+        due - 1
+    } else if z.unsigned_abs() == 2 {
+        2
+    } else {
+        1
     }
-    if numbers::magnitude(z) == 2 {
-        return 2;
-    }
-    1
 }
 
 // Has the line ended, and the last record with it?
 fn is_done(line: &[u8], at: usize, due: usize) -> bool
     ensures { result ≡ is_done line.now at due }
 {
-    if due != 0 {
-        return false;
-    }
-    line.len() <= at
+    due == 0 && line.len() <= at
 }
 
 // The records from a place to the end of the line, put into the list from its front on.
@@ -65,16 +71,12 @@ pub fn records(line: &[u8], from: usize, list: &mut [i64]) -> Listed
     let mut due = 0;
     let mut n = 0;
     while n < list.len() {
-        let w = next_at(line, at, due);
-        let Word::Number(z, next) = w else {
-            return Listed {
-                all: is_done(line, at, due),
-                count: n,
-            };
+        let Some(w) = next_at(line, at, due) else {
+            break;
         };
-        list[n] = z;
-        at = next;
-        due = due_behind(due, z);
+        list[n] = w.number;
+        at = w.next;
+        due = due_behind(due, w.number);
         n += 1;
     }
     Listed {

@@ -1,5 +1,5 @@
 // Shards in a line: `-` for none, else ranges joined by `,`, each two numbers with `-` between them.
-ghost use Rattle.std.specs.Prelude.{◌≡◌, ◌&&◌, leb, drop, set};
+ghost use Rattle.std.specs.Prelude.{◌≡◌, drop, set};
 ghost use Rattle.numbers.specs.Sign.{up_from};
 ghost use Rattle.asking.specs.ShardWords.{range_at, is_none, ranges_of, spelled_of, shards_at, shards_of};
 
@@ -7,11 +7,12 @@ use crate::numbered::Listed;
 use crate::values;
 use crate::values::Word;
 
-// The two numbers of a range, and the place past it; or none stands there.
+// The two numbers of a range, and the place past it.
 #[derive(Clone, Copy)]
-enum Range {
-    Of(i64, i64, usize),
-    Nothing,
+struct Range {
+    first: i64,
+    end: i64,
+    next: usize,
 }
 
 // Whether a word of shards stands there, how many ranges were read, and the place past them.
@@ -23,21 +24,19 @@ struct Ranged {
 }
 
 // The range at a place: a number, `-`, and a number.
-fn range_at(line: &[u8], at: usize) -> Range
+fn range_at(line: &[u8], at: usize) -> Option<Range>
     ensures { result ≡ range_at line.now at }
 {
-    let a = values::signed_at(line, at);
-    let Word::Number(first, between) = a else {
-        return Range::Nothing;
-    };
-    if !values::stands(line, between, b'-') {
-        return Range::Nothing;
+    let a = values::signed_at(line, at)?;
+    if !values::stands(line, a.next, b'-') {
+        return None;
     }
-    let b = values::signed_at(line, between + 1);
-    let Word::Number(end, next) = b else {
-        return Range::Nothing;
-    };
-    Range::Of(first, end, next)
+    let b = values::signed_at(line, a.next + 1)?;
+    Some(Range {
+        first: a.number,
+        end: b.number,
+        next: b.next,
+    })
 }
 
 // A number at a place of a list, as one from 0 on; where the list has no such place nothing changes.
@@ -58,25 +57,24 @@ fn ranges(line: &[u8], from: usize, firsts: &mut [u64], ends: &mut [u64]) -> Ran
     let mut at = from;
     let mut n = 0;
     loop {
-        let r = range_at(line, at);
-        let Range::Of(first, end, next) = r else {
+        let Some(r) = range_at(line, at) else {
             return Ranged {
                 well: false,
                 count: n,
                 next: at,
             };
         };
-        put(firsts, n, first);
-        put(ends, n, end);
+        put(firsts, n, r.first);
+        put(ends, n, r.end);
         n += 1;
-        if !values::stands(line, next, b',') {
+        if !values::stands(line, r.next, b',') {
             return Ranged {
-                well: values::is_over(line, next),
+                well: values::is_over(line, r.next),
                 count: n,
-                next,
+                next: r.next,
             };
         }
-        at = next + 1;
+        at = r.next + 1;
     }
 }
 
@@ -84,10 +82,7 @@ fn ranges(line: &[u8], from: usize, firsts: &mut [u64], ends: &mut [u64]) -> Ran
 fn is_none(line: &[u8], at: usize) -> bool
     ensures { result ≡ is_none (drop at line.now) }
 {
-    if !values::stands(line, at, b'-') {
-        return false;
-    }
-    values::is_over(line, at + 1)
+    values::stands(line, at, b'-') && values::is_over(line, at + 1)
 }
 
 // The shards that a word spells from a place on: none, or its ranges.
@@ -107,30 +102,23 @@ fn spelled(line: &[u8], at: usize, firsts: &mut [u64], ends: &mut [u64]) -> Rang
 }
 
 // A word of shards at a place of the line, behind one space: the place where it begins, and the place past it.
-pub(crate) fn word(line: &[u8], at: usize) -> Word
+pub(crate) fn word(line: &[u8], at: usize) -> Option<Word>
     ensures { result ≡ shards_at line.now at }
 {
     if !values::stands(line, at, b' ') {
-        return Word::Nothing;
+        return None;
     }
     let from = at + 1;
     let mut firsts = [0u64; 0];
     let mut ends = [0u64; 0];
     let s = spelled(line, from, &mut firsts, &mut ends);
-    if s.well {
-        return Word::Number(numbers::with_sign(false, from as u64), s.next);
+    if !s.well {
+        return None;
     }
-    Word::Nothing
-}
-
-// Do so many fit into a list of a and into one of b?
-fn both_hold(count: usize, a: usize, b: usize) -> bool
-    ensures { result ≡ (leb count a && leb count b) }
-{
-    if a < count {
-        return false;
-    }
-    count <= b
+    Some(Word {
+        number: numbers::with_sign(false, from as u64),
+        next: s.next,
+    })
 }
 
 // The shards of a word that begins at a place of the line, put into the two lists from their fronts on: each range's first number and
@@ -141,17 +129,10 @@ pub fn shards(line: &[u8], at: usize, firsts: &mut [u64], ends: &mut [u64]) -> L
     ensures firsts { firsts.new ≡ (shards_of line.now at firsts.old ends.old).firsts }
     ensures ends { ends.new ≡ (shards_of line.now at firsts.old ends.old).ends }
 {
-    let a = firsts.len();
-    let b = ends.len();
+    let room = firsts.len().min(ends.len());
     let s = spelled(line, at, firsts, ends);
-    if !s.well {
-        return Listed {
-            all: false,
-            count: s.count,
-        };
-    }
     Listed {
-        all: both_hold(s.count, a, b),
+        all: s.well && s.count <= room,
         count: s.count,
     }
 }

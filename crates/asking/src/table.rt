@@ -56,14 +56,12 @@ fn is_named(word: &[u8], row: usize) -> bool
     if word.len() > 15 {
         return false;
     }
-    let mut i = 0;
-    while i < word.len() {
-        if word[i] != byte_at(24 * row + i) {
+    for (i, b) in word.iter().enumerate() {
+        if *b != byte_at(24 * row + i) {
             return false;
         }
-        i += 1;
     }
-    byte_at(24 * row + i) == b' '
+    byte_at(24 * row + word.len()) == b' '
 }
 
 // Which row has a word; as many as there are rows where none has. Asks a word that has no space.
@@ -71,14 +69,12 @@ pub(crate) fn row_named(word: &[u8]) -> usize
     requires { is_plain word.now ≡ true }
     ensures { result ≡ row_named word.now }
 {
-    let mut i = 0;
-    while i < rows::ROWS {
-        if is_named(word, i) {
-            return i;
+    for row in 0..rows::ROWS {
+        if is_named(word, row) {
+            return row;
         }
-        i += 1;
     }
-    i
+    rows::ROWS
 }
 
 // The letter of the k-th word behind a command's. Asks a row, and one of its letters.

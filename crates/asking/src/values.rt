@@ -4,11 +4,11 @@ ghost use Rattle.digits.specs.Digits.{is_byte, all_digits, value_of, is_digit, f
 ghost use Rattle.asking.specs.Table.{word_first, is_over};
 ghost use Rattle.asking.specs.Numbers.{Held, pushed, signed_word, digits_at, signed_at, number_at};
 
-// A number and the place past it; or none stands there.
+// A number and the place past it.
 #[derive(Clone, Copy)]
-pub enum Word {
-    Number(i64, usize),
-    Nothing,
+pub struct Word {
+    pub number: i64,
+    pub next: usize,
 }
 
 // The value of digits with one more behind them; once it is past 2^63, some number past it. Asks a digit.
@@ -27,39 +27,34 @@ fn magnitude(d: &[u8]) -> u64
     requires { all_digits d.now ≡ true }
     ensures { Held (value_of d.now) result }
 {
-    let mut m: u64 = 0;
-    let mut i = 0;
-    while i < d.len() {
-        m = push(m, d[i]);
-        i += 1;
+    let mut m = 0;
+    for b in d {
+        m = push(m, *b);
     }
     m
 }
 
 // The number of a sign and a magnitude, where it is within 64 bits.
-fn signed(minus: bool, m: u64, next: usize) -> Word
+fn signed(minus: bool, m: u64, next: usize) -> Option<Word>
     ensures { result ≡ signed_word minus m next }
 {
-    if m < 9_223_372_036_854_775_808 {
-        return Word::Number(numbers::with_sign(minus, m), next);
-    }
-    if m > 9_223_372_036_854_775_808 {
-        return Word::Nothing;
-    }
-    if minus {
-        return Word::Number(-9_223_372_036_854_775_808, next);
-    }
-    Word::Nothing
+    let number = if m < 9_223_372_036_854_775_808 {
+        numbers::with_sign(minus, m)
+    } else if m == 9_223_372_036_854_775_808 && minus {
+        i64::MIN
+    } else {
+        return None;
+    };
+    Some(Word { number, next })
 }
 
 // The digits at a place, behind their sign.
-fn digits_at(line: &[u8], at: usize, minus: bool) -> Word
+fn digits_at(line: &[u8], at: usize, minus: bool) -> Option<Word>
     ensures { result ≡ digits_at minus at (drop at line.now) }
 {
-    let run = digits::run_at(line, at);
-    let n = run.count;
+    let n = digits::run_at(line, at).count;
     if n == 0 {
-        return Word::Nothing;
+        return None;
     }
     let end = at + n;
     signed(minus, magnitude(&line[at..end]), end)
@@ -69,52 +64,41 @@ fn digits_at(line: &[u8], at: usize, minus: bool) -> Word
 pub fn stands(line: &[u8], at: usize, b: u8) -> bool
     ensures { result ≡ first_is (is_byte b) (drop at line.now) }
 {
-    if at < line.len() {
-        return line[at] == b;
-    }
-    false
+    at < line.len() && line[at] == b
 }
 
 // Is a word over at a place of the line? A space stands there, or the line has ended.
 pub(crate) fn is_over(line: &[u8], at: usize) -> bool
     ensures { result ≡ is_over (drop at line.now) }
 {
-    if at < line.len() {
-        return line[at] == b' ';
-    }
-    true
+    line.len() <= at || line[at] == b' '
 }
 
 // Does this word stand at a place of the line?
 pub fn word_stands(line: &[u8], at: usize, word: &[u8]) -> bool
     ensures { result ≡ word_first word.now (drop at line.now) }
 {
-    let mut i = 0;
-    while i < word.len() {
-        if !stands(line, at + i, word[i]) {
-            return false;
-        }
-        i += 1;
-    }
-    true
+    line[at.min(line.len())..].starts_with(word)
 }
 
 // An optional `-` at a place, and the digits behind it.
-pub fn signed_at(line: &[u8], at: usize) -> Word
+pub fn signed_at(line: &[u8], at: usize) -> Option<Word>
     ensures { result ≡ signed_at at (drop at line.now) }
 {
     if stands(line, at, b'-') {
-        return digits_at(line, at + 1, true);
+        digits_at(line, at + 1, true)
+    } else {
+        digits_at(line, at, false)
     }
-    digits_at(line, at, false)
 }
 
 // A space at a place of the line, and the number behind it.
-pub fn number(line: &[u8], at: usize) -> Word
+pub fn number(line: &[u8], at: usize) -> Option<Word>
     ensures { result ≡ number_at at (drop at line.now) }
 {
-    if !stands(line, at, b' ') {
-        return Word::Nothing;
+    if stands(line, at, b' ') {
+        signed_at(line, at + 1)
+    } else {
+        None
     }
-    signed_at(line, at + 1)
 }

@@ -23,13 +23,6 @@ pub struct Asked {
     pub rest: usize,
 }
 
-// The place where the rest of a line begins; or something else stands there.
-#[derive(Clone, Copy)]
-enum Rest {
-    At(usize),
-    Other,
-}
-
 // Zero, with no mark.
 const NO_VALUE: Value = Value {
     number: 0,
@@ -52,50 +45,37 @@ fn not_understood() -> Asked
 fn word_end(line: &[u8]) -> usize
     ensures { result ≡ length (word_of line.now) }
 {
-    let mut i = 0;
-    while i < line.len() {
-        if line[i] == b' ' {
-            return i;
-        }
-        i += 1;
+    match line.iter().position(|b| *b == b' ') {
+        Some(end) => end,
+        None => line.len(),
     }
-    i
 }
 
 // Is a room of so many bytes understood, where `most` is the widest?
 fn is_room(z: i64, most: u64) -> bool
     ensures { result ≡ is_room most z }
 {
-    if numbers::below_zero(z) {
-        return false;
-    }
-    numbers::magnitude(z) <= most
+    z >= 0 && z.unsigned_abs() <= most
 }
 
 // Is this number allowed where a row has this letter?
+#[tactic(auto, unfolding(crate::specs::Asked::is_in_range), using(std::proofs::lemmas::Bool::Decides::nat_tests))]
 fn is_allowed(kind: u8, z: i64) -> bool
     ensures { result ≡ is_in_range kind z }
 {
-    if kind == b'p' {
-        return !numbers::below_zero(z);
+    match kind {
+        b'p' => z >= 0,
+        b'm' => is_room(z, 128),
+        b'w' => is_room(z, 1024),
+        _ => true,
     }
-    if kind == b'm' {
-        return is_room(z, 128);
-    }
-    if kind == b'w' {
-        return is_room(z, 1024);
-    }
-    true
 }
 
 // Does the mark stand at a place of the line, behind one space, where a row has this letter? Only `@` may have it.
 fn is_position(line: &[u8], at: usize, kind: u8) -> bool
     ensures { result ≡ is_position kind (drop at line.now) }
 {
-    if kind != b'@' {
-        return false;
-    }
-    values::word_stands(line, at, b" @")
+    kind == b'@' && values::word_stands(line, at, b" @")
 }
 
 // Does `-` alone stand at a place of the line, behind one space, where a row has this letter? Only a film format may be not stated.
@@ -105,28 +85,25 @@ fn is_unstated(line: &[u8], at: usize, kind: u8) -> bool
     if kind != b'f' {
         return false;
     }
-    if !values::word_stands(line, at, b" -") {
-        return false;
-    }
-    values::is_over(line, at + 2)
+    values::word_stands(line, at, b" -") && values::is_over(line, at + 2)
 }
 
 // Does one of the two stand there: the mark of a position, or `-` for no film format?
 fn is_marked(line: &[u8], at: usize, kind: u8) -> bool
     ensures { result ≡ is_marked kind (drop at line.now) }
 {
-    if is_unstated(line, at, kind) {
-        return true;
-    }
-    is_position(line, at, kind)
+    is_unstated(line, at, kind) || is_position(line, at, kind)
 }
 
 // The number at a place of the line, behind one space, and behind its mark where it has one; 0 for a film format that is not stated.
-fn value_at(line: &[u8], at: usize, kind: u8) -> Word
+fn value_at(line: &[u8], at: usize, kind: u8) -> Option<Word>
     ensures { result ≡ value_at kind at (drop at line.now) }
 {
     if is_unstated(line, at, kind) {
-        return Word::Number(0, at + 2);
+        return Some(Word {
+            number: 0,
+            next: at + 2,
+        });
     }
     if is_position(line, at, kind) {
         return values::signed_at(line, at + 2);
@@ -135,39 +112,29 @@ fn value_at(line: &[u8], at: usize, kind: u8) -> Word
 }
 
 // What stands at a place of the line where a row has this letter: shards, or a number that is allowed there.
-fn word_at(line: &[u8], at: usize, kind: u8) -> Word
+fn word_at(line: &[u8], at: usize, kind: u8) -> Option<Word>
     ensures { result ≡ word_at kind line.now at }
 {
     if kind == b's' {
         return sharded::word(line, at);
     }
-    let w = value_at(line, at, kind);
-    let Word::Number(z, _) = w else {
-        return Word::Nothing;
-    };
-    if is_allowed(kind, z) {
-        return w;
-    }
-    Word::Nothing
+    value_at(line, at, kind).filter(|w| is_allowed(kind, w.number))
 }
 
 // Where the rest of the line begins, by the last letter of the row.
-fn rest_at(line: &[u8], at: usize, kind: u8) -> Rest
+fn rest_at(line: &[u8], at: usize, kind: u8) -> Option<usize>
     ensures { result ≡ rest_at kind at (drop at line.now) }
 {
     if line.len() <= at {
-        return Rest::At(at);
+        return Some(at);
     }
     if kind == b'*' {
-        return Rest::At(at);
+        return Some(at);
     }
-    if kind != b't' {
-        return Rest::Other;
+    if kind == b't' && line[at] == b' ' {
+        return Some(at + 1);
     }
-    if line[at] != b' ' {
-        return Rest::Other;
-    }
-    Rest::At(at + 1)
+    None
 }
 
 // What is asked once the numbers are taken. Asks a row, and one of its letters.
@@ -176,11 +143,10 @@ fn ended(row: usize, line: &[u8], at: usize, k: usize, values: [Value; 5]) -> As
     requires letter { k ≤ 5 }
     ensures { result ≡ ended_at row line.now at k values }
 {
-    let r = rest_at(line, at, table::kind_of(row, k));
-    let Rest::At(rest) = r else {
-        return not_understood();
-    };
-    Asked { row, values, rest }
+    match rest_at(line, at, table::kind_of(row, k)) {
+        Some(rest) => Asked { row, values, rest },
+        None => not_understood(),
+    }
 }
 
 // Is a number the k-th word behind the command's? Asks a row.
@@ -188,17 +154,7 @@ fn is_number(row: usize, k: usize) -> bool
     requires { row < row_count }
     ensures { result ≡ ltb k 5 && not (is_last (kind_of row k)) }
 {
-    if k >= 5 {
-        return false;
-    }
-    let kind = table::kind_of(row, k);
-    if kind == b' ' {
-        return false;
-    }
-    if kind == b't' {
-        return false;
-    }
-    kind != b'*'
+    k < 5 && !matches!(table::kind_of(row, k), b' ' | b't' | b'*')
 }
 
 // The words behind the command's, from a place on. Asks a row.
@@ -211,15 +167,14 @@ fn words(row: usize, line: &[u8], from: usize) -> Asked
     let mut k = 0;
     while is_number(row, k) {
         let kind = table::kind_of(row, k);
-        let w = word_at(line, at, kind);
-        let Word::Number(z, next) = w else {
+        let Some(w) = word_at(line, at, kind) else {
             return not_understood();
         };
         values[k] = Value {
-            number: z,
+            number: w.number,
             marked: is_marked(line, at, kind),
         };
-        at = next;
+        at = w.next;
         k += 1;
     }
     ended(row, line, at, k, values)
@@ -230,7 +185,7 @@ pub fn understand(line: &[u8]) -> Asked
     ensures { result ≡ asked_of line.now }
 {
     let end = word_end(line);
-    let row = table::row_named(&line[0..end]);
+    let row = table::row_named(&line[..end]);
     if row < rows::ROWS {
         return words(row, line, end);
     }

@@ -1,5 +1,6 @@
 -- The statements of specs/Demand3.antt, proved: the steps by Steps.antt, out and back by Multiples.antt.
 -- Assumes nothing.
+use Rattle.std.specs.Prelude.{Ok, Err}
 use mathlib.Core.Path.{◌≡◌, refl, sym, ◌∙◌, ap, subst}
 use mathlib.Core.Bool.{true, false, not, ◌||◌}
 use mathlib.Core.List.{[], ◌∷◌, ◌++◌}
@@ -17,7 +18,6 @@ use Rattle.answers.specs.Refusals.{is_count}
 use Rattle.rates.specs.Rates.{rates, is_rate, rate_row, frame_ticks, bad_rate}
 use Rattle.rates.proofs.Sound.{frame_ticks-pos}
 use Rattle.timecodes.specs.declared.Timecode.{Timecode}
-use Rattle.timecodes.specs.declared.Answer.TheVariants.{At, Refused}
 use Rattle.timecodes.specs.declared.kinds.Kind.TheVariants.{Length}
 use Rattle.timecodes.specs.Timecode.{moved, number_of}
 use Rattle.timecodes.specs.Admitted.{bad_input, Valid}
@@ -137,8 +137,8 @@ pub position_refused : PositionRefused
 unfolding convert_of
 position_refused tc list =
     let x =
-    position-exactly number_of Refused (λ e. refl) (bad_rates list ∷ bad_rate tc.rate ∷ []) (bad_input tc ∷ bad_steps tc list ∷ []) refl refl
-    (At (end_of tc list)) refl tc.kind in
+    position-exactly number_of Err (λ e. refl) (bad_rates list ∷ bad_rate tc.rate ∷ []) (bad_input tc ∷ bad_steps tc list ∷ []) refl refl
+    (Ok (end_of tc list)) refl tc.kind in
     (λ e. let c = x.0 e in (not_in _ c.0.0, (not_in _ c.0.1.0, c.1)), λ h. x.1 ((in-not h.0, (in-not h.1.0, tt)), h.1.1))
 
 pub length_stays : LengthStays

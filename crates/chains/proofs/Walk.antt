@@ -1,11 +1,11 @@
--- A list from a place on is the number there and the list from the next place on, as a loop goes through it.
+-- The test of every element is the library's, as an iterator makes it.
 -- Assumes nothing.
-use mathlib.Core.Path.{◌≡◌}
-use mathlib.Core.List.{List, ◌∷◌}
-use Prim.Native.Nat.{ℕ, ◌+◌, ◌<◌}
-use native.Mathlib.Numerals.{add-one}
-use lib.ListN.{length, get_or, drop}
-use lib.Seq.{drop-cons}
+use mathlib.Core.Path.{◌≡◌, refl, ap}
+use mathlib.Core.Bool.{Bool, ◌&&◌}
+use mathlib.Core.List.{List, [], ◌∷◌}
+use Rattle.std.specs.List.{list_all}
+use Rattle.laws.specs.Every.{every}
 
-pub from-here : (list : List ℕ) (i : ℕ) → i < length list → drop i list ≡ get_or list i 0 ∷ drop (i + 1) list
-from-here list i h = rw (add-one, drop-cons list i 0)
+pub every-same : {A : Type 0} (f : A → Bool) (xs : List A) → list_all f xs ≡ every f xs
+every-same f [] = refl
+every-same f (x ∷ xs) = ap (λ (t : Bool). f x && t) (every-same f xs)

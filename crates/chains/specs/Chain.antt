@@ -1,14 +1,13 @@
 -- A length carried through a list of rates (BEHAVIOUR: Chains): where it ends, when it is refused, and the answer.
 -- Assumes nothing.
-use Rattle.std.specs.Prelude.{ℕ, ◌+◌, Bool, false, not, ◌||◌, List, [], ◌∷◌, ◌++◌, ℤ}
+use Rattle.answers.specs.declared.Refusal.{Refusal}
+use Rattle.std.specs.Prelude.{ℕ, ◌+◌, Bool, false, not, ◌||◌, List, [], ◌∷◌, ◌++◌, ℤ, Result, Ok, Err}
 use Rattle.laws.specs.Every.{every}
 use Rattle.numbers.specs.Nearest.{nearest_z}
 use Rattle.answers.specs.Order.{Condition, when, unless}
 use Rattle.answers.specs.Refusals.{out_of_bounds, no_such, is_count, bad_count}
 use Rattle.rates.specs.Rates.{is_rate, frame_ticks}
 use Rattle.timecodes.specs.declared.Timecode.{Timecode}
-use Rattle.timecodes.specs.declared.Answer.{Answer}
-use Rattle.timecodes.specs.declared.Answer.TheVariants.{At, Refused}
 use Rattle.timecodes.specs.Timecode.{moved}
 use Rattle.timecodes.specs.Admitted.{admits_length}
 use Rattle.timecodes.specs.Instant.{instant}
@@ -55,16 +54,16 @@ convert_when tc list = bad_rates list ∷ admits_length tc ++ (bad_steps tc list
 -- ---- the answer
 
 -- of the whole: the end, where no condition holds
-unfoldable pub convert_of : Timecode → (list : List ℕ) → Answer
-convert_of tc list = unless Refused (convert_when tc list) (At (end_of tc list))
+unfoldable pub convert_of : Timecode → (list : List ℕ) → Result Timecode Refusal
+convert_of tc list = unless Err (convert_when tc list) (Ok (end_of tc list))
 
 -- of one step: 5 where the count after it is outside its bounds
-unfoldable pub step_of : Timecode → (next : ℕ) → Answer
-step_of tc next = unless Refused (bad_count (nearest_frame tc next) ∷ []) (At (after tc next))
+unfoldable pub step_of : Timecode → (next : ℕ) → Result Timecode Refusal
+step_of tc next = unless Err (bad_count (nearest_frame tc next) ∷ []) (Ok (after tc next))
 
 -- of the steps in turn, from an admitted timecode through rates
-unfoldable pub carried : Timecode → (list : List ℕ) → Answer
-carried tc list = unless Refused (bad_steps tc list ∷ []) (At (end_of tc list))
+unfoldable pub carried : Timecode → (list : List ℕ) → Result Timecode Refusal
+carried tc list = unless Err (bad_steps tc list ∷ []) (Ok (end_of tc list))
 
 -- ---- how far it may be
 

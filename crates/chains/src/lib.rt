@@ -9,25 +9,18 @@ ghost use Rattle.timecodes.specs.declared.kinds.Kind.TheVariants.{Length};
 ghost use Rattle.timecodes.specs.Admitted.{Valid};
 ghost use Rattle.chains.specs.Chain.{step_of, carried, convert_of};
 
-use answers::Verdict;
-use timecodes::{Answer, Timecode};
+use answers::{Cause, Refusal};
+use timecodes::Timecode;
 
 // Whether every listed number is a rate.
 fn all_rates(list: &[u64]) -> bool
     ensures { result ≡ every is_rate list.now }
 {
-    let mut i = 0;
-    while i < list.len() {
-        if !rates::is_rate(list[i]) {
-            return false;
-        }
-        i += 1;
-    }
-    true
+    list.iter().all(|&no| rates::is_rate(no))
 }
 
 // One step: the nearest frame at the next rate. Refuses 5: the count after it is outside its bounds. Asks that the start is valid.
-fn step(tc: Timecode, next: u64) -> Answer
+fn step(tc: Timecode, next: u64) -> Result<Timecode, Refusal>
     requires { Valid tc }
     ensures { result ≡ step_of tc next }
 {
@@ -37,35 +30,27 @@ fn step(tc: Timecode, next: u64) -> Answer
 }
 
 // The steps in turn. Asks that the start is valid and a length, and that all listed numbers are rates.
-fn carry(tc: Timecode, list: &[u64]) -> Answer
+fn carry(tc: Timecode, list: &[u64]) -> Result<Timecode, Refusal>
     requires valid { Valid tc }
     requires length { tc.kind ≡ Length }
     requires rates { every is_rate list.now ≡ true }
     ensures { result ≡ carried tc list.now }
 {
     let mut at = tc;
-    let mut i = 0;
-    while i < list.len() {
-        let s = step(at, list[i]);
-        let Answer::At(there) = s else {
-            return s;
-        };
-        at = there;
-        i += 1;
+    for &next in list {
+        at = step(at, next)?;
     }
-    Answer::At(at)
+    Ok(at)
 }
 
 // The timecode through a list of rates, the nearest frame at each in turn; an empty list gives it back. Refuses 6: its own rate or
 // any listed number is no rate; 15: it is a position; then 5: its own count, or that after any step, is outside its bounds.
-pub fn convert(tc: Timecode, list: &[u64]) -> Answer
+pub fn convert(tc: Timecode, list: &[u64]) -> Result<Timecode, Refusal>
     ensures { result ≡ convert_of tc list.now }
 {
     if !all_rates(list) {
-        return Answer::Refused(answers::NO_SUCH);
+        return Err(Cause::NoSuch.into());
     }
-    match timecodes::admit_length(tc) {
-        Verdict::Passed => carry(tc, list),
-        Verdict::Refused(e) => Answer::Refused(e),
-    }
+    timecodes::admit_length(tc)?;
+    carry(tc, list)
 }

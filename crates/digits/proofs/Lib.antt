@@ -3,7 +3,6 @@ pub mod Width
 pub mod Leading
 pub mod Runs
 pub mod Taking
-pub mod Counting
 pub mod Spelling
 pub mod Statements
 pub mod Determined

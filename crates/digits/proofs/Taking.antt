@@ -6,8 +6,8 @@ use mathlib.Core.List.{List, [], ◌∷◌}
 use mathlib.Core.Bool.{Bool, true, false}
 use native.Mathlib.Omega.{arith}
 use native.Mathlib.Numerals.{add-one}
-use native.Mathlib.Nat.{add-zero, min-eq_left, min-eq_right, min-le_right, pow-suc, pow-le-pow_right}
-use lib.ListN.{length, take, drop, get_or, length-drop}
+use native.Mathlib.Nat.{add-zero, min-eq_left, min-eq_right, pow-suc}
+use lib.ListN.{length, take, drop, get_or, drop_of_length-le}
 use lib.Seq.{drop-cons, take-nil}
 use lib.Dec.{ltb}
 use borrow.Author.Tests.{ltb-true, ltb-false}
@@ -53,53 +53,42 @@ module _ (v n b : ℕ) where
   pub push-below : v < 10 ^ min n 9 → is_digit b ≡ true → value_from v (take (9 - n) (b ∷ [])) < 10 ^ min (n + 1) 9
   push-below h e = push-below-by (ltb n 9) refl h (digit-bounds b e).1
 
--- a value of nine digits at most
-pub nine-below : (v n : ℕ) → v < 10 ^ min n 9 → v < 10 ^ 9
-nine-below v n h = omega (arith, pow-le-pow_right {n = 10} (omega arith) (min-le_right n 9))
+-- ---- the first n digits of s, of value v, were taken
+module _ (s : List ℕ) (n : ℕ) (h : n < length s) where
+  split-here : drop n s ≡ get_or s n 0 ∷ drop (n + 1) s
+  split-here = rw (add-one n) (drop-cons s n 0 h)
 
--- ---- n digits of value v were taken from `at` on, and i is the next place
-within_by : (l : List ℕ) → digit_first l ≡ true → 0 < length l
-within_by [] e = let z : ◌≡◌ {A = ℕ} 0 1 = cc in omega arith
-within_by (b ∷ l) e = omega arith
+  -- the byte that is next tells whether a digit stands in front of what is left
+  pub first-here : digit_first (drop n s) ≡ is_digit (get_or s n 0)
+  first-here = ap digit_first split-here
 
-module _ (s : List ℕ) (i : ℕ) (e : digit_first (drop i s) ≡ true) where
-  -- where a digit stands, the text goes on, and that byte is the digit
-  pub within : i < length s
-  within = omega (arith, length-drop i s, within_by (drop i s) e)
-
-  pub split-here : drop i s ≡ get_or s i 0 ∷ drop (i + 1) s
-  split-here = rw (add-one i) (drop-cons s i 0 within)
-
-  pub digit-here : is_digit (get_or s i 0) ≡ true
-  digit-here = rw (drop-cons s i 0 within) at e
-
-pub record Taking (s : List ℕ) (at i v n : ℕ) : Type 0 where
-  pub place : i ≡ at + n
+pub record Taking (s : List ℕ) (n v : ℕ) : Type 0 where
   pub below : v < 10 ^ min n 9
-  pub count : span (drop at s) ≡ n + span (drop i s)
-  pub value : field_value (leading (drop at s)) ≡ value_from v (take (9 - n) (leading (drop i s)))
+  pub count : span s ≡ n + span (drop n s)
+  pub value : field_value (leading s) ≡ value_from v (take (9 - n) (leading (drop n s)))
 
-pub taking-start : (s : List ℕ) (at : ℕ) → Taking s at at 0 0
-taking-start s at = record { place = omega arith; below = omega arith; count = omega arith; value = refl }
+pub taking-start : (s : List ℕ) → Taking s 0 0
+taking-start s = record { below = omega arith; count = omega arith; value = refl }
 
-pub taking-turn : (s : List ℕ) (at i v n : ℕ) → Taking s at i v n → digit_first (drop i s) ≡ true
-    → Taking s at (i + 1) (value_from v (take (9 - n) (get_or s i 0 ∷ []))) (n + 1)
-taking-turn s at i v n k e =
-    let b = get_or s i 0 in
-    let rest = drop (i + 1) s in
-    let d = split-here s i e in
-    let f = digit-here s i e in
-    let more : leading (drop i s) ≡ b ∷ leading rest = ap leading d ∙ rw (span-cons b rest f) in
+pub taking-turn : (s : List ℕ) (n v : ℕ) → Taking s n v → n < length s → is_digit (get_or s n 0) ≡ true
+    → Taking s (n + 1) (value_from v (take (9 - n) (get_or s n 0 ∷ [])))
+taking-turn s n v k h f =
+    let b = get_or s n 0 in
+    let rest = drop (n + 1) s in
+    let d = split-here s n h in
+    let more : leading (drop n s) ≡ b ∷ leading rest = ap leading d ∙ rw (span-cons b rest f) in
     record {
-      place = omega arith;
       below = push-below v n b k.below f;
-      count = omega (arith, ap span d ∙ span-cons b rest f);
+      count = omega (arith, k.count, ap span d ∙ span-cons b rest f);
       value = k.value ∙ ap (λ (l : List ℕ). value_from v (take (9 - n) l)) more ∙ push-on v n b (leading rest);
     }
 
-pub taking-done : (s : List ℕ) (at i v n : ℕ) → Taking s at i v n → digit_first (drop i s) ≡ false
-    → record { value = v; count = n } ≡ run_of (drop at s)
+pub taking-done : (s : List ℕ) (n v : ℕ) → Taking s n v → digit_first (drop n s) ≡ false → record { value = v; count = n } ≡ run_of s
 unfolding run_of value_from
-taking-done s at i v n k e =
-    let none = span-no (drop i s) e in
+taking-done s n v k e =
+    let none = span-no (drop n s) e in
     sym (rw (k.value, k.count, none, add-zero, take-nil))
+
+-- no byte is left
+pub taking-all : (s : List ℕ) (n v : ℕ) → Taking s n v → length s ≤ n → record { value = v; count = n } ≡ run_of s
+taking-all s n v k h = taking-done s n v k (ap digit_first (drop_of_length-le s h))

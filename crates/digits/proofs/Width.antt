@@ -1,13 +1,13 @@
 -- A number's width is the least number of digits, one or more, that are enough for it.
 -- Assumes nothing.
-use Prim.Native.Nat.{ℕ, zero, suc, ◌-◌, ◌*◌, ◌/◌, ◌^◌, ◌≤◌, ◌<◌, max}
+use Prim.Native.Nat.{ℕ, zero, suc, ◌+◌, ◌*◌, ◌/◌, ◌^◌, ◌≤◌, ◌<◌, max}
 use mathlib.Core.Path.{◌≡◌, refl, ap}
 use mathlib.Core.Bool.{Bool, true, false}
 use native.Mathlib.Omega.{arith}
 use native.Mathlib.Nat.{pow-suc, pow-le-pow_right, le-max_right}
 use lib.ListN.{length}
-use lib.Dec.{ltb}
-use borrow.Author.Tests.{lt-ltb, le-ltb, ltb-true, ltb-false}
+use lib.Dec.{leb, ltb}
+use borrow.Author.Tests.{lt-ltb, le-ltb, leb-true, leb-false, ltb-true, ltb-false}
 use Rattle.digits.specs.Digits.{IsField, value_of, digits_of, width_step, width_by, width, decimal}
 use Rattle.digits.proofs.Values.{digits-length, digits-all, digits-back}
 
@@ -73,6 +73,20 @@ width-at-most =
     tenths (λ n. (w : ℕ) → 0 < w → n < 10 ^ w → width n ≤ w)
     (λ n h w p k. omega (arith, width_small n h))
     (λ n h ih w p k. at-most-by n w h ih p k)
+
+-- a number that has k + 1 digits or more is not below 10 ^ k
+more_by : (n k : ℕ) (t : Bool) → leb (width n) k ≡ t → 10 ^ k ≤ n → k < width n
+more_by n k true e h = absurd (omega (arith, width-enough n, pow-le-pow_right {n = 10} (omega arith) (leb-true (width n) k e)))
+more_by n k false e h = leb-false (width n) k e
+
+-- from the logarithm: that of 1 is 0's too
+pub width_log : (n m k : ℕ) → m ≡ max n 1 → 10 ^ k ≤ m → m < 10 * 10 ^ k → width n ≡ k + 1
+width_log n m zero e lo hi = omega (arith, width_some n, width-at-most n 1 (omega arith) (omega arith))
+width_log n m (suc k) e lo hi =
+    let p : 10 ^ suc k ≡ 10 ^ k * 10 = pow-suc 10 k in
+    let q : 10 ^ suc (suc k) ≡ 10 ^ suc k * 10 = pow-suc 10 (suc k) in
+    let some : 1 ≤ 10 ^ k = pow-le-pow_right {n = 10} (omega arith) {i = 0} {j = k} (omega arith) in
+    omega (arith, more_by n (suc k) (leb (width n) (suc k)) refl (omega arith), width-at-most n (suc (suc k)) (omega arith) (omega arith))
 
 -- ---- k digits at least
 pub decimal_length : (k n : ℕ) → length (decimal k n) ≡ max k (width n)

@@ -19,20 +19,7 @@ pub struct Run {
 pub fn is_digit(b: u8) -> bool
     ensures { result ≡ is_digit b }
 {
-    if b < 48 {
-        return false;
-    }
-    b <= 57
-}
-
-// Does a digit stand at i? At the end and past it none does.
-fn digit_at(s: &[u8], i: usize) -> bool
-    ensures { result ≡ digit_first (drop i s.now) }
-{
-    if i < s.len() {
-        return is_digit(s[i]);
-    }
-    false
+    b.is_ascii_digit()
 }
 
 // The value of count digits with one more behind them, which from the tenth on is not taken. Asks a value of so many digits, and a digit.
@@ -42,24 +29,30 @@ fn push(value: u64, count: usize, b: u8) -> u64
     ensures { result ≡ value_from value (take (9 - count) (b ∷ [])) }
 {
     if count < 9 {
-        return value * 10 + (b as u64 - 48);
+        value * 10 + u64::from(b - b'0')
+    } else {
+        value
     }
-    value
 }
 
 // The run of digits at a place of the text, the empty one past its end too.
 pub fn run_at(s: &[u8], at: usize) -> Run
     ensures { result ≡ run_of (drop at s.now) }
 {
-    let mut value: u64 = 0;
-    let mut count: usize = 0;
-    let mut i = at;
-    while digit_at(s, i) {
-        value = push(value, count, s[i]);
-        count += 1;
-        i += 1;
+    let mut value = 0;
+    let Some(rest) = s.get(at..) else {
+        return Run { value, count: 0 };
+    };
+    for (count, b) in rest.iter().enumerate() {
+        if !is_digit(*b) {
+            return Run { value, count };
+        }
+        value = push(value, count, *b);
     }
-    Run { value, count }
+    Run {
+        value,
+        count: rest.len(),
+    }
 }
 
 // How many digits n is written with, where there are to be `least` of them at least.
@@ -67,21 +60,10 @@ pub fn width_of(least: usize, n: u64) -> usize
     ensures { result ≡ max least (width n) }
 {
     // two digits are enough: nothing is counted
-    if n < 100 {
-        if 1 < least {
-            return least;
-        }
-    }
-    let mut k = 1;
-    let mut rest = n;
-    while 10 <= rest {
-        rest = rest / 10;
-        k += 1;
-    }
-    if k < least {
+    if n < 100 && 1 < least {
         return least;
     }
-    k
+    least.max(n.max(1).ilog10() as usize + 1)
 }
 
 // The last k digits of n at the front of a part; every other byte stays. Where they have no room nothing changes.
@@ -91,16 +73,15 @@ pub fn put_digits(part: &mut [u8], k: usize, n: u64)
     if part.len() < k {
         return;
     }
-    let mut i = k;
     let mut rest = n;
-    while 1 < i {
+    for j in 0..k / 2 {
+        let i = k - 2 * j;
         let pair = pairs::entry((rest % 100) as u8);
         part[i - 1] = pair.1;
         part[i - 2] = pair.0;
-        i -= 2;
-        rest = rest / 100;
+        rest /= 100;
     }
-    if 0 < i {
+    if k % 2 == 1 {
         part[0] = 48 + (rest % 10) as u8;
     }
 }

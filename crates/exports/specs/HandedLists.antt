@@ -1,12 +1,11 @@
 -- What is handed to C of a shot list (BEHAVIOUR: Shot lists): a record's numbers by name, and how many records there are.
 -- Assumes nothing.
-use Rattle.std.specs.Prelude.{ℕ, pos}
+use Rattle.shot_lists.specs.declared.records.Taken.{Taken}
+use Rattle.answers.specs.Causes.{refusal_number}
+use Rattle.answers.specs.declared.Refusal.{Refusal}
+use Rattle.std.specs.Prelude.{ℕ, pos, Result, Ok, Err, None, Some, Option}
 use Rattle.shot_lists.specs.declared.records.Record.{Record}
 use Rattle.shot_lists.specs.declared.records.Record.TheVariants.{Rate, Shot, Reel}
-use Rattle.shot_lists.specs.declared.records.Entry.{Entry}
-use Rattle.shot_lists.specs.declared.records.Entry.TheVariants as entry
-use Rattle.shot_lists.specs.declared.disk.Checked.{Checked}
-use Rattle.shot_lists.specs.declared.disk.Checked.TheVariants as checked
 use Rattle.exports.specs.declared.lists.TzqRecord.{TzqRecord}
 use Rattle.exports.specs.declared.lists.TzqChecked.{TzqChecked}
 
@@ -25,12 +24,12 @@ handed_record (Reel n) held size =
     record { refused = 0; kind = 3; rate = 0; first = pos 0; end = pos 0; reel = n; held = held; size = size }
 
 -- no record where it is refused, and none at the end
-unfoldable pub handed_entry : Entry → TzqRecord
-handed_entry (entry.Taken r held size) = handed_record r held size
-handed_entry (entry.Refused e) = record_of_kind e.number 0
-handed_entry entry.End = record_of_kind 0 0
+unfoldable pub handed_entry : Result (Option Taken) Refusal → TzqRecord
+handed_entry (Ok (Some t)) = handed_record t.found t.held t.size
+handed_entry (Err e) = record_of_kind (refusal_number e) 0
+handed_entry (Ok None) = record_of_kind 0 0
 
 -- how many records; of a refusal 0
-unfoldable pub handed_checked : Checked → TzqChecked
-handed_checked (checked.Records n) = record { refused = 0; records = n }
-handed_checked (checked.Refused e) = record { refused = e.number; records = 0 }
+unfoldable pub handed_checked : Result ℕ Refusal → TzqChecked
+handed_checked (Ok n) = record { refused = 0; records = n }
+handed_checked (Err e) = record { refused = refusal_number e; records = 0 }

@@ -1,6 +1,7 @@
 -- What is handed to C of why a text is read as it is (BEHAVIOUR: Why): what tzq_read hands over, the numbers of the fact, and the phrase's length.
 -- Assumes nothing.
-use Rattle.std.specs.Prelude.{ℕ, Bool, true, false, pos}
+use Rattle.answers.specs.Causes.{refusal_number}
+use Rattle.std.specs.Prelude.{ℕ, Bool, true, false, pos, Option, Some, None, Result, Ok, Err}
 use Rattle.numbers.specs.Sign.{signed}
 use Rattle.numbers.specs.Total.{fitted}
 use Rattle.answers.specs.declared.Refusal.{Refusal}
@@ -8,21 +9,17 @@ use Rattle.faults.specs.declared.Field.{Field}
 use Rattle.faults.specs.declared.Field.TheVariants.{Count, Sign, Hours, Minutes, Seconds, Frames, Marker}
 use Rattle.faults.specs.declared.Fault.{Fault}
 use Rattle.label_writer.specs.declared.TimecodeSections.{TimecodeSections}
-use Rattle.reading.specs.declared.Stated.{Stated}
-use Rattle.reading.specs.declared.Stated.TheVariants as stated
 use Rattle.reasons.specs.declared.Fact.{Fact}
-use Rattle.reasons.specs.declared.Fact.TheVariants.{Nothing, Limit, First}
+use Rattle.reasons.specs.declared.Fact.TheVariants.{Limit, First}
 use Rattle.reasons.specs.declared.Reason.{Reason}
-use Rattle.reasons.specs.declared.Reasoned.{Reasoned}
-use Rattle.reasons.specs.declared.Reasoned.TheVariants.{Told, Refused}
 use Rattle.exports.specs.declared.why.FactNumbers.{FactNumbers}
 use Rattle.exports.specs.declared.why.TzqReason.{TzqReason}
 use Rattle.exports.specs.Handed.{handed_read}
 
 -- the film format counts only where one is stated
-abbrev pub stated_from : (stated : Bool) (format : ℕ) → Stated
-stated_from true format = stated.Format format
-stated_from false format = stated.Nothing
+abbrev pub stated_from : (stated : Bool) (format : ℕ) → Option ℕ
+stated_from true format = Some format
+stated_from false format = None
 
 -- what the limit and the value speak of; 0 is no field's
 abbrev pub field_number : Field → ℕ
@@ -67,10 +64,10 @@ first_fact s =
       frames = s.frames;
     }
 
-abbrev pub fact_numbers : Fact → FactNumbers
-fact_numbers Nothing = no_fact
-fact_numbers (Limit f) = limit_fact f
-fact_numbers (First s) = first_fact s
+abbrev pub fact_numbers : Option Fact → FactNumbers
+fact_numbers None = no_fact
+fact_numbers (Some (Limit f)) = limit_fact f
+fact_numbers (Some (First s)) = first_fact s
 
 -- ---- what is handed over
 -- what tzq_read hands over, its refusal as the number, the numbers of the fact, and the phrase's length
@@ -100,7 +97,7 @@ told_reason r =
 unfoldable pub no_reason : Refusal → TzqReason
 no_reason e =
     record {
-      refused = e.number;
+      refused = refusal_number e;
       number = 0;
       place = 0;
       count = pos 0;
@@ -117,6 +114,6 @@ no_reason e =
       length = 0;
     }
 
-abbrev pub handed_reason : Reasoned → TzqReason
-handed_reason (Told r) = told_reason r
-handed_reason (Refused e) = no_reason e
+abbrev pub handed_reason : Result Reason Refusal → TzqReason
+handed_reason (Ok r) = told_reason r
+handed_reason (Err e) = no_reason e

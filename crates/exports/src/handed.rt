@@ -1,17 +1,15 @@
 // What is handed to C: a struct of numbers for each kind of answer, the refusal's number first.
 ghost use Rattle.std.specs.Prelude.{◌≡◌};
-ghost use Rattle.timecodes.specs.Kinds.{is_position};
+ghost use Rattle.answers.specs.Causes.{refusal_number};
 ghost use Rattle.exports.specs.Handed.{timecode_from, handed_count, handed_answer, handed_read, handed_order, handed_ticks, handed_seconds, handed_timecode, handed_sections, handed_length, handed_rate, handed_format};
 
-use answers::Counted;
-use arithmetic::Compared;
-use film::Filmed;
-use label_writer::Sectioned;
-use rates::Rated;
+use answers::Refusal;
+use film::FilmFormat;
+use label_writer::TimecodeSections;
+use rates::Framerate;
 use reading::Read;
-use time::{Ticked, Timed};
-use timecodes::{Answer, Kind, Timecode};
-use written::Written;
+use time::Fraction;
+use timecodes::{Kind, Timecode};
 
 // A count and a rate; a position, or else a length.
 #[repr(C)]
@@ -118,230 +116,246 @@ pub struct TzqFormat {
     pub perf_field: bool,
 }
 
-// A byte as a number.
-pub(crate) fn wide(n: u8) -> u64
-    ensures { result ≡ n }
+// The number of a refusal among C's numbers.
+pub(crate) fn number_of(e: Refusal) -> u64
+    ensures { result ≡ refusal_number e }
 {
-    n as u64
+    u64::from(e.cause.number())
 }
 
 // The timecode that C handed over.
-pub(crate) fn timecode_from(t: TzqTimecode) -> Timecode
-    ensures { result ≡ timecode_from t }
-{
-    timecodes::new(t.count, t.rate, Kind::from(t.position))
-}
+impl From<TzqTimecode> for Timecode {
+    ghost from_gives = { λ t tc. tc ≡ timecode_from t };
 
-// Whether a timecode is a position.
-fn is_position(tc: Timecode) -> bool
-    ensures { result ≡ is_position tc.kind }
-{
-    let kind = tc.kind;
-    kind.is_position()
+    fn from(t: TzqTimecode) -> Timecode {
+        timecodes::new(t.count, t.rate, Kind::from(t.position))
+    }
 }
 
 // A count or its refusal.
-pub(crate) fn handed_count(a: Counted) -> TzqCount
-    ensures { result ≡ handed_count a }
-{
-    match a {
-        Counted::Count(count) => TzqCount {
-            refused: 0,
-            count,
-            position: false,
-        },
-        Counted::Refused(e) => TzqCount {
-            refused: wide(e.number),
-            count: 0,
-            position: false,
-        },
+impl From<Result<i64, Refusal>> for TzqCount {
+    ghost from_gives = { λ a t. t ≡ handed_count a };
+
+    fn from(a: Result<i64, Refusal>) -> TzqCount {
+        match a {
+            Ok(count) => TzqCount {
+                refused: 0,
+                count,
+                position: false,
+            },
+            Err(e) => TzqCount {
+                refused: number_of(e),
+                count: 0,
+                position: false,
+            },
+        }
     }
 }
 
 // A timecode's count and kind, or its refusal: the rate is the caller's own.
-pub(crate) fn handed_answer(a: Answer) -> TzqCount
-    ensures { result ≡ handed_answer a }
-{
-    match a {
-        Answer::At(tc) => TzqCount {
-            refused: 0,
-            count: tc.count,
-            position: is_position(tc),
-        },
-        Answer::Refused(e) => TzqCount {
-            refused: wide(e.number),
-            count: 0,
-            position: false,
-        },
+impl From<Result<Timecode, Refusal>> for TzqCount {
+    ghost from_gives = { λ a t. t ≡ handed_answer a };
+
+    fn from(a: Result<Timecode, Refusal>) -> TzqCount {
+        match a {
+            Ok(tc) => TzqCount {
+                refused: 0,
+                count: tc.count,
+                position: tc.kind.is_position(),
+            },
+            Err(e) => TzqCount {
+                refused: number_of(e),
+                count: 0,
+                position: false,
+            },
+        }
     }
 }
 
 // What a text reads as, or its refusal.
-pub(crate) fn handed_read(a: Read) -> TzqRead
-    ensures { result ≡ handed_read a }
-{
-    match a {
-        Read::Label(tc) => TzqRead {
-            refused: 0,
-            count: tc.count,
-            format: 0,
-            place: 0,
-            position: is_position(tc),
-        },
-        Read::Footage(tc, format) => TzqRead {
-            refused: 0,
-            count: tc.count,
-            format: format.number(),
-            place: 0,
-            position: is_position(tc),
-        },
-        Read::Refused(e) => TzqRead {
-            refused: wide(e.number),
-            count: 0,
-            format: 0,
-            place: e.place,
-            position: false,
-        },
+impl From<Result<Read, Refusal>> for TzqRead {
+    ghost from_gives = { λ a t. t ≡ handed_read a };
+
+    fn from(a: Result<Read, Refusal>) -> TzqRead {
+        match a {
+            Ok(Read::Label(tc)) => TzqRead {
+                refused: 0,
+                count: tc.count,
+                format: 0,
+                place: 0,
+                position: tc.kind.is_position(),
+            },
+            Ok(Read::Footage(tc, format)) => TzqRead {
+                refused: 0,
+                count: tc.count,
+                format: format.number(),
+                place: 0,
+                position: tc.kind.is_position(),
+            },
+            Err(e) => TzqRead {
+                refused: number_of(e),
+                count: 0,
+                format: 0,
+                place: e.place,
+                position: false,
+            },
+        }
     }
 }
 
 // An order or its refusal.
-pub(crate) fn handed_order(a: Compared) -> TzqOrder
-    ensures { result ≡ handed_order a }
-{
-    match a {
-        Compared::Order(order) => TzqOrder { refused: 0, order },
-        Compared::Refused(e) => TzqOrder {
-            refused: wide(e.number),
-            order: 0,
-        },
+impl From<Result<i64, Refusal>> for TzqOrder {
+    ghost from_gives = { λ a t. t ≡ handed_order a };
+
+    fn from(a: Result<i64, Refusal>) -> TzqOrder {
+        match a {
+            Ok(order) => TzqOrder { refused: 0, order },
+            Err(e) => TzqOrder {
+                refused: number_of(e),
+                order: 0,
+            },
+        }
     }
 }
 
 // Ticks or their refusal.
-pub(crate) fn handed_ticks(a: Ticked) -> TzqTicks
-    ensures { result ≡ handed_ticks a }
-{
-    match a {
-        Ticked::Ticks(ticks) => TzqTicks { refused: 0, ticks },
-        Ticked::Refused(e) => TzqTicks {
-            refused: wide(e.number),
-            ticks: 0,
-        },
+impl From<Result<i64, Refusal>> for TzqTicks {
+    ghost from_gives = { λ a t. t ≡ handed_ticks a };
+
+    fn from(a: Result<i64, Refusal>) -> TzqTicks {
+        match a {
+            Ok(ticks) => TzqTicks { refused: 0, ticks },
+            Err(e) => TzqTicks {
+                refused: number_of(e),
+                ticks: 0,
+            },
+        }
     }
 }
 
 // Seconds or their refusal.
-pub(crate) fn handed_seconds(a: Timed) -> TzqSeconds
-    ensures { result ≡ handed_seconds a }
-{
-    match a {
-        Timed::Seconds { p, q } => TzqSeconds {
-            refused: 0,
-            numerator: p,
-            denominator: q,
-        },
-        Timed::Refused(e) => TzqSeconds {
-            refused: wide(e.number),
-            numerator: 0,
-            denominator: 1,
-        },
+impl From<Result<Fraction, Refusal>> for TzqSeconds {
+    ghost from_gives = { λ a t. t ≡ handed_seconds a };
+
+    fn from(a: Result<Fraction, Refusal>) -> TzqSeconds {
+        match a {
+            Ok(f) => TzqSeconds {
+                refused: 0,
+                numerator: f.p,
+                denominator: f.q,
+            },
+            Err(e) => TzqSeconds {
+                refused: number_of(e),
+                numerator: 0,
+                denominator: 1,
+            },
+        }
     }
 }
 
 // A timecode at the end of a conversion, or its refusal.
-pub(crate) fn handed_timecode(a: Answer) -> TzqConverted
-    ensures { result ≡ handed_timecode a }
-{
-    match a {
-        Answer::At(tc) => TzqConverted {
-            refused: 0,
-            count: tc.count,
-            rate: tc.rate,
-        },
-        Answer::Refused(e) => TzqConverted {
-            refused: wide(e.number),
-            count: 0,
-            rate: 0,
-        },
+impl From<Result<Timecode, Refusal>> for TzqConverted {
+    ghost from_gives = { λ a t. t ≡ handed_timecode a };
+
+    fn from(a: Result<Timecode, Refusal>) -> TzqConverted {
+        match a {
+            Ok(tc) => TzqConverted {
+                refused: 0,
+                count: tc.count,
+                rate: tc.rate,
+            },
+            Err(e) => TzqConverted {
+                refused: number_of(e),
+                count: 0,
+                rate: 0,
+            },
+        }
     }
 }
 
 // Sections or their refusal.
-pub(crate) fn handed_sections(a: Sectioned) -> TzqSections
-    ensures { result ≡ handed_sections a }
-{
-    match a {
-        Sectioned::Sections(s) => TzqSections {
-            refused: 0,
-            negative: s.negative,
-            hours: s.hours,
-            minutes: s.minutes,
-            seconds: s.seconds,
-            frames: s.frames,
-        },
-        Sectioned::Refused(e) => TzqSections {
-            refused: wide(e.number),
-            negative: false,
-            hours: 0,
-            minutes: 0,
-            seconds: 0,
-            frames: 0,
-        },
+impl From<Result<TimecodeSections, Refusal>> for TzqSections {
+    ghost from_gives = { λ a t. t ≡ handed_sections a };
+
+    fn from(a: Result<TimecodeSections, Refusal>) -> TzqSections {
+        match a {
+            Ok(s) => TzqSections {
+                refused: 0,
+                negative: s.negative,
+                hours: s.hours,
+                minutes: s.minutes,
+                seconds: s.seconds,
+                frames: s.frames,
+            },
+            Err(e) => TzqSections {
+                refused: number_of(e),
+                negative: false,
+                hours: 0,
+                minutes: 0,
+                seconds: 0,
+                frames: 0,
+            },
+        }
     }
 }
 
 // A length or its refusal.
-pub(crate) fn handed_length(a: Written) -> TzqLength
-    ensures { result ≡ handed_length a }
-{
-    match a {
-        Written::Length(length) => TzqLength { refused: 0, length },
-        Written::Refused(e) => TzqLength {
-            refused: wide(e.number),
-            length: 0,
-        },
+impl From<Result<usize, Refusal>> for TzqLength {
+    ghost from_gives = { λ a t. t ≡ handed_length a };
+
+    fn from(a: Result<usize, Refusal>) -> TzqLength {
+        match a {
+            Ok(length) => TzqLength { refused: 0, length },
+            Err(e) => TzqLength {
+                refused: number_of(e),
+                length: 0,
+            },
+        }
     }
 }
 
 // A row or its refusal.
-pub(crate) fn handed_rate(a: Rated) -> TzqRate
-    ensures { result ≡ handed_rate a }
-{
-    match a {
-        Rated::Row(row) => TzqRate {
-            refused: 0,
-            numerator: row.numerator,
-            denominator: row.denominator,
-            timebase: row.timebase,
-            ticks: row.ticks,
-        },
-        Rated::Refused(e) => TzqRate {
-            refused: wide(e.number),
-            numerator: 0,
-            denominator: 0,
-            timebase: 0,
-            ticks: 0,
-        },
+impl From<Result<Framerate, Refusal>> for TzqRate {
+    ghost from_gives = { λ a t. t ≡ handed_rate a };
+
+    fn from(a: Result<Framerate, Refusal>) -> TzqRate {
+        match a {
+            Ok(row) => TzqRate {
+                refused: 0,
+                numerator: row.numerator,
+                denominator: row.denominator,
+                timebase: row.timebase,
+                ticks: row.ticks,
+            },
+            Err(e) => TzqRate {
+                refused: number_of(e),
+                numerator: 0,
+                denominator: 0,
+                timebase: 0,
+                ticks: 0,
+            },
+        }
     }
 }
 
 // What is known of a film format, or its refusal.
-pub(crate) fn handed_format(a: Filmed) -> TzqFormat
-    ensures { result ≡ handed_format a }
-{
-    match a {
-        Filmed::Format(format) => TzqFormat {
-            refused: 0,
-            perfs_per_frame: format.perfs_per_frame(),
-            perfs_per_foot: format.perfs_per_foot(),
-            perf_field: format.allows_perf_field(),
-        },
-        Filmed::Refused(e) => TzqFormat {
-            refused: wide(e.number),
-            perfs_per_frame: 0,
-            perfs_per_foot: 0,
-            perf_field: false,
-        },
+impl From<Result<FilmFormat, Refusal>> for TzqFormat {
+    ghost from_gives = { λ a t. t ≡ handed_format a };
+
+    fn from(a: Result<FilmFormat, Refusal>) -> TzqFormat {
+        match a {
+            Ok(format) => TzqFormat {
+                refused: 0,
+                perfs_per_frame: format.perfs_per_frame(),
+                perfs_per_foot: format.perfs_per_foot(),
+                perf_field: format.allows_perf_field(),
+            },
+            Err(e) => TzqFormat {
+                refused: number_of(e),
+                perfs_per_frame: 0,
+                perfs_per_foot: 0,
+                perf_field: false,
+            },
+        }
     }
 }

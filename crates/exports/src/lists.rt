@@ -9,7 +9,8 @@ ghost use Rattle.exports.specs.HandedLists.{record_of_kind, handed_record, hande
 
 use crate::handed;
 use crate::handed::TzqLength;
-use shot_lists::{Checked, Entry, Record};
+use answers::Refusal;
+use shot_lists::{Record, Taken};
 
 // A record: its kind (1 rate, 2 shot, 3 reel), its numbers by name (those of another kind are 0), the rate held behind it, and how many
 // bytes it has. At the list's end all 0; refused: its number, all others 0.
@@ -35,44 +36,38 @@ pub struct TzqChecked {
 }
 
 // A record's kind and numbers, with what is held behind it and its size.
-fn handed_record(found: Record, held: u64, size: usize) -> TzqRecord
-    ensures { result ≡ handed_record found held size }
-{
-    match found {
-        Record::Rate(rate) => TzqRecord {
-            refused: 0,
-            kind: 1,
-            rate,
-            first: 0,
-            end: 0,
-            reel: 0,
-            held,
-            size,
-        },
-        Record::Shot { first, end } => TzqRecord {
-            refused: 0,
-            kind: 2,
-            rate: 0,
-            first,
-            end,
-            reel: 0,
-            held,
-            size,
-        },
-        Record::Reel(reel) => TzqRecord {
-            refused: 0,
-            kind: 3,
-            rate: 0,
-            first: 0,
-            end: 0,
-            reel,
-            held,
-            size,
-        },
+impl From<Taken> for TzqRecord {
+    ghost from_gives = { λ taken t. t ≡ handed_record taken.found taken.held taken.size };
+
+    fn from(taken: Taken) -> TzqRecord {
+        let none = TzqRecord {
+            held: taken.held,
+            size: taken.size,
+            ..no_record(0)
+        };
+        match taken.found {
+            Record::Rate(rate) => TzqRecord {
+                kind: 1,
+                rate,
+                ..none
+            },
+            Record::Shot { first, end } => TzqRecord {
+                kind: 2,
+                first,
+                end,
+                ..none
+            },
+            Record::Reel(reel) => TzqRecord {
+                kind: 3,
+                reel,
+                ..none
+            },
+        }
     }
 }
 
 // No record, and why: 0 where the list is over.
+#[tactic(auto, unfolding(crate::specs::HandedLists::record_of_kind))]
 fn no_record(refused: u64) -> TzqRecord
     ensures { result ≡ record_of_kind refused 0 }
 {
@@ -89,29 +84,33 @@ fn no_record(refused: u64) -> TzqRecord
 }
 
 // A record, its refusal, or the end.
-fn handed_entry(a: Entry) -> TzqRecord
-    ensures { result ≡ handed_entry a }
-{
-    match a {
-        Entry::Taken { found, held, size } => handed_record(found, held, size),
-        Entry::Refused(e) => no_record(handed::wide(e.number)),
-        Entry::End => no_record(0),
+impl From<Result<Option<Taken>, Refusal>> for TzqRecord {
+    ghost from_gives = { λ a t. t ≡ handed_entry a };
+
+    fn from(a: Result<Option<Taken>, Refusal>) -> TzqRecord {
+        match a {
+            Ok(Some(taken)) => taken.into(),
+            Ok(None) => no_record(0),
+            Err(e) => no_record(handed::number_of(e)),
+        }
     }
 }
 
 // The number of records, or the list's refusal.
-fn handed_checked(a: Checked) -> TzqChecked
-    ensures { result ≡ handed_checked a }
-{
-    match a {
-        Checked::Records(records) => TzqChecked {
-            refused: 0,
-            records,
-        },
-        Checked::Refused(e) => TzqChecked {
-            refused: handed::wide(e.number),
-            records: 0,
-        },
+impl From<Result<usize, Refusal>> for TzqChecked {
+    ghost from_gives = { λ a t. t ≡ handed_checked a };
+
+    fn from(a: Result<usize, Refusal>) -> TzqChecked {
+        match a {
+            Ok(records) => TzqChecked {
+                refused: 0,
+                records,
+            },
+            Err(e) => TzqChecked {
+                refused: handed::number_of(e),
+                records: 0,
+            },
+        }
     }
 }
 
@@ -121,7 +120,7 @@ fn handed_checked(a: Checked) -> TzqChecked
 pub extern "C" fn tzq_record_at(list: &[u8], at: usize, held: u64) -> TzqRecord
     ensures { result ≡ handed_entry (entry_of on_disk held (drop at list.now)) }
 {
-    handed_entry(shot_lists::record_at(list, at, held))
+    shot_lists::record_at(list, at, held).into()
 }
 
 // A whole list, tested. Refuses what its earliest record at fault is refused.
@@ -129,7 +128,7 @@ pub extern "C" fn tzq_record_at(list: &[u8], at: usize, held: u64) -> TzqRecord
 pub extern "C" fn tzq_check_list(list: &[u8]) -> TzqChecked
     ensures { result ≡ handed_checked (checked_of (read_of on_disk list.now)) }
 {
-    handed_checked(shot_lists::check_list(list))
+    shot_lists::check_list(list).into()
 }
 
 // A list that is handed over in numbers, for each record its kind and its own, laid down from `place` on. Refuses what its earliest record
@@ -139,5 +138,5 @@ pub extern "C" fn tzq_write_list(given: &[i64], line: &mut [u8], place: usize) -
     ensures answer { result ≡ handed_length (answer_to line.old place (list_draft given.now)) }
     ensures line { line.new ≡ line_to line.old place (list_draft given.now) }
 {
-    handed::handed_length(shot_writer::write_list(given, line, place))
+    shot_writer::write_list(given, line, place).into()
 }

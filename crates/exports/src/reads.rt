@@ -6,9 +6,7 @@ ghost use Rattle.reading.specs.For.{read_for};
 ghost use Rattle.runtime_reading.specs.Reading.{read_runtime};
 ghost use Rattle.exports.specs.Handed.{handed_answer, handed_read};
 
-use crate::handed;
 use crate::handed::{TzqCount, TzqRead};
-use reading::Stated;
 use timecodes::Kind;
 
 // What a text reads as at a rate, a length or a position, with no film format stated: a label or a footage. Refuses 6: no such rate; 1: no
@@ -16,9 +14,9 @@ use timecodes::Kind;
 // 3: a dropped label; 5: the count is out of bounds.
 #[unsafe(no_mangle)]
 pub extern "C" fn tzq_read(text: &[u8], rate: u64, position: bool) -> TzqRead
-    ensures { result ≡ handed_read (read_for (kind_from position) text.now Stated.Nothing rate) }
+    ensures { result ≡ handed_read (read_for (kind_from position) text.now None rate) }
 {
-    handed::handed_read(reading::read_text(text, Stated::Nothing, rate, Kind::from(position)))
+    reading::read_text(text, None, rate, Kind::from(position)).into()
 }
 
 // What a text reads as at a rate, a length or a position, with a film format stated: a footage only. Refuses 6: no such rate or film format; 1: no shape; 2: a
@@ -26,14 +24,9 @@ pub extern "C" fn tzq_read(text: &[u8], rate: u64, position: bool) -> TzqRead
 // bounds.
 #[unsafe(no_mangle)]
 pub extern "C" fn tzq_read_as(text: &[u8], format: u64, rate: u64, position: bool) -> TzqRead
-    ensures { result ≡ handed_read (read_for (kind_from position) text.now (Stated.Format format) rate) }
+    ensures { result ≡ handed_read (read_for (kind_from position) text.now (Some format) rate) }
 {
-    handed::handed_read(reading::read_text(
-        text,
-        Stated::Format(format),
-        rate,
-        Kind::from(position),
-    ))
+    reading::read_text(text, Some(format), rate, Kind::from(position)).into()
 }
 
 // What a runtime's text reads as at a rate, a length or a position. Refuses 6: no such rate; 1: no shape; 2: a field of over 9 digits or a fraction of over 6;
@@ -42,5 +35,5 @@ pub extern "C" fn tzq_read_as(text: &[u8], format: u64, rate: u64, position: boo
 pub extern "C" fn tzq_read_runtime(text: &[u8], rate: u64, position: bool) -> TzqCount
     ensures { result ≡ handed_answer (settled (kind_from position) (read_runtime text.now rate)) }
 {
-    handed::handed_answer(runtime_reading::read_runtime(text, rate, Kind::from(position)))
+    runtime_reading::read_runtime(text, rate, Kind::from(position)).into()
 }

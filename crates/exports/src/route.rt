@@ -4,7 +4,8 @@ ghost use Rattle.router.specs.Route.{route_of};
 ghost use Rattle.exports.specs.HandedRoute.{handed_routed};
 
 use crate::handed;
-use router::Routed;
+use answers::Refusal;
+use router::Shards;
 
 // The first shard to ask and the one after the last, both 0 where there is none. Refused: both 0, and the place in the label.
 #[repr(C)]
@@ -17,22 +18,24 @@ pub struct TzqShards {
 }
 
 // The shards, or the refusal.
-fn handed_routed(a: Routed) -> TzqShards
-    ensures { result ≡ handed_routed a }
-{
-    match a {
-        Routed::Shards { first, after } => TzqShards {
-            refused: 0,
-            place: 0,
-            first,
-            after,
-        },
-        Routed::Refused(e) => TzqShards {
-            refused: handed::wide(e.number),
-            place: e.place,
-            first: 0,
-            after: 0,
-        },
+impl From<Result<Shards, Refusal>> for TzqShards {
+    ghost from_gives = { λ a t. t ≡ handed_routed a };
+
+    fn from(a: Result<Shards, Refusal>) -> TzqShards {
+        match a {
+            Ok(shards) => TzqShards {
+                refused: 0,
+                place: 0,
+                first: shards.first,
+                after: shards.after,
+            },
+            Err(e) => TzqShards {
+                refused: handed::number_of(e),
+                place: e.place,
+                first: 0,
+                after: 0,
+            },
+        }
     }
 }
 
@@ -49,5 +52,5 @@ pub extern "C" fn tzq_route(
 ) -> TzqShards
     ensures { result ≡ handed_routed (route_of rate firsts.now ends.now length text.now) }
 {
-    handed_routed(router::route(rate, firsts, ends, length, text))
+    router::route(rate, firsts, ends, length, text).into()
 }

@@ -9,7 +9,6 @@ ghost use Rattle.arithmetic.specs.Compare.{compare_of};
 ghost use Rattle.arithmetic.specs.Count.{neg_of, abs_of, rebase_of};
 ghost use Rattle.exports.specs.Handed.{timecode_from, handed_answer, handed_order};
 
-use crate::handed;
 use crate::handed::{TzqCount, TzqOrder, TzqTimecode};
 
 // The sum at the left one's rate; a position with a length is a position, reduced by whole days. Refuses 6: no such rate; 15: two positions;
@@ -18,7 +17,7 @@ use crate::handed::{TzqCount, TzqOrder, TzqTimecode};
 pub extern "C" fn tzq_add(a: TzqTimecode, b: TzqTimecode) -> TzqCount
     ensures { result ≡ handed_answer (add_of (timecode_from a) (timecode_from b)) }
 {
-    handed::handed_answer(arithmetic::add(handed::timecode_from(a), handed::timecode_from(b)))
+    arithmetic::add(a.into(), b.into()).into()
 }
 
 // The difference at the left one's rate; a position less a length is a position, reduced by whole days, and less a position a length. Refuses
@@ -27,7 +26,7 @@ pub extern "C" fn tzq_add(a: TzqTimecode, b: TzqTimecode) -> TzqCount
 pub extern "C" fn tzq_sub(a: TzqTimecode, b: TzqTimecode) -> TzqCount
     ensures { result ≡ handed_answer (sub_of (timecode_from a) (timecode_from b)) }
 {
-    handed::handed_answer(arithmetic::sub(handed::timecode_from(a), handed::timecode_from(b)))
+    arithmetic::sub(a.into(), b.into()).into()
 }
 
 // How two timecodes compare, by instant. Refuses 6: no such rate; 15: a position and a length; 5: a count is out of bounds.
@@ -35,7 +34,7 @@ pub extern "C" fn tzq_sub(a: TzqTimecode, b: TzqTimecode) -> TzqCount
 pub extern "C" fn tzq_cmp(a: TzqTimecode, b: TzqTimecode) -> TzqOrder
     ensures { result ≡ handed_order (compare_of (timecode_from a) (timecode_from b)) }
 {
-    handed::handed_order(arithmetic::cmp(handed::timecode_from(a), handed::timecode_from(b)))
+    arithmetic::cmp(a.into(), b.into()).into()
 }
 
 // The product of a length with p/q, rounded. Refuses 6: no such rate; 15: a position; 5: the count or the factor, or then the resulting count,
@@ -44,7 +43,7 @@ pub extern "C" fn tzq_cmp(a: TzqTimecode, b: TzqTimecode) -> TzqOrder
 pub extern "C" fn tzq_mul(tc: TzqTimecode, p: i64, q: u64) -> TzqCount
     ensures { result ≡ handed_answer (mul_of (timecode_from tc) p q) }
 {
-    handed::handed_answer(arithmetic::mul(handed::timecode_from(tc), p, q))
+    arithmetic::mul(tc.into(), p, q).into()
 }
 
 // The quotient of a length by a whole number, cut off toward zero. Refuses 6: no such rate; 15: a position; 5: the count is out of bounds;
@@ -53,7 +52,7 @@ pub extern "C" fn tzq_mul(tc: TzqTimecode, p: i64, q: u64) -> TzqCount
 pub extern "C" fn tzq_div(tc: TzqTimecode, n: i64) -> TzqCount
     ensures { result ≡ handed_answer (div_of (timecode_from tc) n) }
 {
-    handed::handed_answer(arithmetic::div(handed::timecode_from(tc), n))
+    arithmetic::div(tc.into(), n).into()
 }
 
 // What `tzq_div` leaves, with the dividend's sign. Refuses as `tzq_div` does.
@@ -61,7 +60,7 @@ pub extern "C" fn tzq_div(tc: TzqTimecode, n: i64) -> TzqCount
 pub extern "C" fn tzq_rem(tc: TzqTimecode, n: i64) -> TzqCount
     ensures { result ≡ handed_answer (rem_of (timecode_from tc) n) }
 {
-    handed::handed_answer(arithmetic::rem(handed::timecode_from(tc), n))
+    arithmetic::rem(tc.into(), n).into()
 }
 
 // The quotient of a length by p/q, rounded down. Refuses 6: no such rate; 15: a position; 5: the count or the divisor is out of bounds;
@@ -70,7 +69,7 @@ pub extern "C" fn tzq_rem(tc: TzqTimecode, n: i64) -> TzqCount
 pub extern "C" fn tzq_divq(tc: TzqTimecode, p: i64, q: u64) -> TzqCount
     ensures { result ≡ handed_answer (divq_of (timecode_from tc) p q) }
 {
-    handed::handed_answer(arithmetic::divq(handed::timecode_from(tc), p, q))
+    arithmetic::divq(tc.into(), p, q).into()
 }
 
 // The remainder by p/q, with the dividend's sign, rounded. Refuses as `tzq_divq` does.
@@ -78,7 +77,7 @@ pub extern "C" fn tzq_divq(tc: TzqTimecode, p: i64, q: u64) -> TzqCount
 pub extern "C" fn tzq_remq(tc: TzqTimecode, p: i64, q: u64) -> TzqCount
     ensures { result ≡ handed_answer (remq_of (timecode_from tc) p q) }
 {
-    handed::handed_answer(arithmetic::remq(handed::timecode_from(tc), p, q))
+    arithmetic::remq(tc.into(), p, q).into()
 }
 
 // The negated count of a length. Refuses 6: no such rate; 15: a position; 5: the count is out of bounds.
@@ -86,7 +85,7 @@ pub extern "C" fn tzq_remq(tc: TzqTimecode, p: i64, q: u64) -> TzqCount
 pub extern "C" fn tzq_neg(tc: TzqTimecode) -> TzqCount
     ensures { result ≡ handed_answer (neg_of (timecode_from tc)) }
 {
-    handed::handed_answer(arithmetic::neg(handed::timecode_from(tc)))
+    arithmetic::neg(tc.into()).into()
 }
 
 // The absolute count of a length. Refuses 6: no such rate; 15: a position; 5: the count is out of bounds.
@@ -94,7 +93,7 @@ pub extern "C" fn tzq_neg(tc: TzqTimecode) -> TzqCount
 pub extern "C" fn tzq_abs(tc: TzqTimecode) -> TzqCount
     ensures { result ≡ handed_answer (abs_of (timecode_from tc)) }
 {
-    handed::handed_answer(arithmetic::abs(handed::timecode_from(tc)))
+    arithmetic::abs(tc.into()).into()
 }
 
 // A length's count at another rate. Refuses 6: either rate is none; 15: a position; 5: the count is out of bounds.
@@ -102,5 +101,5 @@ pub extern "C" fn tzq_abs(tc: TzqTimecode) -> TzqCount
 pub extern "C" fn tzq_rebase(tc: TzqTimecode, rate: u64) -> TzqCount
     ensures { result ≡ handed_answer (rebase_of (timecode_from tc) rate) }
 {
-    handed::handed_answer(arithmetic::rebase(handed::timecode_from(tc), rate))
+    arithmetic::rebase(tc.into(), rate).into()
 }

@@ -5,7 +5,6 @@ ghost use Rattle.film.specs.Film.{format_at};
 ghost use Rattle.minutes.specs.Minutes.{minute_at};
 ghost use Rattle.exports.specs.Handed.{handed_count, handed_rate, handed_format};
 
-use crate::handed;
 use crate::handed::{TzqCount, TzqFormat, TzqRate};
 
 // The row of a rate. Refuses 6: no such rate.
@@ -13,7 +12,7 @@ use crate::handed::{TzqCount, TzqFormat, TzqRate};
 pub extern "C" fn tzq_rate(no: u64) -> TzqRate
     ensures { result ≡ handed_rate (rate_at no) }
 {
-    handed::handed_rate(rates::framerate_at(no))
+    rates::framerate_at(no).into()
 }
 
 // How many labels a minute drops, but each tenth: 2 at rate 5, 4 at rate 11, else 0.
@@ -29,7 +28,7 @@ pub extern "C" fn tzq_drop_frames_per_minute(no: u64) -> u64
 pub extern "C" fn tzq_format(no: u64) -> TzqFormat
     ensures { result ≡ handed_format (format_at no) }
 {
-    handed::handed_format(film::format_at(no))
+    film::format_at(no).into()
 }
 
 // The first frame number of a minute of a 29.97 drop day, 0 to 1439. Refuses 5: any other minute.
@@ -37,5 +36,5 @@ pub extern "C" fn tzq_format(no: u64) -> TzqFormat
 pub extern "C" fn tzq_minute_start(minute: u64) -> TzqCount
     ensures { result ≡ handed_count (minute_at minute) }
 {
-    handed::handed_count(minutes::minute_start(minute))
+    minutes::minute_start(minute).into()
 }

@@ -7,7 +7,6 @@ ghost use Rattle.time.specs.Ticks.{ticks_of};
 ghost use Rattle.chains.specs.Chain.{convert_of};
 ghost use Rattle.exports.specs.Handed.{timecode_from, handed_answer, handed_ticks, handed_timecode, SecondsHanded};
 
-use crate::handed;
 use crate::handed::{TzqConverted, TzqCount, TzqSeconds, TzqTicks, TzqTimecode};
 use timecodes::Kind;
 
@@ -16,7 +15,7 @@ use timecodes::Kind;
 pub extern "C" fn tzq_with_frames(count: i64, rate: u64, position: bool) -> TzqCount
     ensures { result ≡ handed_answer (settled (kind_from position) (frames_at count rate)) }
 {
-    handed::handed_answer(time::with_frames(count, rate, Kind::from(position)))
+    time::with_frames(count, rate, Kind::from(position)).into()
 }
 
 // The frame nearest to a number of ticks, a length or a position. Refuses 6: no such rate; 5: the resulting count is out of bounds.
@@ -24,7 +23,7 @@ pub extern "C" fn tzq_with_frames(count: i64, rate: u64, position: bool) -> TzqC
 pub extern "C" fn tzq_with_premiere_ticks(ticks: i64, rate: u64, position: bool) -> TzqCount
     ensures { result ≡ handed_answer (settled (kind_from position) (ticks_at ticks rate)) }
 {
-    handed::handed_answer(time::with_premiere_ticks(ticks, rate, Kind::from(position)))
+    time::with_premiere_ticks(ticks, rate, Kind::from(position)).into()
 }
 
 // The frame nearest to p/q seconds, a length or a position. Refuses 6: no such rate; 5: p or q, or then the resulting count, is out of bounds.
@@ -32,7 +31,7 @@ pub extern "C" fn tzq_with_premiere_ticks(ticks: i64, rate: u64, position: bool)
 pub extern "C" fn tzq_with_seconds(p: i64, q: u64, rate: u64, position: bool) -> TzqCount
     ensures { result ≡ handed_answer (settled (kind_from position) (seconds_at p q rate)) }
 {
-    handed::handed_answer(time::with_seconds(p, q, rate, Kind::from(position)))
+    time::with_seconds(p, q, rate, Kind::from(position)).into()
 }
 
 // The ticks of a timecode, exactly. Refuses 6: no such rate; 5: the count is out of bounds.
@@ -40,7 +39,7 @@ pub extern "C" fn tzq_with_seconds(p: i64, q: u64, rate: u64, position: bool) ->
 pub extern "C" fn tzq_premiere_ticks(tc: TzqTimecode) -> TzqTicks
     ensures { result ≡ handed_ticks (ticks_of (timecode_from tc)) }
 {
-    handed::handed_ticks(time::premiere_ticks(handed::timecode_from(tc)))
+    time::premiere_ticks(tc.into()).into()
 }
 
 // The seconds of a timecode, exactly, in lowest terms. Refuses 6: no such rate; 5: the count is out of bounds.
@@ -48,7 +47,7 @@ pub extern "C" fn tzq_premiere_ticks(tc: TzqTimecode) -> TzqTicks
 pub extern "C" fn tzq_seconds(tc: TzqTimecode) -> TzqSeconds
     ensures { SecondsHanded (timecode_from tc) result }
 {
-    handed::handed_seconds(time::seconds(handed::timecode_from(tc)))
+    time::seconds(tc.into()).into()
 }
 
 // The timecode through a list of rates, the nearest frame at each in turn. Refuses 6: its own rate or any listed number is no rate;
@@ -57,5 +56,5 @@ pub extern "C" fn tzq_seconds(tc: TzqTimecode) -> TzqSeconds
 pub extern "C" fn tzq_convert(tc: TzqTimecode, list: &[u64]) -> TzqConverted
     ensures { result ≡ handed_timecode (convert_of (timecode_from tc) list.now) }
 {
-    handed::handed_timecode(chains::convert(handed::timecode_from(tc), list))
+    chains::convert(tc.into(), list).into()
 }

@@ -6,11 +6,11 @@ ghost use Rattle.reasons.specs.Why.{phrase_for, why_of};
 ghost use Rattle.exports.specs.HandedWhy.{stated_from, field_number, no_fact, limit_fact, first_fact, fact_numbers, told_reason, no_reason, handed_reason};
 
 use crate::handed;
+use crate::handed::TzqRead;
 use answers::Refusal;
 use faults::{Fault, Field};
 use label_writer::TimecodeSections;
-use reading::Stated;
-use reasons::{Fact, Reason, Reasoned};
+use reasons::{Fact, Reason};
 use timecodes::Kind;
 
 // What the reader answers (a number, 0: accepted; a place; a count, a footage's film format, and whether it is a position), which field is
@@ -49,13 +49,10 @@ struct FactNumbers {
 }
 
 // The film format that is stated, or none.
-fn stated_from(stated: bool, format: u64) -> Stated
+fn stated_from(stated: bool, format: u64) -> Option<u64>
     ensures { result ≡ stated_from stated format }
 {
-    if stated {
-        return Stated::Format(format);
-    }
-    Stated::Nothing
+    stated.then_some(format)
 }
 
 // The number that C has for a field.
@@ -74,6 +71,7 @@ fn field_number(field: Field) -> u64
 }
 
 // No fact: every number is 0.
+#[tactic(auto, unfolding(crate::specs::HandedWhy::no_fact))]
 fn no_fact() -> FactNumbers
     ensures { result ≡ no_fact }
 {
@@ -90,106 +88,109 @@ fn no_fact() -> FactNumbers
 }
 
 // A field at fault: its limit and its value, with their sign.
-fn limit_fact(f: Fault) -> FactNumbers
-    ensures { result ≡ limit_fact f }
-{
-    let field = f.field;
-    FactNumbers {
-        field: field_number(field),
-        limit: numbers::with_sign(f.minus, f.limit),
-        value: numbers::with_sign(f.minus, f.value),
-        negative: false,
-        hours: 0,
-        minutes: 0,
-        seconds: 0,
-        frames: 0,
+impl From<Fault> for FactNumbers {
+    ghost from_gives = { λ f n. n ≡ limit_fact f };
+
+    fn from(f: Fault) -> FactNumbers {
+        FactNumbers {
+            field: field_number(f.field),
+            limit: numbers::with_sign(f.minus, f.limit),
+            value: numbers::with_sign(f.minus, f.value),
+            ..no_fact()
+        }
     }
 }
 
 // The first allowed label.
-fn first_fact(s: TimecodeSections) -> FactNumbers
-    ensures { result ≡ first_fact s }
-{
-    FactNumbers {
-        field: 0,
-        limit: 0,
-        value: 0,
-        negative: s.negative,
-        hours: s.hours,
-        minutes: s.minutes,
-        seconds: s.seconds,
-        frames: s.frames,
+impl From<TimecodeSections> for FactNumbers {
+    ghost from_gives = { λ s n. n ≡ first_fact s };
+
+    fn from(s: TimecodeSections) -> FactNumbers {
+        FactNumbers {
+            negative: s.negative,
+            hours: s.hours,
+            minutes: s.minutes,
+            seconds: s.seconds,
+            frames: s.frames,
+            ..no_fact()
+        }
     }
 }
 
 // The numbers of any fact.
-fn fact_numbers(fact: Fact) -> FactNumbers
-    ensures { result ≡ fact_numbers fact }
-{
-    match fact {
-        Fact::Nothing => no_fact(),
-        Fact::Limit(f) => limit_fact(f),
-        Fact::First(s) => first_fact(s),
+impl From<Option<Fact>> for FactNumbers {
+    ghost from_gives = { λ fact n. n ≡ fact_numbers fact };
+
+    fn from(fact: Option<Fact>) -> FactNumbers {
+        match fact {
+            None => no_fact(),
+            Some(Fact::Limit(f)) => f.into(),
+            Some(Fact::First(s)) => s.into(),
+        }
     }
 }
 
 // What is told: the reader's numbers as `tzq_read` hands them over, and those of the fact.
-fn told_reason(r: Reason) -> TzqReason
-    ensures { result ≡ told_reason r }
-{
-    let read = r.read;
-    let fact = r.fact;
-    let a = handed::handed_read(read);
-    let n = fact_numbers(fact);
-    TzqReason {
-        refused: 0,
-        number: a.refused,
-        place: a.place,
-        count: a.count,
-        format: a.format,
-        position: a.position,
-        field: n.field,
-        limit: n.limit,
-        value: n.value,
-        negative: n.negative,
-        hours: n.hours,
-        minutes: n.minutes,
-        seconds: n.seconds,
-        frames: n.frames,
-        length: r.length,
+impl From<Reason> for TzqReason {
+    ghost from_gives = { λ r t. t ≡ told_reason r };
+
+    fn from(r: Reason) -> TzqReason {
+        let a = TzqRead::from(r.read);
+        let n = FactNumbers::from(r.fact);
+        TzqReason {
+            refused: 0,
+            number: a.refused,
+            place: a.place,
+            count: a.count,
+            format: a.format,
+            position: a.position,
+            field: n.field,
+            limit: n.limit,
+            value: n.value,
+            negative: n.negative,
+            hours: n.hours,
+            minutes: n.minutes,
+            seconds: n.seconds,
+            frames: n.frames,
+            length: r.length,
+        }
     }
 }
 
 // A refusal of the tool's own: every other number is 0.
-fn no_reason(e: Refusal) -> TzqReason
-    ensures { result ≡ no_reason e }
-{
-    TzqReason {
-        refused: handed::wide(e.number),
-        number: 0,
-        place: 0,
-        count: 0,
-        format: 0,
-        position: false,
-        field: 0,
-        limit: 0,
-        value: 0,
-        negative: false,
-        hours: 0,
-        minutes: 0,
-        seconds: 0,
-        frames: 0,
-        length: 0,
+impl From<Refusal> for TzqReason {
+    ghost from_gives = { λ e t. t ≡ no_reason e };
+
+    fn from(e: Refusal) -> TzqReason {
+        TzqReason {
+            refused: handed::number_of(e),
+            number: 0,
+            place: 0,
+            count: 0,
+            format: 0,
+            position: false,
+            field: 0,
+            limit: 0,
+            value: 0,
+            negative: false,
+            hours: 0,
+            minutes: 0,
+            seconds: 0,
+            frames: 0,
+            length: 0,
+        }
     }
 }
 
 // What is told, or the refusal.
-fn handed_reason(a: Reasoned) -> TzqReason
-    ensures { result ≡ handed_reason a }
-{
-    match a {
-        Reasoned::Told(r) => told_reason(r),
-        Reasoned::Refused(e) => no_reason(e),
+impl From<Result<Reason, Refusal>> for TzqReason {
+    ghost from_gives = { λ a t. t ≡ handed_reason a };
+
+    fn from(a: Result<Reason, Refusal>) -> TzqReason {
+        match a {
+            Ok(r) => r.into(),
+            Err(e) => e.into(),
+        }
     }
 }
 
@@ -209,5 +210,5 @@ pub extern "C" fn tzq_why(
     ensures line { line.new ≡ line_to line.old place (Text (phrase_for (kind_from position) text.now (stated_from stated format) rate)) }
 {
     let said = stated_from(stated, format);
-    handed_reason(reasons::why(text, said, rate, Kind::from(position), line, place))
+    reasons::why(text, said, rate, Kind::from(position), line, place).into()
 }

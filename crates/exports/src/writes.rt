@@ -7,7 +7,6 @@ ghost use Rattle.footage_writer.specs.FootageText.{footage_draft};
 ghost use Rattle.runtime_writer.specs.RuntimeText.{runtime_draft};
 ghost use Rattle.exports.specs.Handed.{timecode_from, handed_sections, handed_length};
 
-use crate::handed;
 use crate::handed::{TzqLength, TzqSections, TzqTimecode};
 
 // The sections of a timecode's label. Refuses 6: no such rate; 5: the count is out of bounds.
@@ -15,7 +14,7 @@ use crate::handed::{TzqLength, TzqSections, TzqTimecode};
 pub extern "C" fn tzq_sections(tc: TzqTimecode) -> TzqSections
     ensures { result ≡ handed_sections (sectioned (timecode_from tc)) }
 {
-    handed::handed_sections(label_writer::sections(handed::timecode_from(tc)))
+    label_writer::sections(tc.into()).into()
 }
 
 // The label of a timecode, laid down from `place` on. Refuses 6: no such rate; 5: the count is out of bounds; 8: no room.
@@ -24,7 +23,7 @@ pub extern "C" fn tzq_write_label(tc: TzqTimecode, line: &mut [u8], place: usize
     ensures answer { result ≡ handed_length (answer_to line.old place (label_draft (timecode_from tc))) }
     ensures line { line.new ≡ line_to line.old place (label_draft (timecode_from tc)) }
 {
-    handed::handed_length(label_writer::write_label(handed::timecode_from(tc), line, place))
+    label_writer::write_label(tc.into(), line, place).into()
 }
 
 // The footage of a timecode in a film format, laid down from `place` on. Refuses 6: no such rate, or no such film format; 5: the
@@ -39,12 +38,7 @@ pub extern "C" fn tzq_write_footage(
     ensures answer { result ≡ handed_length (answer_to line.old place (footage_draft (timecode_from tc) format)) }
     ensures line { line.new ≡ line_to line.old place (footage_draft (timecode_from tc) format) }
 {
-    handed::handed_length(footage_writer::write_footage(
-        handed::timecode_from(tc),
-        format,
-        line,
-        place,
-    ))
+    footage_writer::write_footage(tc.into(), format, line, place).into()
 }
 
 // The runtime of a timecode to a precision, laid down from `place` on. Refuses 6: no such rate; 5: the count is out of bounds, or
@@ -59,10 +53,5 @@ pub extern "C" fn tzq_write_runtime(
     ensures answer { result ≡ handed_length (answer_to line.old place (runtime_draft (timecode_from tc) precision)) }
     ensures line { line.new ≡ line_to line.old place (runtime_draft (timecode_from tc) precision) }
 {
-    handed::handed_length(runtime_writer::write_runtime(
-        handed::timecode_from(tc),
-        precision,
-        line,
-        place,
-    ))
+    runtime_writer::write_runtime(tc.into(), precision, line, place).into()
 }

@@ -7,14 +7,13 @@ ghost use Rattle.runtime_reading.specs.Reading.{read_runtime};
 ghost use Rattle.exports.specs.Handed.{handed_answer, handed_read};
 
 use exports::handed::{TzqCount, TzqRead};
-use reading::Stated;
 
 // What a text reads as at a rate, a length or a position, with no film format stated: a label or a footage. Refuses 6: no such rate; 1: no
 // shape; 2: a field of over 9 digits; 13: a footage that cannot be on the film; 14: a label of a position that is not strict or has a sign;
 // 3: a dropped label; 5: the count is out of bounds.
 #[unsafe(no_mangle)]
 pub extern "C" fn tzq_read(text: &[u8], rate: u64, position: bool) -> TzqRead
-    ensures { result ≡ handed_read (read_for (kind_from position) text.now Stated.Nothing rate) }
+    ensures { result ≡ handed_read (read_for (kind_from position) text.now None rate) }
 {
     exports::reads::tzq_read(text, rate, position)
 }
@@ -24,7 +23,7 @@ pub extern "C" fn tzq_read(text: &[u8], rate: u64, position: bool) -> TzqRead
 // bounds.
 #[unsafe(no_mangle)]
 pub extern "C" fn tzq_read_as(text: &[u8], format: u64, rate: u64, position: bool) -> TzqRead
-    ensures { result ≡ handed_read (read_for (kind_from position) text.now (Stated.Format format) rate) }
+    ensures { result ≡ handed_read (read_for (kind_from position) text.now (Some format) rate) }
 {
     exports::reads::tzq_read_as(text, format, rate, position)
 }

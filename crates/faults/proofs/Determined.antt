@@ -2,8 +2,6 @@
 -- Assumes nothing.
 use mathlib.Core.Path.{sym, ap, ◌∙◌}
 use Rattle.outcomes.specs.Outcome.{Determined}
-use Rattle.faults.specs.contracts.is_none as is_none
-use Rattle.faults.proofs.is_none.Reads as is-none-reads
 use Rattle.faults.specs.contracts.under as under
 use Rattle.faults.proofs.under.Reads as under-reads
 use Rattle.faults.specs.contracts.exactly as exactly
@@ -12,11 +10,6 @@ use Rattle.faults.specs.contracts.sign_fault as sign-fault
 use Rattle.faults.proofs.sign_fault.Reads as sign-fault-reads
 use Rattle.faults.specs.contracts.count_fault as count-fault
 use Rattle.faults.proofs.count_fault.Reads as count-fault-reads
-use Rattle.faults.specs.contracts.leftmost as leftmost
-use Rattle.faults.proofs.leftmost.Reads as leftmost-reads
-
-pub is-none-determined : Determined is_none.ended is-none-reads.Asked is-none-reads.Learnt
-is-none-determined κs a asked x y p q = ap (λ z. (z, x.1)) (p ∙ sym q)
 
 pub under-determined : Determined under.ended under-reads.Asked under-reads.Learnt
 under-determined κs a asked x y p q = ap (λ z. (z, x.1)) (p ∙ sym q)
@@ -29,6 +22,3 @@ sign-fault-determined κs a asked x y p q = ap (λ z. (z, x.1)) (p ∙ sym q)
 
 pub count-fault-determined : Determined count-fault.ended count-fault-reads.Asked count-fault-reads.Learnt
 count-fault-determined κs a asked x y p q = ap (λ z. (z, x.1)) (p ∙ sym q)
-
-pub leftmost-determined : Determined leftmost.ended leftmost-reads.Asked leftmost-reads.Learnt
-leftmost-determined κs a asked x y p q = ap (λ z. (z, x.1)) (p ∙ sym q)

@@ -1,6 +1,7 @@
 -- Laws of faults that callers cite (BEHAVIOUR: Why): when there is none, and that the limit found is the nearest allowed value.
 -- Assumes nothing.
-use Rattle.std.specs.Prelude.{ℕ, suc, ◌-◌, ◌≤◌, ◌<◌, ◌≡◌, refl, Bool, true, false, cond, ◌&&◌, not, T, ltb, leb, eqb, ℤ, pos, negsuc, neg_ℤ, nat_abs, ◌-ℤ◌}
+use Rattle.faults.specs.declared.Fault.{Fault}
+use Rattle.std.specs.Prelude.{ℕ, suc, ◌-◌, ◌≤◌, ◌<◌, ◌≡◌, refl, Bool, true, false, cond, ◌&&◌, not, T, ltb, leb, eqb, ℤ, pos, negsuc, neg_ℤ, nat_abs, ◌-ℤ◌, Option, Some, None, is_some}
 use Rattle.std.proofs.Common.{sym, ap, ◌∙◌, subst, arith, leb-true, lt-ltb, le-ltb}
 use Rattle.std.proofs.lemmas.Bool.{lt-leb}
 use Rattle.std.proofs.Math.IntN.{neg_ℤ-neg_ℤ}
@@ -10,16 +11,19 @@ use Rattle.numbers.specs.DistanceLaws.{far, far-across, far-neg}
 use Rattle.answers.specs.Refusals.{most_count, is_count}
 use Rattle.faults.specs.declared.Field.{Field}
 use Rattle.faults.specs.declared.Field.TheVariants.{Count}
-use Rattle.faults.specs.declared.Found.{Found}
-use Rattle.faults.specs.declared.Found.TheVariants.{NoFault, At}
 use Rattle.faults.specs.Faults.{NearestAllowed, fault, is_none, under, exactly, sign_fault, count_fault, leftmost}
 
 -- ---- when there is none
+-- what Option's own test answers
+pub none_told : {b : Bool} (found : Option Fault) → is_some found ≡ not b → b ≡ is_none found
+none_told {b = true} found e = sym (ap not e)
+none_told {b = false} found e = sym (ap not e)
+
 pub under_none : (field : Field) (bound value : ℕ) → is_none (under field bound value) ≡ ltb value bound
 unfolding under
 under_none field bound value = by (ltb value bound)
   where
-    by : (t : Bool) → is_none (cond t NoFault (At (fault field false (bound - 1) value))) ≡ t
+    by : (t : Bool) → is_none (cond t None (Some (fault field false (bound - 1) value))) ≡ t
     by true = refl
     by false = refl
 
@@ -27,7 +31,7 @@ pub exactly-none : (field : Field) (only value : ℕ) → is_none (exactly field
 unfolding exactly
 exactly-none field only value = by (eqb value only)
   where
-    by : (t : Bool) → is_none (cond t NoFault (At (fault field false only value))) ≡ t
+    by : (t : Bool) → is_none (cond t None (Some (fault field false only value))) ≡ t
     by true = refl
     by false = refl
 
@@ -39,36 +43,36 @@ pub count_none : (minus : Bool) (m : ℕ) → is_none (count_fault minus m) ≡ 
 unfolding count_fault
 count_none minus m = by (leb m most_count)
   where
-    by : (t : Bool) → is_none (cond t NoFault (At (fault Count minus most_count m))) ≡ t
+    by : (t : Bool) → is_none (cond t None (Some (fault Count minus most_count m))) ≡ t
     by true = refl
     by false = refl
 
-pub leftmost-none : (left right : Found) → is_none (leftmost left right) ≡ (is_none left && is_none right)
-leftmost-none NoFault right = refl
-leftmost-none (At f) right = refl
+pub leftmost-none : (left right : Option Fault) → is_none (leftmost left right) ≡ (is_none left && is_none right)
+leftmost-none None right = refl
+leftmost-none (Some f) right = refl
 
 -- ---- what is found by a test
-pub leftmost-other : (left right : Found) → is_none left ≡ true → leftmost left right ≡ right
-leftmost-other NoFault right e = refl
-leftmost-other (At f) right e = absurd (subst T (sym e) tt)
+pub leftmost-other : (left right : Option Fault) → is_none left ≡ true → leftmost left right ≡ right
+leftmost-other None right e = refl
+leftmost-other (Some f) right e = absurd (subst T (sym e) tt)
 
-pub leftmost-own : (left right : Found) → is_none left ≡ false → leftmost left right ≡ left
-leftmost-own NoFault right e = absurd (subst T e tt)
-leftmost-own (At f) right e = refl
+pub leftmost-own : (left right : Option Fault) → is_none left ≡ false → leftmost left right ≡ left
+leftmost-own None right e = absurd (subst T e tt)
+leftmost-own (Some f) right e = refl
 
-pub under_at : (field : Field) (bound value : ℕ) → bound ≤ value → under field bound value ≡ At (fault field false (bound - 1) value)
+pub under_at : (field : Field) (bound value : ℕ) → bound ≤ value → under field bound value ≡ Some (fault field false (bound - 1) value)
 unfolding under
 under_at field bound value h = rw (le-ltb value bound h)
 
-pub under-not : (field : Field) (bound value : ℕ) → value < bound → under field bound value ≡ NoFault
+pub under-not : (field : Field) (bound value : ℕ) → value < bound → under field bound value ≡ None
 unfolding under
 under-not field bound value h = rw (lt-ltb value bound h)
 
-pub exactly-at : (field : Field) (only value : ℕ) → eqb value only ≡ false → exactly field only value ≡ At (fault field false only value)
+pub exactly-at : (field : Field) (only value : ℕ) → eqb value only ≡ false → exactly field only value ≡ Some (fault field false only value)
 unfolding exactly
 exactly-at field only value e = rw e
 
-pub count_at : (minus : Bool) (m : ℕ) → most_count < m → count_fault minus m ≡ At (fault Count minus most_count m)
+pub count_at : (minus : Bool) (m : ℕ) → most_count < m → count_fault minus m ≡ Some (fault Count minus most_count m)
 unfolding count_fault
 count_at minus m h = rw (lt-leb m most_count h)
 

@@ -1,13 +1,13 @@
 -- What is at fault in a text (BEHAVIOUR: Why): a field, its value, and the nearest that is allowed there.
 -- Assumes nothing.
-use Rattle.std.specs.Prelude.{ℕ, ◌-◌, ◌<◌, ◌≡◌, Bool, true, false, cond, ltb, leb, eqb, ℤ, nat_abs, ◌-ℤ◌}
+use Rattle.std.specs.Prelude.{ℕ, ◌-◌, ◌<◌, ◌≡◌, Bool, true, false, cond, ltb, leb, eqb, ℤ, nat_abs, ◌-ℤ◌, Option, Some, None}
+use Rattle.std.specs.Option as option
+use Rattle.std.specs.Option.{option_or}
 use Rattle.numbers.specs.Sign.{signed}
 use Rattle.answers.specs.Refusals.{most_count}
 use Rattle.faults.specs.declared.Field.{Field}
 use Rattle.faults.specs.declared.Field.TheVariants.{Count, Sign}
 use Rattle.faults.specs.declared.Fault.{Fault}
-use Rattle.faults.specs.declared.Found.{Found}
-use Rattle.faults.specs.declared.Found.TheVariants.{NoFault, At}
 
 -- ---- what is right
 -- a value is not allowed, the limit is, and every other allowed value is farther away
@@ -27,28 +27,27 @@ value_of f = signed f.minus f.value
 abbrev pub fault : Field → (minus : Bool) (limit value : ℕ) → Fault
 fault field minus limit value = record { field = field; minus = minus; limit = limit; value = value }
 
-abbrev pub is_none : Found → Bool
-is_none NoFault = true
-is_none (At f) = false
+-- whether there is none
+abbrev pub is_none : Option Fault → Bool
+is_none found = option.is_none found
 
 -- a field whose values lie under a bound: the limit is the last of them
-unfoldable pub under : Field → (bound value : ℕ) → Found
-under field bound value = cond (ltb value bound) NoFault (At (fault field false (bound - 1) value))
+unfoldable pub under : Field → (bound value : ℕ) → Option Fault
+under field bound value = cond (ltb value bound) None (Some (fault field false (bound - 1) value))
 
 -- a field that has one value only
-unfoldable pub exactly : Field → (only value : ℕ) → Found
-exactly field only value = cond (eqb value only) NoFault (At (fault field false only value))
+unfoldable pub exactly : Field → (only value : ℕ) → Option Fault
+exactly field only value = cond (eqb value only) None (Some (fault field false only value))
 
 -- a sign where none may be: both are 0
-abbrev pub sign_fault : (minus : Bool) → Found
-sign_fault true = At (fault Sign false 0 0)
-sign_fault false = NoFault
+abbrev pub sign_fault : (minus : Bool) → Option Fault
+sign_fault true = Some (fault Sign false 0 0)
+sign_fault false = None
 
 -- a count outside its bounds: the limit is the bound on its side of zero
-unfoldable pub count_fault : (minus : Bool) (m : ℕ) → Found
-count_fault minus m = cond (leb m most_count) NoFault (At (fault Count minus most_count m))
+unfoldable pub count_fault : (minus : Bool) (m : ℕ) → Option Fault
+count_fault minus m = cond (leb m most_count) None (Some (fault Count minus most_count m))
 
 -- the one to the left, or where it has none the other
-abbrev pub leftmost : (left right : Found) → Found
-leftmost NoFault right = right
-leftmost (At f) right = At f
+abbrev pub leftmost : (left right : Option Fault) → Option Fault
+leftmost left right = option_or left right

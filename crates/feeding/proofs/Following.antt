@@ -2,37 +2,29 @@
 -- Assumes nothing.
 use Prim.Native.Nat.{ℕ, suc, ◌+◌, ◌-◌, ◌≤◌, ◌<◌, min}
 use mathlib.Core.Path.{◌≡◌, refl, sym, ap, ◌∙◌}
-use mathlib.Core.Logic.{◌⊎◌, inl, inr}
+use mathlib.Core.Logic.{◌⊎◌, inl, inr, ⊎_elim}
 use mathlib.Core.List.{List, [], ◌∷◌}
 use mathlib.Core.Bool.{Bool, true, false, cond, ◌&&◌}
 use native.Mathlib.Omega.{arith}
 use lib.Dec.{eqb, ltb}
 use lib.ListN.{length, take, drop, length-drop, drop_of_length-le}
 use lib.Seq.{take_all, drop-cons, drop-drop}
-use borrow.Author.Tests.{lt-ltb, le-ltb, ltb-true, ltb-false, leb-true, leb-false}
-use Rattle.lent.specs.Line.{has_room, fits}
-use Rattle.written.specs.declared.Written.{Written}
+use borrow.Author.Tests.{ltb-true, ltb-false, leb-true, leb-false}
+use Rattle.lent.specs.Line.{fits}
 use Rattle.written.specs.Written.{Text, answer_to, line_to, length_of}
 use Rattle.written.proofs.Laws.{text-written}
 use Rattle.written.proofs.Statements.{no_room_exactly}
 use Rattle.lines.specs.Output.{answer_text}
 use Rattle.streams.specs.declared.gathered.Gathered.{Gathered}
 use Rattle.streams.specs.declared.gathered.Step.{Step}
-use Rattle.streams.specs.Gathering.{no_byte, is_empty, taken, buffer_taken, Gathering, gathering, gather_from}
+use Rattle.streams.specs.Gathering.{no_byte, taken, buffer_taken, Gathering, gathering, gather_from}
 use Rattle.streams.specs.Sheet.{Sheet, sheet, put_on}
+use Rattle.streams.specs.Turns.{gone_on}
 use Rattle.streams.proofs.Gathering.{next_le, next-lt, next-within, gather-length}
 use Rattle.streams.proofs.Putting.{put-length}
-use Rattle.feeding.specs.declared.Fed.{Fed}
-use Rattle.feeding.specs.Feeding.{answered, Machine, machine, next, goes_on, After, taken_to, fed_from, fed_answer, fed_at, line_ended, stepped, finished}
+use Rattle.feeding.specs.Feeding.{answered, Machine, machine, next, goes_on, After, taken_to, fed_from, line_ended, stepped}
 
 -- ---- a byte more of the chunk, and room
-module _ (i n total used : ℕ) where
-  pub on-yes : (r : Bool) → i < n → r ≡ has_room total used 47 → r ≡ (ltb i n && goes_on total used)
-  on-yes r l e = e ∙ rw (lt-ltb i n l)
-
-  pub on-no : n ≤ i → false ≡ (ltb i n && goes_on total used)
-  on-no l = rw (le-ltb i n l)
-
 both_left : (x y : Bool) → (x && y) ≡ true → x ≡ true
 both_left true y e = refl
 both_left false y e = e
@@ -43,14 +35,14 @@ both_right false y e = absurd (let z : ◌≡◌ {A = ℕ} 0 1 = cc in omega ari
 
 -- ---- the answer to what is kept of a line
 module _ (buffer : List ℕ) (len n : ℕ) (e : n ≡ min len (length buffer)) where
-  part-is : take (n - 0) buffer ≡ take len buffer
+  part-is : take n buffer ≡ take len buffer
   part-is = by (ltb len (length buffer)) refl
     where
-      by : (x : Bool) → ltb len (length buffer) ≡ x → take (n - 0) buffer ≡ take len buffer
-      by true f = let m : n - 0 ≡ len = omega (arith, ltb-true len (length buffer) f) in rw m
+      by : (x : Bool) → ltb len (length buffer) ≡ x → take n buffer ≡ take len buffer
+      by true f = let m : n ≡ len = omega (arith, ltb-true len (length buffer) f) in rw m
       by false f =
           let l = ltb-false len (length buffer) f in
-          take_all (n - 0) buffer (omega arith) ∙ sym (take_all len buffer l)
+          take_all n buffer (omega arith) ∙ sym (take_all len buffer l)
 
 module _ (out : List ℕ) (used : ℕ) (t : List ℕ) where
   -- a text that fits is answered by its length, any other by a refusal
@@ -82,66 +74,31 @@ module _ (out : List ℕ) (used : ℕ) (t : List ℕ) where
       by true e = let h = leb-true (used + length t) (length out) e in inl (omega (arith, long-in h))
       by false e = inr (long-out (leb-false (used + length t) (length out) e))
 
-module _ (buffer : List ℕ) (g : Gathered) (out : List ℕ) (used n : ℕ) (e : n ≡ min g.len (length buffer)) where
-  text-is : answer_text (take (n - 0) buffer) ≡ answer_text (take g.len buffer)
-  text-is = ap answer_text (part-is buffer g.len n e)
-
-  -- what `answer` shows at its return
-  pub answer-is : (w : Written) (k : ℕ) (last : List ℕ) → w ≡ answer_to out used (Text (answer_text (take (n - 0) buffer)))
-      → last ≡ line_to out used (Text (answer_text (take (n - 0) buffer))) → k ≡ length_of w
-      → (used + k ≡ (answered buffer g (sheet out used)).used) × (last ≡ (answered buffer g (sheet out used)).bytes)
-  unfolding answered
-  answer-is w k last p q r =
-      let t = answer_text (take (n - 0) buffer) in (
-        ap (λ z. used + z) (r ∙ ap length_of p) ∙ laid-used out used t ∙ ap (λ z. (put_on (sheet out used) z).used) text-is,
-        q ∙ laid-bytes out used t ∙ ap (λ z. (put_on (sheet out used) z).bytes) text-is,
-      )
-
-module _ (buffer out : List ℕ) (g : Gathered) where
-  pub finished-none : is_empty g ≡ true → (0 ≡ (finished buffer out g).used) × (out ≡ (finished buffer out g).bytes)
-  unfolding finished
-  finished-none e = (rw e, rw e)
-
-  pub finished-last : (last : List ℕ) (r : ℕ) → is_empty g ≡ false
-      → (r ≡ (answered buffer g (sheet out 0)).used) × (last ≡ (answered buffer g (sheet out 0)).bytes)
-      → (r ≡ (finished buffer out g).used) × (last ≡ (finished buffer out g).bytes)
-  unfolding finished
-  finished-last last r e p = (p.0 ∙ rw e, p.1 ∙ rw e)
+-- what `answer` leaves: the answer behind what the sheet has
+pub answer-is : (buffer : List ℕ) (g : Gathered) (s : Sheet) (n k : ℕ) (last : List ℕ) → n ≡ min g.len (length buffer)
+    → k ≡ length_of (answer_to s.bytes s.used (Text (answer_text (take n buffer)))) → last ≡ line_to s.bytes s.used (Text (answer_text (take n buffer)))
+    → sheet last (s.used + k) ≡ answered buffer g s
+unfolding answered
+answer-is buffer g s n k last e p q =
+    let t = answer_text (take n buffer) in
+    rw (q ∙ laid-bytes s.bytes s.used t, p, laid-used s.bytes s.used t) (ap (λ z. put_on s (answer_text z)) (part-is buffer g.len n e))
 
 -- ---- the bytes up to the next newline
-module _ (chunk buffer out : List ℕ) (f : Fed) where
-  -- what `step` shows at a return
-  abbrev pub Steps : Fed → List ℕ → List ℕ → Type 0
-  Steps f' buffer' out' =
-      let e = stepped chunk (fed_at buffer out f) in (f' ≡ fed_answer e) × ((buffer' ≡ e.machine.buffer) × (out' ≡ e.machine.sheet.bytes))
-
-  module _ (st : Step) (buffer' : List ℕ)
-      (p : let e = gather_from f.eaten buffer f.gathered (drop f.eaten chunk) in (st ≡ e.step) × (buffer' ≡ e.buffer)) where
-    ended_is : (m : Machine) → line_ended st.ended (record { buffer = buffer'; step = st }) (sheet out f.used) ≡ m
-        → stepped chunk (fed_at buffer out f) ≡ taken_to m st.next
-    unfolding stepped
-    ended_is m q =
-        let e = gather_from f.eaten buffer f.gathered (drop f.eaten chunk) in
-        let same : record { buffer = buffer'; step = st } ≡ e =
-        ap (λ z. record { buffer = z; step = st }) p.1 ∙ ap (λ z. record { buffer = e.buffer; step = z }) p.0 in
-        sym (ap (λ (z : Gathering). taken_to (line_ended z.step.ended z (sheet out f.used)) z.step.next) same) ∙ ap (λ z. taken_to z st.next) q
-
-    pub step_end : (u : ℕ) (fresh : Gathered) (last : List ℕ) → st.ended ≡ true → fresh ≡ no_byte
-        → (u ≡ (answered buffer' st.gathered (sheet out f.used)).used) × (last ≡ (answered buffer' st.gathered (sheet out f.used)).bytes)
-        → Steps (record { gathered = fresh; used = u; eaten = st.next }) buffer' last
-    step_end u fresh last t n q =
-        let s = answered buffer' st.gathered (sheet out f.used) in
-        let e = ended_is (machine buffer' no_byte s) (rw t) in (
-          ap (λ z. record { gathered = z; used = u; eaten = st.next }) n
-              ∙ ap (λ z. record { gathered = no_byte; used = z; eaten = st.next }) q.0
-              ∙ sym (ap fed_answer e),
-          (sym (ap (λ z. z.machine.buffer) e), q.1 ∙ sym (ap (λ z. z.machine.sheet.bytes) e)),
-        )
-
-    pub step-goes : st.ended ≡ false → Steps (record { gathered = st.gathered; used = f.used; eaten = st.next }) buffer' out
-    step-goes t =
-        let e = ended_is (machine buffer' st.gathered (sheet out f.used)) (rw t) in
-        (sym (ap fed_answer e), (sym (ap (λ z. z.machine.buffer) e), sym (ap (λ z. z.machine.sheet.bytes) e)))
+-- a step of the loop of `feed`
+pub step-is : (chunk buffer : List ℕ) (s s' : Sheet) (g g' : Gathered) (eaten : ℕ) (st : Step) (buffer' : List ℕ)
+    → st ≡ (gather_from eaten buffer g (drop eaten chunk)).step → buffer' ≡ (gather_from eaten buffer g (drop eaten chunk)).buffer
+    → s' ≡ cond st.ended (answered buffer' st.gathered s) s → g' ≡ gone_on st
+    → taken_to (machine buffer' g' s') st.next ≡ stepped chunk (taken_to (machine buffer g s) eaten)
+unfolding stepped
+step-is chunk buffer s s' g g' eaten st buffer' p q r u =
+    rw (r, u, p, q) (by (gather_from eaten buffer g (drop eaten chunk)).step.ended)
+  where
+    by : (x : Bool)
+        → let e = gather_from eaten buffer g (drop eaten chunk) in
+        taken_to (machine e.buffer (cond x no_byte e.step.gathered) (cond x (answered e.buffer e.step.gathered s) s)) e.step.next
+        ≡ taken_to (line_ended x e s) e.step.next
+    by true = refl
+    by false = refl
 
 -- ---- the machine takes them one by one
 pub next-end : (m : Machine) (b : ℕ) → eqb b 10 ≡ true → next m b ≡ machine m.buffer no_byte (answered m.buffer m.gathered m.sheet)
@@ -263,12 +220,3 @@ module _ (chunk : List ℕ) (f : After) (r : Bool)
           → fed_from f.eaten f.machine (drop f.eaten chunk) ≡ f
       by true g u = rw (drop-cons chunk f.eaten 0 (ltb-true f.eaten (length chunk) g), u)
       by false g u = rw (drop_of_length-le chunk {i = f.eaten} (ltb-false f.eaten (length chunk) g))
-
--- the three equations of `step` are one of what is kept
-pub steps-is : (chunk buffer out : List ℕ) (f f' : Fed) (buffer' out' : List ℕ) → Steps chunk buffer out f f' buffer' out'
-    → fed_at buffer' out' f' ≡ stepped chunk (fed_at buffer out f)
-steps-is chunk buffer out f f' buffer' out' p =
-    let e = stepped chunk (fed_at buffer out f) in
-    ap (fed_at buffer' out') p.0
-    ∙ ap (λ z. fed_at z out' (fed_answer e)) p.1.0
-    ∙ ap (λ z. fed_at e.machine.buffer z (fed_answer e)) p.1.1

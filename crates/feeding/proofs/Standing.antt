@@ -20,7 +20,7 @@ use Rattle.streams.specs.Sheet.{Sheet, sheet, text_on}
 use Rattle.streams.proofs.Parting.{parted-end, parted-byte, each-cons}
 use Rattle.streams.proofs.Putting.{Laid, put_is, put-used}
 use Rattle.streams.proofs.Standing.{Stands, stands-none, stands-byte, stands-empty}
-use Rattle.feeding.specs.Feeding.{answered, Machine, machine, next, goes_on, After, taken_to, fed_from, begun, fed_of, finished}
+use Rattle.feeding.specs.Feeding.{answered, Machine, next, goes_on, After, taken_to, fed_from, begun, fed_of, finished}
 use Rattle.feeding.proofs.Following.{next-end, next-byte, next-length}
 
 -- ---- the answer: 65 bytes of a line are enough

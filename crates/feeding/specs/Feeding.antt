@@ -54,10 +54,10 @@ fed_of buffer out g chunk = fed_from 0 (begun buffer out g) chunk
 
 -- as the code has it: what is answered, and beside it the buffer and the sheet
 abbrev pub fed_answer : After → Fed
-fed_answer e = record { gathered = e.machine.gathered; used = e.machine.sheet.used; eaten = e.eaten }
+fed_answer e = record { gathered = e.machine.gathered; eaten = e.eaten }
 
-abbrev pub fed_at : (buffer out : List ℕ) → Fed → After
-fed_at buffer out f = taken_to (machine buffer f.gathered (sheet out f.used)) f.eaten
+abbrev pub fed_at : (buffer : List ℕ) → Sheet → Fed → After
+fed_at buffer s f = taken_to (machine buffer f.gathered s) f.eaten
 
 -- the bytes up to the next newline at once, and the answer to the line that ends there
 abbrev pub line_ended : Bool → Gathering → Sheet → Machine

@@ -1,12 +1,12 @@
 -- Film formats (BEHAVIOUR: Footage): formats 1 to 4: 4-perf, 3-perf, 2-perf on 35 mm (64 perfs a foot), and 16 mm (1 perf a frame, 20 a logical foot).
 -- Assumes nothing.
-use Rattle.std.specs.Prelude.{ℕ, ◌-◌, ◌%◌, Bool, not, ◌&&◌, List, [], ◌∷◌, leb, eqb, get_or}
+use Rattle.answers.specs.declared.Refusal.{Refusal}
+use Rattle.std.specs.Prelude.{ℕ, ◌-◌, ◌%◌, Bool, not, ◌&&◌, List, [], ◌∷◌, leb, eqb, get_or, Result, Ok, Err}
 use Rattle.answers.specs.Order.{Condition, when, unless}
 use Rattle.answers.specs.Refusals.{no_such}
+pub use Rattle.answers.specs.Refusals.{number_of}
 use Rattle.film.specs.declared.FilmFormat.{FilmFormat}
 use Rattle.film.specs.declared.FilmFormat.TheVariants.{FF35mm4perf, FF35mm3perf, FF35mm2perf, FF16mm}
-use Rattle.film.specs.declared.Filmed.{Filmed}
-use Rattle.film.specs.declared.Filmed.TheVariants.{Format, Refused}
 
 -- formats 1 to 4
 abbrev pub format_number : FilmFormat → ℕ
@@ -49,14 +49,10 @@ bad_format format = when no_such (not (is_format format))
 abbrev pub format_in : (format : ℕ) → FilmFormat
 format_in format = get_or formats (format - 1) FF35mm4perf
 
-unfoldable pub format_at : ℕ → Filmed
-format_at n = unless Refused (bad_format n ∷ []) (Format (format_in n))
+unfoldable pub format_at : ℕ → Result FilmFormat Refusal
+format_at n = unless Err (bad_format n ∷ []) (Ok (format_in n))
 
--- the refusal number of an answer (0: not refused), and its film format's number (a refusal's is 0)
-abbrev pub number_of : Filmed → ℕ
-number_of (Format format) = 0
-number_of (Refused e) = e.number
-
-abbrev pub format_of : Filmed → ℕ
-format_of (Format format) = format_number format
-format_of (Refused e) = 0
+-- the film format's number of an answer (a refusal's is 0)
+abbrev pub format_of : Result FilmFormat Refusal → ℕ
+format_of (Ok format) = format_number format
+format_of (Err e) = 0

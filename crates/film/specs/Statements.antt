@@ -1,9 +1,8 @@
 -- What holds of film beyond one call (BEHAVIOUR: Footage): the statements, in order. Proofs: proofs/Statements.antt.
 -- Assumes nothing.
-use Rattle.std.specs.Prelude.{ℕ, ◌+◌, ◌%◌, ◌<◌, ◌≡◌, Bool, true, false, ◌↔◌, ◌⊎◌}
+use Rattle.std.specs.Prelude.{ℕ, ◌+◌, ◌%◌, ◌<◌, ◌≡◌, Bool, true, false, ◌↔◌, ◌⊎◌, Ok}
 use Rattle.film.specs.declared.FilmFormat.{FilmFormat}
 use Rattle.film.specs.declared.FilmFormat.TheVariants.{FF35mm4perf, FF35mm3perf, FF35mm2perf, FF16mm}
-use Rattle.film.specs.declared.Filmed.TheVariants.{Format}
 use Rattle.film.specs.declared.Footage.{Footage}
 use Rattle.film.specs.Film.{format_number, format_at, allows_perf_field}
 use Rattle.film.specs.Footage.{footage_count, footage_of}
@@ -11,7 +10,7 @@ use Rattle.film.specs.OnFilm.{on_film}
 
 -- a film format and its number give each other back
 abbrev pub FormatNumbered : Type 0
-FormatNumbered = (n : ℕ) (format : FilmFormat) → (format_at n ≡ Format format) ↔ (n ≡ format_number format)
+FormatNumbered = (n : ℕ) (format : FilmFormat) → (format_at n ≡ Ok format) ↔ (n ≡ format_number format)
 
 -- only 3-perf has a perf field
 abbrev pub OnlyThreePerf : Type 0

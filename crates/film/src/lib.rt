@@ -10,11 +10,11 @@ ghost use Rattle.film.specs.Footage.{footage_count, footage_or, footage_of, foot
 ghost use Rattle.film.specs.OnFilm.{frames_in_foot, on_film};
 ghost use Rattle.film.specs.Faults.{marker_fault, film_fault};
 
-use answers::{Counted, Refusal};
-use faults::{Field, Found};
+use answers::{Cause, Refusal};
+use faults::{Fault, Field};
 
 // vtc's film formats: 4-perf, 3-perf and 2-perf on 35 mm, and 16 mm.
-#[derive(Clone, Copy)]
+#[derive(Clone, Copy, PartialEq, Eq)]
 pub enum FilmFormat {
     FF35mm4perf,
     FF35mm3perf,
@@ -22,19 +22,30 @@ pub enum FilmFormat {
     FF16mm,
 }
 
-// The film format of a number, or why there is none.
-#[derive(Clone, Copy)]
-pub enum Filmed {
-    Format(FilmFormat),
-    Refused(Refusal),
-}
-
 // What is written of a count: whole feet, frames of the foot begun, and the marker that 3-perf writes.
-#[derive(Clone, Copy)]
+#[derive(Clone, Copy, Default)]
 pub struct Footage {
     pub feet: u64,
     pub frames: u64,
     pub perf: u64,
+}
+
+impl TryFrom<u64> for FilmFormat {
+    type Error = Refusal;
+
+    ghost try_from_gives = { λ no made. made ≡ format_at no };
+
+    // The format of a number. Refuses 6: no such film format.
+    #[tactic(auto, unfolding(crate::specs::Film::format_at, crate::specs::Film::is_format))]
+    fn try_from(no: u64) -> Result<FilmFormat, Refusal> {
+        match no {
+            1 => Ok(FilmFormat::FF35mm4perf),
+            2 => Ok(FilmFormat::FF35mm3perf),
+            3 => Ok(FilmFormat::FF35mm2perf),
+            4 => Ok(FilmFormat::FF16mm),
+            _ => Err(Cause::NoSuch.into()),
+        }
+    }
 }
 
 impl FilmFormat {
@@ -67,9 +78,7 @@ impl FilmFormat {
         ensures { result ≡ perfs_per_foot_of self }
     {
         match self {
-            FilmFormat::FF35mm4perf => 64,
-            FilmFormat::FF35mm3perf => 64,
-            FilmFormat::FF35mm2perf => 64,
+            FilmFormat::FF35mm4perf | FilmFormat::FF35mm3perf | FilmFormat::FF35mm2perf => 64,
             FilmFormat::FF16mm => 20,
         }
     }
@@ -87,12 +96,8 @@ impl FilmFormat {
     {
         match self {
             FilmFormat::FF35mm4perf => 16,
-            FilmFormat::FF35mm3perf => {
-                if feet % 3 == 2 {
-                    return 22;
-                }
-                21
-            }
+            FilmFormat::FF35mm3perf if feet % 3 == 2 => 22,
+            FilmFormat::FF35mm3perf => 21,
             FilmFormat::FF35mm2perf => 32,
             FilmFormat::FF16mm => 20,
         }
@@ -100,65 +105,73 @@ impl FilmFormat {
 }
 
 // The marker of a footage, if it is marked: feet modulo 3.
-fn marker_fault(feet: u64, marked: bool, marker: u64) -> Found
+#[tactic(auto, unfolding(crate::specs::Faults::marker_fault))]
+fn marker_fault(feet: u64, marked: bool, marker: u64) -> Option<Fault>
     ensures { result ≡ marker_fault feet marked marker }
 {
-    if !marked {
-        return Found::NoFault;
+    if marked {
+        faults::exactly(Field::Marker, feet % 3, marker)
+    } else {
+        None
     }
-    faults::exactly(Field::Marker, feet % 3, marker)
 }
 
 // The first field from the left that no footage of that foot has: a frames number that does not occur in it, or a marker that is not feet
 // modulo 3.
-pub fn film_fault(format: FilmFormat, feet: u64, frames: u64, marked: bool, marker: u64) -> Found
+#[tactic(auto, unfolding(crate::specs::Faults::film_fault))]
+pub fn film_fault(
+    format: FilmFormat,
+    feet: u64,
+    frames: u64,
+    marked: bool,
+    marker: u64,
+) -> Option<Fault>
     ensures { result ≡ film_fault format feet frames marked marker }
 {
-    let first = faults::under(Field::Frames, format.frames_in_foot(feet), frames);
-    faults::leftmost(first, marker_fault(feet, marked, marker))
+    faults::under(Field::Frames, format.frames_in_foot(feet), frames).or(marker_fault(
+        feet, marked, marker,
+    ))
 }
 
 // Whether a footage can be on the film: none of its fields is at fault.
 pub fn on_film(format: FilmFormat, feet: u64, frames: u64, marked: bool, marker: u64) -> bool
     ensures { result ≡ on_film format feet frames marked marker }
 {
-    faults::is_none(film_fault(format, feet, frames, marked, marker))
+    film_fault(format, feet, frames, marked, marker).is_none()
 }
 
 // The film format of a number. Refuses 6: no such film format.
-pub fn format_at(no: u64) -> Filmed
+pub fn format_at(no: u64) -> Result<FilmFormat, Refusal>
     ensures { result ≡ format_at no }
 {
-    match no {
-        1 => Filmed::Format(FilmFormat::FF35mm4perf),
-        2 => Filmed::Format(FilmFormat::FF35mm3perf),
-        3 => Filmed::Format(FilmFormat::FF35mm2perf),
-        4 => Filmed::Format(FilmFormat::FF16mm),
-        _ => Filmed::Refused(answers::NO_SUCH),
-    }
+    FilmFormat::try_from(no)
 }
 
 // The count of feet and frames that were read, with this sign. Refuses 5: it is outside its bounds.
-pub fn footage_count(format: FilmFormat, minus: bool, feet: u64, frames: u64) -> Counted
+pub fn footage_count(
+    format: FilmFormat,
+    minus: bool,
+    feet: u64,
+    frames: u64,
+) -> Result<i64, Refusal>
     ensures { result ≡ held (signed minus (footage_count format feet frames)) }
 {
     answers::held(minus, footage_frames(format, feet, frames))
 }
 
 // The exact count of feet and frames, where each has at most 9 digits; a number beyond all bounds for others, whose count is no less.
+#[tactic(auto, unfolding(crate::specs::Footage::footage_or))]
 pub fn footage_frames(format: FilmFormat, feet: u64, frames: u64) -> u64
     ensures { result ≡ footage_or format feet frames }
 {
-    if feet >= answers::BEYOND {
-        return answers::BEYOND;
-    }
-    if frames >= answers::BEYOND {
+    if feet >= answers::BEYOND || frames >= answers::BEYOND {
         return answers::BEYOND;
     }
     count_of(format, feet, frames)
 }
 
 // The count of feet and frames. Asks at most 9 digits of each.
+#[tactic(auto, unfolding(crate::specs::Footage::footage_count))]
 fn count_of(format: FilmFormat, feet: u64, frames: u64) -> u64
     requires { (feet < beyond) × (frames < beyond) }
     ensures { result ≡ footage_count format feet frames }
@@ -172,15 +185,12 @@ fn count_of(format: FilmFormat, feet: u64, frames: u64) -> u64
 }
 
 // The feet and frames that are written of an absolute count; zeros for one outside its bounds.
+#[tactic(auto, unfolding(crate::specs::Footage::footage_in))]
 pub fn feet_and_frames(format: FilmFormat, f: u64) -> Footage
     ensures { result ≡ footage_in format f }
 {
     if f > answers::MOST_COUNT {
-        return Footage {
-            feet: 0,
-            frames: 0,
-            perf: 0,
-        };
+        return Footage::default();
     }
     footage_of(format, f)
 }

@@ -1,7 +1,8 @@
 -- A text reads as its shape says, in one way only, and each fit is given exactly: the scan of a text by a footage's grammar.
 -- Assumes nothing.
+use Rattle.std.specs.Prelude.{Ok, Err}
 use Prim.Native.Nat.{ℕ, ◌^◌, ◌<◌}
-use mathlib.Core.Path.{◌≡◌, refl, sym, ap, ap₂, ◌∙◌}
+use mathlib.Core.Path.{◌≡◌, refl, sym, ap, ap₂, ◌∙◌, subst}
 use mathlib.Core.List.{List, [], ◌∷◌, ◌++◌, append-nil, append_assoc}
 use mathlib.Core.Bool.{Bool, true, false}
 use native.Mathlib.Omega.{arith}
@@ -12,12 +13,13 @@ use Rattle.digits.specs.Digits.{all_digits, IsField, value_from, value_of, decim
 use Rattle.digits.proofs.Width.{decimal_back}
 use Rattle.scanner.specs.declared.fields.Dividers.{Dividers}
 use Rattle.scanner.specs.declared.fields.Dividers.TheVariants.{Plus}
-use Rattle.scanner.specs.declared.text.Fit.TheVariants.{Fits, TooLong, NoShape}
+use Rattle.scanner.specs.declared.text.Misfit.TheVariants.{TooLong, NoShape}
 use Rattle.scanner.specs.Long.{is_long, fields_long, ShortField}
+use Rattle.scanner.specs.Text.{named, text_scan}
 use Rattle.scanner.specs.Shapes.{FieldsShape, last, more, pointed, TextParts, text_parts, with_minus, TextShape, some_long, HasTextShape, Possible}
 use Rattle.scanner.proofs.Long.{neither, not-long, value-short, written-short}
 use Rattle.scanner.proofs.Bodies.{point-some}
-use Rattle.scanner.proofs.Statements.{one_text_shape, text_bounded, fields-count, fit-told, text-short, text-long, long-place, place-long, stop_longest, text-stops}
+use Rattle.scanner.proofs.Statements.{one_text_shape, text_bounded, fields-count, fit-told, named-ok, named-err, text-short, text-long, long-place, place-long, stop_longest, text-stops}
 use Rattle.footage_scan.specs.declared.FootageScan.{FootageScan}
 use Rattle.footage_scan.specs.Shape.{footage_grammar, footage_parts, as_text, has_perf, footage_long, HasFootageShape, FootageParts, FootageShape, IsFootage, LongFootage}
 use Rattle.footage_scan.specs.Footage.{fitting_footage, footage_from, footage_scan}
@@ -62,8 +64,8 @@ pub footage_reads : FootageReads
 unfolding footage_scan
 footage_reads l p shape short =
     let perf = (neither (is_long (length p.perf)) (fields_long (p.feet ∷ p.frames ∷ [])) short).0 in
-    ap footage_from (text-short footage_grammar l (as_text p) shape short)
-    ∙ ap (fitting_footage p.minus (value_of p.feet) (value_of p.frames) (has_perf p.perf)) (value-short p.perf perf)
+    ap (named footage_from) (text-short footage_grammar l (as_text p) shape short)
+    ∙ ap (λ (v : ℕ). Ok (fitting_footage p.minus (value_of p.feet) (value_of p.frames) (has_perf p.perf) v)) (value-short p.perf perf)
 
 pub perf_present : PerfPresent
 perf_present [] = (λ e. refl, λ e. refl)
@@ -72,15 +74,15 @@ perf_present (b ∷ perf) = (λ e. let none = ltb-false 0 (length (b ∷ perf)) 
 pub footage_fits : FootageFits
 unfolding footage_scan
 footage_fits l = (
-  λ e. has-footage l false (fit-told footage_grammar l Fits e),
-  λ h. ap (λ (x : FootageScan). x.fit) (footage_reads l h.parts h.shape h.digits),
+  λ p. let t = named-ok footage_from (text_scan footage_grammar l) p.0 p.1 in has-footage l false (fit-told footage_grammar l (Ok t.0) t.1),
+  λ h. (_, footage_reads l h.parts h.shape h.digits),
 )
 
 pub footage_too_long : FootageTooLong
 unfolding footage_scan
 footage_too_long l place = (
-  λ e. fit-told footage_grammar l (TooLong place) (ap (λ (x : FootageScan). x.fit) e),
-  λ h. ap footage_from (text-long footage_grammar l place h),
+  λ e. fit-told footage_grammar l (Err (TooLong place)) (named-err footage_from (text_scan footage_grammar l) (TooLong place) e),
+  λ h. ap (named footage_from) (text-long footage_grammar l place h),
 )
 
 -- where something is too long, the first such field has a place, and back
@@ -95,17 +97,17 @@ possible : Possible footage_grammar
 possible = record { some = omega arith; enough = omega arith }
 
 -- ---- what the fit alone tells
-pub footage-fit-long : (l : List ℕ) (place : ℕ) → (footage_scan l).fit ≡ TooLong place → LongFootage l place
+pub footage-fit-long : (l : List ℕ) (place : ℕ) → footage_scan l ≡ Err (TooLong place) → LongFootage l place
 unfolding footage_scan
-footage-fit-long l place e = fit-told footage_grammar l (TooLong place) e
+footage-fit-long l place e = fit-told footage_grammar l (Err (TooLong place)) (named-err footage_from (text_scan footage_grammar l) (TooLong place) e)
 
-pub footage-fit-none : (l : List ℕ) (stop : ℕ) → (footage_scan l).fit ≡ NoShape stop → (p : FootageParts) → ¬ FootageShape l p
+pub footage-fit-none : (l : List ℕ) (stop : ℕ) → footage_scan l ≡ Err (NoShape stop) → (p : FootageParts) → ¬ FootageShape l p
 unfolding footage_scan
-footage-fit-none l stop e p = fit-told footage_grammar l (NoShape stop) e (as_text p)
+footage-fit-none l stop e p = fit-told footage_grammar l (Err (NoShape stop)) (named-err footage_from (text_scan footage_grammar l) (NoShape stop) e) (as_text p)
 
-pub footage-fit-stop : (l : List ℕ) (stop : ℕ) → (footage_scan l).fit ≡ NoShape stop → LongestBeginning IsFootage l stop
+pub footage-fit-stop : (l : List ℕ) (stop : ℕ) → footage_scan l ≡ Err (NoShape stop) → LongestBeginning IsFootage l stop
 unfolding footage_scan
-footage-fit-stop l stop e = stop_longest footage_grammar l stop possible e
+footage-fit-stop l stop e = stop_longest footage_grammar l stop possible (named-err footage_from (text_scan footage_grammar l) (NoShape stop) e)
 
 -- a text that is no footage is none by the grammar
 no_text : (l : List ℕ) → ((p : FootageParts) → ¬ FootageShape l p) → (p : TextParts) → ¬ TextShape footage_grammar l p
@@ -115,8 +117,8 @@ no_text l h p t =
 pub footage_no_shape : FootageNoShape
 unfolding footage_scan
 footage_no_shape l stop = (
-  λ e. let fit = ap (λ (x : FootageScan). x.fit) e in (footage-fit-none l stop fit, footage-fit-stop l stop fit),
-  λ h. ap footage_from (text-stops footage_grammar l stop possible (no_text l h.0) h.1),
+  λ e. (footage-fit-none l stop e, footage-fit-stop l stop e),
+  λ h. ap (named footage_from) (text-stops footage_grammar l stop possible (no_text l h.0) h.1),
 )
 
 pub one_footage_shape : OneFootageShape
@@ -130,7 +132,10 @@ one_footage_shape l p q s t =
 
 pub footage_below : FootageBelow
 unfolding footage_scan
-footage_below l = let b = text_bounded footage_grammar l in (b.below 2, b.below 3, b.tail)
+footage_below l scan e =
+    let t = named-ok footage_from (text_scan footage_grammar l) scan e in
+    let b = text_bounded footage_grammar l t.0 t.1 in
+    subst (λ (x : FootageScan). (x.feet < 10 ^ 9) × (x.frames < 10 ^ 9) × (x.marker < 10 ^ 9)) t.2 (b.below 2, b.below 3, b.tail)
 
 -- ---- written and read
 -- two fields divided by `+`, and digits behind a `.` or none, are a footage
@@ -158,7 +163,7 @@ footage-short m d e w i j short = rw (short, not-long d i, not-long e j)
 module _ (m : Bool) (feet frames : ℕ) (h : feet < 10 ^ 9) (k : frames < 10 ^ 9) where
   -- with any digits behind a `.`, or none
   text-back : (w : List ℕ) → all_digits w ≡ true → is_long (length w) ≡ false
-      → footage_scan (with_minus m ((decimal 1 feet ++ 43 ∷ decimal 2 frames) ++ pointed w)) ≡ fitting_footage m feet frames (has_perf w) (value_of w)
+      → footage_scan (with_minus m ((decimal 1 feet ++ 43 ∷ decimal 2 frames) ++ pointed w)) ≡ Ok (fitting_footage m feet frames (has_perf w) (value_of w))
   text-back w digits short =
       let i = written-short 1 feet (omega arith) h in
       let j = written-short 2 frames (omega arith) k in
@@ -178,5 +183,5 @@ footage_text_back m feet frames h k = (
       (sym (append_assoc (decimal 1 feet) (43 ∷ decimal 2 frames) (46 ∷ w))
       ∙ ap (λ (x : List ℕ). (decimal 1 feet ++ 43 ∷ decimal 2 frames) ++ x) (sym (point-some w f.is.some)))
       ∙ text-back m feet frames h k w f.is.digits (not-long w f)
-      ∙ ap₂ (fitting_footage m feet frames) (lt-ltb 0 (length w) f.is.some) (decimal_back 1 perf),
+      ∙ ap₂ (λ (p : Bool) (v : ℕ). Ok (fitting_footage m feet frames p v)) (lt-ltb 0 (length w) f.is.some) (decimal_back 1 perf),
 )

@@ -4,7 +4,7 @@
 ghost use Rattle.std.specs.Prelude.{◌≡◌};
 ghost use Rattle.footage_scan.specs.Footage.{footage_scan};
 
-use scanner::{Dividers, Fit, Grammar};
+use scanner::{Dividers, Grammar, Misfit};
 
 // Optional `-`, feet, `+`, frames, optionally `.` and a perf field of 9 digits at most.
 const FOOTAGE: Grammar = Grammar {
@@ -15,10 +15,9 @@ const FOOTAGE: Grammar = Grammar {
 };
 
 // A footage's sign, its feet and frames, each below 10^9, whether a perf field stands behind them, and the value of that field, below
-// 10^9, its marker: 0 where it has none. Where it does not fit: no sign, all 0, and no perf field.
+// 10^9, its marker: 0 where it has none.
 #[derive(Clone, Copy)]
 pub struct FootageScan {
-    pub fit: Fit,
     pub minus: bool,
     pub feet: u64,
     pub frames: u64,
@@ -27,18 +26,16 @@ pub struct FootageScan {
 }
 
 // The sign and the fields of a footage; the crate's feet and frames regex and what it captures.
-pub fn scan_footage(text: &[u8]) -> FootageScan
+#[tactic(auto, unfolding(crate::specs::Footage::footage_scan))]
+pub fn scan_footage(text: &[u8]) -> Result<FootageScan, Misfit>
     ensures { result ≡ footage_scan text.now }
 {
-    let scan = scanner::scan_text(text, FOOTAGE);
-    let fit = scan.fit;
-    let fields = scan.fields;
-    FootageScan {
-        fit,
+    let scan = scanner::scan_text(text, FOOTAGE)?;
+    Ok(FootageScan {
         minus: scan.minus,
-        feet: fields[2],
-        frames: fields[3],
+        feet: scan.fields[2],
+        frames: scan.fields[3],
         perf: 0 < scan.digits,
         marker: scan.tail,
-    }
+    })
 }

@@ -1,5 +1,6 @@
 -- How long the parts of a footage are, which formats have a marker, and what is drafted for a format.
 -- Assumes nothing.
+use Rattle.std.specs.Prelude.{Ok, Err}
 use Prim.Native.Nat.{ℕ, ◌+◌, ◌^◌, ◌≤◌, ◌<◌}
 use mathlib.Core.Path.{◌≡◌, refl, sym, ap}
 use mathlib.Core.Bool.{Bool, true, false}
@@ -8,15 +9,13 @@ use native.Mathlib.Omega.{arith}
 use lib.ListN.{length, length-append}
 use Rattle.answers.specs.declared.Refusal.{Refusal}
 use Rattle.answers.specs.Order.{unless}
-use Rattle.answers.specs.OrderLaws.{unless-told, out-not}
+use Rattle.answers.specs.OrderLaws.{unless-told}
 use Rattle.timecodes.specs.declared.Timecode.{Timecode}
 use Rattle.timecodes.specs.Admitted.{admits}
 use Rattle.film.specs.declared.FilmFormat.{FilmFormat}
 use Rattle.film.specs.declared.FilmFormat.TheVariants.{FF35mm4perf, FF35mm3perf, FF35mm2perf, FF16mm}
-use Rattle.film.specs.declared.Filmed.TheVariants.{Format, Refused}
 use Rattle.film.specs.declared.Footage.{Footage}
 use Rattle.film.specs.Film.{allows_perf_field, bad_format, format_in, format_at}
-use Rattle.film.specs.FormatLaws.{format_at-refused}
 use Rattle.digits.specs.Digits.{decimal}
 use Rattle.digits.proofs.Width.{decimal_length}
 use Rattle.written.specs.Parts.{signed_text, field_text}
@@ -57,17 +56,12 @@ feet-length minus format footage =
 -- ---- the draft
 module _ (tc : Timecode) (format : ℕ) where
   -- in a format that there is, the timecode decides
-  pub draft-in : (chosen : FilmFormat) → format_at format ≡ Format chosen → unless NoText (admits tc) (Text (footage_text chosen tc.count)) ≡ footage_draft tc format
+  pub draft-in : (chosen : FilmFormat) → format_at format ≡ Ok chosen → unless NoText (admits tc) (Text (footage_text chosen tc.count)) ≡ footage_draft tc format
   unfolding format_at footage_draft
   draft-in chosen h =
-      let told = unless-told Refused (bad_format format ∷ []) (Format (format_in format)) (Format chosen) apart h in
+      let told = unless-told Err (bad_format format ∷ []) (Ok (format_in format)) (Ok chosen) apart h in
       let same : format_in format ≡ chosen = let e = told.1 in cc in
       rw told.0.0 (ap (λ f. unless NoText (admits tc) (Text (footage_text f tc.count))) (sym same))
     where
-      apart : (e : Refusal) → Refused e ≡ Format chosen → ⊥
+      apart : (e : Refusal) → Err e ≡ Ok chosen → ⊥
       apart e p = let z : ◌≡◌ {A = ℕ} 0 1 = cc in omega arith
-
-  -- no such film format
-  pub draft-out : (e : Refusal) → format_at format ≡ Refused e → NoText e ≡ footage_draft tc format
-  unfolding footage_draft
-  draft-out e h = let told = format_at-refused format e h in rw (out-not told.0) (ap NoText told.1)

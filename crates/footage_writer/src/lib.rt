@@ -1,71 +1,64 @@
 // The footage of a timecode in a film format, its text laid into the caller's line. Refuses 6, 5 and, where the text has no room, 8.
 #![tactic(auto)]
 
-ghost use Rattle.std.specs.Prelude.{◌≡◌, ◌≤◌, length};
+ghost use Rattle.std.specs.Prelude.{◌≡◌, length};
 ghost use Rattle.lent.specs.Line.{laid};
-ghost use Rattle.answers.specs.Order.{unless};
-ghost use Rattle.timecodes.specs.Admitted.{admits};
-ghost use Rattle.written.specs.Written.{Text, NoText, answer_to, line_to};
-ghost use Rattle.footage_writer.specs.FootageText.{perf_text, feet_text, footage_text, footage_draft};
+ghost use Rattle.written.specs.Written.{answer_to, line_to};
+ghost use Rattle.footage_writer.specs.FootageText.{perf_text, feet_text, footage_draft};
 
-use answers::Verdict;
-use film::{FilmFormat, Filmed, Footage};
+use answers::Refusal;
+use film::{FilmFormat, Footage};
 use timecodes::Timecode;
-use written::Written;
+use written::Writable;
+
+// A footage in a film format, as it is written: behind its sign.
+#[derive(Clone, Copy)]
+struct FootageText {
+    negative: bool,
+    format: FilmFormat,
+    footage: Footage,
+}
 
 // The footage of a timecode, laid down from `place` on (vtc's `feet_and_frames`): its length, and every byte of the line afterwards.
 // Refuses 6: no such film format, or no such rate; 5: a count out of its bounds; 8: place plus text length exceeds the line's length.
-pub fn write_footage(tc: Timecode, format: u64, line: &mut [u8], place: usize) -> Written
+#[tactic(auto, unfolding(crate::specs::FootageText::footage_draft, crate::specs::FootageText::footage_text, film::specs::Film::format_at, written::specs::Written::answer_to, written::specs::Written::line_to))]
+pub fn write_footage(
+    tc: Timecode,
+    format: u64,
+    line: &mut [u8],
+    place: usize,
+) -> Result<usize, Refusal>
     ensures answer { result ≡ answer_to line.old place (footage_draft tc format) }
     ensures line { line.new ≡ line_to line.old place (footage_draft tc format) }
 {
-    match film::format_at(format) {
-        Filmed::Format(chosen) => write_in(tc, chosen, line, place),
-        Filmed::Refused(e) => Written::Refused(e),
-    }
+    let format = FilmFormat::try_from(format)?;
+    timecodes::admit(tc)?;
+    let text = FootageText {
+        negative: tc.count < 0,
+        format,
+        footage: film::feet_and_frames(format, tc.count.unsigned_abs()),
+    };
+    written::write(&text, line, place)
 }
 
-// The footage of a timecode in a format, laid down from `place` on. Refuses 6: no such rate; 5: a count out of its bounds; 8: no room.
-fn write_in(tc: Timecode, format: FilmFormat, line: &mut [u8], place: usize) -> Written
-    ensures answer { result ≡ answer_to line.old place (unless NoText (admits tc) (Text (footage_text format tc.count))) }
-    ensures line { line.new ≡ line_to line.old place (unless NoText (admits tc) (Text (footage_text format tc.count))) }
-{
-    match timecodes::admit(tc) {
-        Verdict::Passed => {
-            let minus = numbers::below_zero(tc.count);
-            let footage = film::feet_and_frames(format, numbers::magnitude(tc.count));
-            write_parts(minus, format, footage, line, place)
-        }
-        Verdict::Refused(e) => Written::Refused(e),
-    }
-}
+impl Writable for FootageText {
+    ghost text = { λ t. feet_text t.negative t.format t.footage };
 
-// Feet, frames and marker laid down from `place` on: their length first, one test of room, then the rest of the line is lent on.
-fn write_parts(
-    minus: bool,
-    format: FilmFormat,
-    footage: Footage,
-    line: &mut [u8],
-    place: usize,
-) -> Written
-    ensures answer { result ≡ answer_to line.old place (Text (feet_text minus format footage)) }
-    ensures line { line.new ≡ line_to line.old place (Text (feet_text minus format footage)) }
-{
-    let need = parts_length(minus, format, footage);
-    if lent::room(line.len(), place, need) {
-        put_parts(&mut line[place..], minus, format, footage);
-        return Written::Length(need);
+    // How many bytes feet, frames and marker have.
+    fn length(&self) -> usize {
+        written::signed_length(self.negative, self.footage.feet)
+            + written::field_length(self.footage.frames)
+            + marker_length(self.format, self.footage.perf)
     }
-    Written::Refused(answers::NO_ROOM)
-}
 
-// How many bytes feet, frames and marker have.
-fn parts_length(minus: bool, format: FilmFormat, footage: Footage) -> usize
-    ensures { result ≡ length (feet_text minus format footage) }
-{
-    written::signed_length(minus, footage.feet)
-        + written::field_length(footage.frames)
-        + marker_length(format, footage.perf)
+    // Feet, frames and marker at the front of a part; every other byte stays.
+    fn put(&self, part: &mut [u8]) {
+        let first = written::signed_length(self.negative, self.footage.feet);
+        let second = first + written::field_length(self.footage.frames);
+        written::put_signed(part, self.negative, self.footage.feet);
+        written::put_field(&mut part[first..], b'+', self.footage.frames);
+        put_marker(&mut part[second..], self.format, self.footage.perf);
+    }
 }
 
 // How many bytes the marker has: `.` and its digits in a format that has one.
@@ -76,18 +69,6 @@ fn marker_length(format: FilmFormat, perf: u64) -> usize
         return digits::width_of(1, perf) + 1;
     }
     0
-}
-
-// Feet, frames and marker at the front of a part; every other byte stays. Asks their room.
-fn put_parts(part: &mut [u8], minus: bool, format: FilmFormat, footage: Footage)
-    requires { length (feet_text minus format footage) ≤ length part.old }
-    ensures { part.new ≡ laid part.old (feet_text minus format footage) }
-{
-    let first = written::signed_length(minus, footage.feet);
-    let second = first + written::field_length(footage.frames);
-    written::put_signed(part, minus, footage.feet);
-    written::put_field(&mut part[first..], b'+', footage.frames);
-    put_marker(&mut part[second..], format, footage.perf);
 }
 
 // The marker at the front of a part, in a format that has one; every other byte stays. Where it has no room nothing changes.

@@ -5,3 +5,4 @@ pub mod Filling
 pub mod Grammar
 pub mod Statements
 pub mod Determined
+pub mod AllDigits

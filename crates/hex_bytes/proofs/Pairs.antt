@@ -1,15 +1,13 @@
 -- Digits by twos: how many bytes they have, and each byte by its two digits; and the same for what is shown.
 -- Assumes nothing.
-use Prim.Native.Nat.{ℕ, zero, suc, ◌+◌, ◌*◌, ◌/◌, ◌%◌, ◌≤◌, ◌<◌}
+use Prim.Native.Nat.{ℕ, zero, suc, ◌+◌, ◌*◌, ◌/◌, ◌%◌, ◌<◌}
 use mathlib.Core.Path.{◌≡◌, refl}
 use mathlib.Core.List.{List, [], ◌∷◌}
-use mathlib.Core.Bool.{true, false}
+use mathlib.Core.Bool.{true}
 use native.Mathlib.Omega.{arith}
-use native.Mathlib.Numerals.{add-one}
-use lib.ListN.{length, drop, get_or, drop_of_length-le}
-use lib.Seq.{drop-cons}
+use lib.ListN.{length, get_or}
 use lib.Dec.{ltb}
-use borrow.Author.Tests.{lt-ltb, le-ltb, ltb-true}
+use borrow.Author.Tests.{lt-ltb, ltb-true}
 use Rattle.digits.proofs.Values.{both}
 use Rattle.hex_bytes.specs.Digits.{hex_value, all_hex_digits, lower_digit}
 use Rattle.hex_bytes.specs.Hex.{pair_bytes, digit_pairs, hex_text}
@@ -32,19 +30,6 @@ pub all-hex-each : (l : List ℕ) (i : ℕ) → all_hex_digits l ≡ true → i 
 all-hex-each [] i e h = absurd (omega arith)
 all-hex-each (b ∷ l) zero e h = all-hex-head b l e
 all-hex-each (b ∷ l) (suc i) e h = all-hex-each l i (all-hex-tail b l e) (omega arith)
-
--- from a place on: no digit stands there, or one does, or the text is at its end
-pub all-hex-stop : (l : List ℕ) (i : ℕ) → i < length l → 16 ≤ hex_value (get_or l i 0) → all_hex_digits (drop i l) ≡ false
-unfolding all_hex_digits
-all-hex-stop l i h k = rw (drop-cons l i 0 h, le-ltb (hex_value (get_or l i 0)) 16 k)
-
-pub all-hex-on : (l : List ℕ) (i : ℕ) → i < length l → hex_value (get_or l i 0) < 16 → all_hex_digits (drop i l) ≡ all_hex_digits (drop (i + 1) l)
-unfolding all_hex_digits
-all-hex-on l i h k = rw (drop-cons l i 0 h, lt-ltb (hex_value (get_or l i 0)) 16 k, add-one)
-
-pub all-hex-end : (l : List ℕ) (i : ℕ) → length l ≤ i → all_hex_digits (drop i l) ≡ true
-unfolding all_hex_digits
-all-hex-end l i h = rw (drop_of_length-le l {i = i} h)
 
 -- ---- the bytes of digits
 pub pair-bytes-length : (l : List ℕ) → length (pair_bytes l) ≡ length l / 2

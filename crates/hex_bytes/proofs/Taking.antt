@@ -11,7 +11,7 @@ use borrow.Author.Tests.{eq-eqb, ne_eqb, le-leb, lt-leb}
 use Rattle.lent.specs.Line.{laid}
 use Rattle.lent.proofs.Laws.{laid_out, laid_nil}
 use Rattle.digits.proofs.Values.{both}
-use Rattle.hex_bytes.specs.declared.Hexed.{Hexed}
+use Rattle.std.specs.Prelude.{Option, Some, None}
 use Rattle.hex_bytes.specs.Digits.{hex_value, all_hex_digits}
 use Rattle.hex_bytes.specs.Hex.{is_hex, pair_bytes, bytes_of_hex, hexed_of}
 use Rattle.hex_bytes.proofs.Pairs.{all-hex-each, pair-bytes-length}
@@ -64,28 +64,24 @@ unfolding bytes_of_hex
 bytes-none l e = rw e
 
 -- what `read` shows at a return
-abbrev pub Takes : (text into : List ℕ) (answer : Hexed) (last : List ℕ) → Type 0
+abbrev pub Takes : (text into : List ℕ) (answer : Option ℕ) (last : List ℕ) → Type 0
 Takes text into answer last = (answer ≡ hexed_of text (length into)) × (last ≡ laid into (bytes_of_hex text))
-
--- a text that is not taken
-abbrev pub not_taken : Hexed
-not_taken = record { all = false; count = 0 }
 
 module _ (text into : List ℕ) where
   -- HEX whose bytes have room: they are laid down
   pub read-in : (last : List ℕ) → is_hex text ≡ true → length text / 2 ≤ length into → last ≡ laid into (pair_bytes text)
-      → Takes text into (record { all = true; count = length text / 2 }) last
+      → Takes text into (Some (length text / 2)) last
   unfolding hexed_of bytes_of_hex
   read-in last e h l = rw (e, pair-bytes-length text, le-leb (length text / 2) (length into) h) (refl, l)
 
   -- HEX whose bytes have none
-  pub read_out : is_hex text ≡ true → length into < length text / 2 → Takes text into not_taken into
+  pub read_out : is_hex text ≡ true → length into < length text / 2 → Takes text into None into
   unfolding hexed_of bytes_of_hex
   read_out e h =
       let kept = laid_out into (pair_bytes text) (omega (arith, pair-bytes-length text)) in
       rw (e, pair-bytes-length text, lt-leb (length text / 2) (length into) h, kept) (refl, refl)
 
   -- no HEX
-  pub read_none : is_hex text ≡ false → Takes text into not_taken into
+  pub read_none : is_hex text ≡ false → Takes text into None into
   unfolding hexed_of bytes_of_hex
   read_none e = rw (e, laid_nil into) (refl, refl)

@@ -1,7 +1,6 @@
 -- Bytes as HEX (docs/ASK.md): two digits a byte, the high one first; `-` for none at all.
 -- Assumes nothing.
-use Rattle.std.specs.Prelude.{ℕ, ◌+◌, ◌*◌, ◌/◌, ◌%◌, List, [], ◌∷◌, Bool, false, cond, ◌&&◌, length, eqb, leb}
-use Rattle.hex_bytes.specs.declared.Hexed.{Hexed}
+use Rattle.std.specs.Prelude.{ℕ, ◌+◌, ◌*◌, ◌/◌, ◌%◌, List, [], ◌∷◌, Bool, false, cond, ◌&&◌, length, eqb, leb, Option, Some, None}
 use Rattle.hex_bytes.specs.Digits.{hex_value, all_hex_digits, lower_digit}
 
 -- ---- taken
@@ -25,9 +24,9 @@ bytes_of_hex text = cond (is_hex text) (pair_bytes text) []
 abbrev pub is_taken : (text : List ℕ) (total : ℕ) → Bool
 is_taken text total = is_hex text && leb (length (bytes_of_hex text)) total
 
--- the answer: whether it is, and how many bytes; where it is not, 0
-unfoldable pub hexed_of : (text : List ℕ) (total : ℕ) → Hexed
-hexed_of text total = record { all = is_taken text total; count = cond (is_taken text total) (length (bytes_of_hex text)) 0 }
+-- the answer: how many bytes, where it is
+unfoldable pub hexed_of : (text : List ℕ) (total : ℕ) → Option ℕ
+hexed_of text total = cond (is_taken text total) (Some (length (bytes_of_hex text))) None
 
 -- ---- shown
 -- two digits for each byte, the high one first

@@ -4,71 +4,41 @@
 
 ghost use Rattle.std.specs.Prelude.{◌≡◌, true, ◌+◌, ◌*◌, ◌/◌, ◌<◌, ◌≤◌, length};
 ghost use Rattle.lent.specs.Line.{laid};
-ghost use Rattle.streams.specs.Sheet.{sheet, put_on};
-ghost use Rattle.hex_bytes.specs.Digits.{is_from_to, hex_value, all_hex_digits, lower_digit};
+ghost use Rattle.streams.specs.Sheet.{put_on};
+ghost use Rattle.hex_bytes.specs.Digits.{hex_value, all_hex_digits, lower_digit};
 ghost use Rattle.hex_bytes.specs.Hex.{is_hex, pair_bytes, bytes_of_hex, hexed_of, digit_pairs, hex_text};
 
-// Whether a text is HEX whose bytes have room, and how many bytes it has; 0 where it is not.
-#[derive(Clone, Copy)]
-pub struct Hexed {
-    pub all: bool,
-    pub count: usize,
-}
-
-// Is this byte one of those from `first` to `last`?
-fn is_from_to(first: u8, last: u8, b: u8) -> bool
-    ensures { result ≡ is_from_to first last b }
-{
-    if b < first {
-        return false;
-    }
-    b <= last
-}
+use streams::Sheet;
 
 // What a digit is worth, in either case; 16 where it is none.
+#[tactic(auto, unfolding(crate::specs::Digits::hex_value), using(std::proofs::lemmas::Bool::Decides::nat_tests))]
 fn hex_value(b: u8) -> u8
     ensures { result ≡ hex_value b }
 {
-    if is_from_to(b'0', b'9', b) {
-        return b - b'0';
+    match b {
+        b'0'..=b'9' => b - b'0',
+        b'a'..=b'f' => 10 + (b - b'a'),
+        b'A'..=b'F' => 10 + (b - b'A'),
+        _ => 16,
     }
-    if is_from_to(b'a', b'f', b) {
-        return 10 + (b - b'a');
-    }
-    if is_from_to(b'A', b'F', b) {
-        return 10 + (b - b'A');
-    }
-    16
 }
 
 // Is every byte of a text a digit?
 fn all_hex_digits(text: &[u8]) -> bool
     ensures { result ≡ all_hex_digits text.now }
 {
-    let mut i = 0;
-    while i < text.len() {
-        if 16 <= hex_value(text[i]) {
-            return false;
-        }
-        i += 1;
-    }
-    true
+    text.iter().all(|b| hex_value(*b) < 16)
 }
 
 // Is a text HEX?
 fn is_hex(text: &[u8]) -> bool
     ensures { result ≡ is_hex text.now }
 {
-    if text.len() == 0 {
-        return false;
+    match text {
+        [] => false,
+        [b] => *b == b'-',
+        _ => text.len() % 2 == 0 && all_hex_digits(text),
     }
-    if text.len() == 1 {
-        return text[0] == b'-';
-    }
-    if text.len() % 2 == 1 {
-        return false;
-    }
-    all_hex_digits(text)
 }
 
 // The byte of two digits. Asks values below 16.
@@ -86,42 +56,34 @@ fn fill(text: &[u8], into: &mut [u8])
     requires room { length text.now / 2 ≤ length into.old }
     ensures { into.new ≡ laid into.old (pair_bytes text.now) }
 {
-    let mut i = 0;
-    while i < text.len() / 2 {
+    for i in 0..text.len() / 2 {
         let high = hex_value(text[2 * i]);
         let low = hex_value(text[2 * i + 1]);
         into[i] = byte_of(high, low);
-        i += 1;
     }
 }
 
 // The bytes of a text at the front of a buffer, where the text is HEX and they have room; every other byte stays. Else nothing changes.
-pub fn read(text: &[u8], into: &mut [u8]) -> Hexed
+// The answer: how many bytes, where it is so.
+pub fn read(text: &[u8], into: &mut [u8]) -> Option<usize>
     ensures answer { result ≡ hexed_of text.now (length into.old) }
     ensures bytes { into.new ≡ laid into.old (bytes_of_hex text.now) }
 {
     let count = text.len() / 2;
-    if is_hex(text) {
-        if count <= into.len() {
-            fill(text, into);
-            return Hexed { all: true, count };
-        }
+    if is_hex(text) && count <= into.len() {
+        fill(text, into);
+        return Some(count);
     }
-    Hexed {
-        all: false,
-        count: 0,
-    }
+    None
 }
 
 // The digit of a value, in lower case. Asks a value below 16.
+#[tactic(auto, unfolding(crate::specs::Digits::lower_digit), using(std::proofs::lemmas::Bool::Decides::nat_tests))]
 fn lower_digit(n: u8) -> u8
     requires { n < 16 }
     ensures { result ≡ lower_digit n }
 {
-    if n < 10 {
-        return b'0' + n;
-    }
-    b'a' + (n - 10)
+    if n < 10 { b'0' + n } else { b'a' + (n - 10) }
 }
 
 // Two digits for each byte at the front of a part; every other byte stays. Asks room.
@@ -129,26 +91,25 @@ fn put_pairs(part: &mut [u8], bytes: &[u8])
     requires { 2 * length bytes.now ≤ length part.old }
     ensures { part.new ≡ laid part.old (digit_pairs bytes.now) }
 {
-    let mut i = 0;
-    while i < bytes.len() {
-        part[2 * i] = lower_digit(bytes[i] / 16);
-        part[2 * i + 1] = lower_digit(bytes[i] % 16);
-        i += 1;
+    for (i, b) in bytes.iter().enumerate() {
+        part[2 * i] = lower_digit(*b / 16);
+        part[2 * i + 1] = lower_digit(*b % 16);
     }
 }
 
-// The HEX of bytes put on a sheet; where it has no room nothing changes. The answer: how many bytes of the sheet are used then.
-pub fn put(out: &mut [u8], used: usize, bytes: &[u8]) -> usize
-    ensures answer { result ≡ (put_on (sheet out.old used) (hex_text bytes.now)).used }
-    ensures sheet { out.new ≡ (put_on (sheet out.old used) (hex_text bytes.now)).bytes }
+// The HEX of bytes put on a sheet; where it has no room nothing changes.
+pub fn put<const N: usize>(sheet: &mut Sheet<N>, bytes: &[u8])
+    ensures { sheet.new ≡ put_on sheet.old (hex_text bytes.now) }
 {
-    if bytes.len() == 0 {
-        return streams::put_byte(out, used, b'-');
+    if bytes.is_empty() {
+        sheet.put_byte(b'-');
+        return;
     }
     let need = 2 * bytes.len();
-    if lent::room(out.len(), used, need) {
-        put_pairs(&mut out[used..], bytes);
-        return used + need;
+    let used = sheet.used;
+    if lent::room(N, used, need) {
+        let all = &mut sheet.bytes[..];
+        put_pairs(&mut all[used..], bytes);
+        sheet.used = used + need;
     }
-    used
 }

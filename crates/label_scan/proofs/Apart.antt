@@ -1,5 +1,6 @@
 -- A field, and then a byte that is no digit and no divider: whatever comes after it, the text is no label.
 -- Assumes nothing.
+use Rattle.std.specs.Prelude.{Err}
 use Prim.Native.Nat.{ℕ}
 use mathlib.Core.Path.{◌≡◌, sym, ap, ◌∙◌}
 use mathlib.Core.List.{List, [], ◌∷◌, ◌++◌}
@@ -10,7 +11,7 @@ use lib.Seq.{drop-append_seam}
 use Rattle.digits.specs.Digits.{is_digit, IsField}
 use Rattle.digits.proofs.Runs.{field-first}
 use Rattle.scanner.specs.declared.fields.Dividers.TheVariants.{ColonOrSemicolon}
-use Rattle.scanner.specs.declared.text.Fit.TheVariants.{NoShape}
+use Rattle.scanner.specs.declared.text.Misfit.TheVariants.{NoShape}
 use Rattle.scanner.specs.Scan.{is_divider}
 use Rattle.scanner.specs.Fields.{Front, fields_in}
 use Rattle.scanner.specs.Shapes.{last, with_minus}
@@ -18,7 +19,7 @@ use Rattle.scanner.proofs.Fronts.{fields-complete}
 use Rattle.scanner.proofs.Signed.{body-begins}
 use Rattle.scanner.proofs.OneShape.{body-front, body-behind, sign-one}
 use Rattle.label_scan.specs.Shape.{label_grammar, LabelShape}
-use Rattle.label_scan.specs.Label.{misfit_label, label_scan}
+use Rattle.label_scan.specs.Label.{label_scan}
 use Rattle.label_scan.proofs.Statements.{label-none-fit}
 
 module _ (d : List ℕ) (c : ℕ) (r : List ℕ) (is : IsField d) (digit : is_digit c ≡ false) (divider : is_divider c ≡ false) (m : Bool) where
@@ -38,5 +39,5 @@ module _ (d : List ℕ) (c : ℕ) (r : List ℕ) (is : IsField d) (digit : is_di
       let z : ◌≡◌ {A = ℕ} 0 1 = cc in
       omega arith
 
-  pub no_label : (stop : ℕ) × (label_scan (with_minus m (d ++ c ∷ r)) ≡ misfit_label (NoShape stop))
+  pub no_label : (stop : ℕ) × (label_scan (with_minus m (d ++ c ∷ r)) ≡ Err (NoShape stop))
   no_label = label-none-fit (with_minus m (d ++ c ∷ r)) other-shape

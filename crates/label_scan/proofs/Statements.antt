@@ -1,5 +1,6 @@
 -- A text reads as its shape says, in one way only, and each fit is given exactly: the scan of a text by a label's grammar.
 -- Assumes nothing.
+use Rattle.std.specs.Prelude.{Ok, Err}
 use Prim.Native.Nat.{ℕ, ◌^◌, ◌<◌}
 use mathlib.Core.Path.{◌≡◌, refl, ap, ◌∙◌}
 use mathlib.Core.List.{List, [], ◌∷◌, ◌++◌, append-nil}
@@ -9,14 +10,14 @@ use lib.ListN.{length}
 use Rattle.beginnings.specs.Beginning.{LongestBeginning}
 use Rattle.digits.specs.Digits.{all_digits, decimal}
 use Rattle.digits.proofs.Width.{decimal_back}
-use Rattle.scanner.specs.declared.text.Fit.TheVariants.{Fits, TooLong, NoShape}
+use Rattle.scanner.specs.declared.text.Misfit.TheVariants.{TooLong, NoShape}
 use Rattle.scanner.specs.Long.{fields_long, ShortField}
+use Rattle.scanner.specs.Text.{named, text_scan}
 use Rattle.scanner.specs.Shapes.{last, more, TextParts, text_parts, with_minus, TextShape, some_long, HasTextShape, Possible}
 use Rattle.scanner.proofs.Long.{not-long, written-short}
-use Rattle.scanner.proofs.Statements.{one_text_shape, fit-told, text-short, text-long, long-place, place-long, text-none, stop_longest, text-stops}
-use Rattle.label_scan.specs.declared.LabelScan.{LabelScan}
+use Rattle.scanner.proofs.Statements.{one_text_shape, fit-told, named-ok, named-err, text-short, text-long, long-place, place-long, text-none, stop_longest, text-stops}
 use Rattle.label_scan.specs.Shape.{label_grammar, LabelShape, HasLabelShape, IsLabel, LongLabel}
-use Rattle.label_scan.specs.Label.{misfit_label, label_from, label_scan}
+use Rattle.label_scan.specs.Label.{label_from, label_scan}
 use Rattle.label_scan.specs.Statements.{LabelReads, LabelFits, LabelTooLong, LabelNoShape, OneLabelShape, LabelBack}
 
 -- ---- a label's grammar allows no tail
@@ -41,20 +42,20 @@ has_label l long h =
 -- ---- each fit
 pub label_reads : LabelReads
 unfolding label_scan
-label_reads l m fields shape short = ap label_from (text-short label_grammar l (text_parts m fields []) shape short)
+label_reads l m fields shape short = ap (named label_from) (text-short label_grammar l (text_parts m fields []) shape short)
 
 pub label_fits : LabelFits
 unfolding label_scan
 label_fits l = (
-  λ e. has_label l false (fit-told label_grammar l Fits e),
-  λ h. ap (λ (x : LabelScan). x.fit) (label_reads l h.minus h.fields h.shape h.digits),
+  λ p. let t = named-ok label_from (text_scan label_grammar l) p.0 p.1 in has_label l false (fit-told label_grammar l (Ok t.0) t.1),
+  λ h. (_, label_reads l h.minus h.fields h.shape h.digits),
 )
 
 pub label_too_long : LabelTooLong
 unfolding label_scan
 label_too_long l place = (
-  λ e. fit-told label_grammar l (TooLong place) (ap (λ (x : LabelScan). x.fit) e),
-  λ h. ap label_from (text-long label_grammar l place h),
+  λ e. fit-told label_grammar l (Err (TooLong place)) (named-err label_from (text_scan label_grammar l) (TooLong place) e),
+  λ h. ap (named label_from) (text-long label_grammar l place h),
 )
 
 -- where something is too long, the first such field has a place, and back
@@ -69,28 +70,28 @@ possible : Possible label_grammar
 possible = record { some = omega arith; enough = omega arith }
 
 -- ---- what the fit alone tells
-pub label-fit-long : (l : List ℕ) (place : ℕ) → (label_scan l).fit ≡ TooLong place → LongLabel l place
+pub label-fit-long : (l : List ℕ) (place : ℕ) → label_scan l ≡ Err (TooLong place) → LongLabel l place
 unfolding label_scan
-label-fit-long l place e = fit-told label_grammar l (TooLong place) e
+label-fit-long l place e = fit-told label_grammar l (Err (TooLong place)) (named-err label_from (text_scan label_grammar l) (TooLong place) e)
 
-pub label-fit-none : (l : List ℕ) (stop : ℕ) → (label_scan l).fit ≡ NoShape stop → (m : Bool) (fields : List (List ℕ)) → ¬ LabelShape l m fields
+pub label-fit-none : (l : List ℕ) (stop : ℕ) → label_scan l ≡ Err (NoShape stop) → (m : Bool) (fields : List (List ℕ)) → ¬ LabelShape l m fields
 unfolding label_scan
-label-fit-none l stop e m fields = fit-told label_grammar l (NoShape stop) e (text_parts m fields [])
+label-fit-none l stop e m fields = fit-told label_grammar l (Err (NoShape stop)) (named-err label_from (text_scan label_grammar l) (NoShape stop) e) (text_parts m fields [])
 
-pub label-fit-stop : (l : List ℕ) (stop : ℕ) → (label_scan l).fit ≡ NoShape stop → LongestBeginning IsLabel l stop
+pub label-fit-stop : (l : List ℕ) (stop : ℕ) → label_scan l ≡ Err (NoShape stop) → LongestBeginning IsLabel l stop
 unfolding label_scan
-label-fit-stop l stop e = stop_longest label_grammar l stop possible e
+label-fit-stop l stop e = stop_longest label_grammar l stop possible (named-err label_from (text_scan label_grammar l) (NoShape stop) e)
 
 -- a text without the shape is scanned up to some place
-pub label-none-fit : (l : List ℕ) → ((m : Bool) (fields : List (List ℕ)) → ¬ LabelShape l m fields) → (stop : ℕ) × (label_scan l ≡ misfit_label (NoShape stop))
+pub label-none-fit : (l : List ℕ) → ((m : Bool) (fields : List (List ℕ)) → ¬ LabelShape l m fields) → (stop : ℕ) × (label_scan l ≡ Err (NoShape stop))
 unfolding label_scan
-label-none-fit l h = (_, ap label_from (text-none label_grammar l (λ p shape. h p.minus p.fields (as-label l p shape))))
+label-none-fit l h = (_, ap (named label_from) (text-none label_grammar l (λ p shape. h p.minus p.fields (as-label l p shape))))
 
 pub label_no_shape : LabelNoShape
 unfolding label_scan
 label_no_shape l stop = (
-  λ e. let fit = ap (λ (x : LabelScan). x.fit) e in (label-fit-none l stop fit, label-fit-stop l stop fit),
-  λ h. ap label_from (text-stops label_grammar l stop possible (λ p shape. h.0 p.minus p.fields (as-label l p shape)) h.1),
+  λ e. (label-fit-none l stop e, label-fit-stop l stop e),
+  λ h. ap (named label_from) (text-stops label_grammar l stop possible (λ p shape. h.0 p.minus p.fields (as-label l p shape)) h.1),
 )
 
 pub one_label_shape : OneLabelShape

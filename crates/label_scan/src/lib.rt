@@ -4,7 +4,7 @@
 ghost use Rattle.std.specs.Prelude.{◌≡◌};
 ghost use Rattle.label_scan.specs.Label.{label_scan};
 
-use scanner::{Dividers, Fit, Grammar};
+use scanner::{Dividers, Grammar, Misfit};
 
 // Optional `-`, then one to four fields, each two divided by `:` or `;`.
 const LABEL: Grammar = Grammar {
@@ -14,24 +14,22 @@ const LABEL: Grammar = Grammar {
     tail: 0,
 };
 
-// A label's sign and its hours, minutes, seconds and frames, each below 10^9; absent ones are 0. Where it does not fit: no sign, and all 0.
+// A label's sign and its hours, minutes, seconds and frames, each below 10^9; absent ones are 0.
 #[derive(Clone, Copy)]
 pub struct LabelScan {
-    pub fit: Fit,
     pub minus: bool,
     pub fields: [u64; 4],
 }
 
 // The sign and the fields of a label: what the crate takes by TIMECODE_REGEX and the sections of `parse_timecode_string`.
-pub fn scan_label(text: &[u8]) -> LabelScan
+#[tactic(auto, unfolding(crate::specs::Label::label_scan))]
+pub fn scan_label(text: &[u8]) -> Result<LabelScan, Misfit>
     ensures { result ≡ label_scan text.now }
 {
-    let scan = scanner::scan_text(text, LABEL);
-    let fit = scan.fit;
+    let scan = scanner::scan_text(text, LABEL)?;
     let fields = scan.fields;
-    LabelScan {
-        fit,
+    Ok(LabelScan {
         minus: scan.minus,
         fields,
-    }
+    })
 }

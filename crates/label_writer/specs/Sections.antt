@@ -1,7 +1,9 @@
 -- The sections of a timecode's label (BEHAVIOUR: Labels and counts): the sign, and the fields of the one allowed label whose count is the absolute count.
 -- Assumes nothing.
-use Rattle.std.specs.Prelude.{ℕ, List, false, ℤ, nat_abs}
+use Rattle.answers.specs.declared.Refusal.{Refusal}
+use Rattle.std.specs.Prelude.{ℕ, List, false, ℤ, nat_abs, Result, Ok, Err}
 use Rattle.numbers.specs.Sign.{is_neg}
+use Rattle.answers.specs.Causes.{refusal_number}
 use Rattle.answers.specs.Order.{unless}
 use Rattle.rates.specs.Rates.{rate_row, drop_frames}
 use Rattle.timecodes.specs.declared.Timecode.{Timecode}
@@ -9,8 +11,6 @@ use Rattle.timecodes.specs.Admitted.{admits}
 use Rattle.labels.specs.Label.{hours_in, minutes_in, seconds_in, frames_in}
 use Rattle.labels.specs.Sections.{sections_of}
 use Rattle.label_writer.specs.declared.TimecodeSections.{TimecodeSections}
-use Rattle.label_writer.specs.declared.Sectioned.{Sectioned}
-use Rattle.label_writer.specs.declared.Sectioned.TheVariants.{Sections, Refused}
 
 -- the fields are those of the one allowed label, with minutes and seconds under 60 and frames under the timebase, whose count is the
 -- absolute count (that there is one, and one only: HasLabel and OneLabel of `labels`)
@@ -30,14 +30,14 @@ label_sections rate count =
     }
 
 -- 6: no such rate; then 5: a count out of its bounds
-unfoldable pub sectioned : Timecode → Sectioned
-sectioned tc = unless Refused (admits tc) (Sections (label_sections tc.rate tc.count))
+unfoldable pub sectioned : Timecode → Result TimecodeSections Refusal
+sectioned tc = unless Err (admits tc) (Ok (label_sections tc.rate tc.count))
 
 -- the number of an answer (0: not refused), and its sections (a refusal's numbers are 0)
-abbrev pub number_of : Sectioned → ℕ
-number_of (Sections s) = 0
-number_of (Refused e) = e.number
+abbrev pub number_of : Result TimecodeSections Refusal → ℕ
+number_of (Ok s) = 0
+number_of (Err e) = refusal_number e
 
-abbrev pub sections_in : Sectioned → TimecodeSections
-sections_in (Sections s) = s
-sections_in (Refused e) = record { negative = false; hours = 0; minutes = 0; seconds = 0; frames = 0 }
+abbrev pub sections_in : Result TimecodeSections Refusal → TimecodeSections
+sections_in (Ok s) = s
+sections_in (Err e) = record { negative = false; hours = 0; minutes = 0; seconds = 0; frames = 0 }

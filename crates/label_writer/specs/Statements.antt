@@ -1,7 +1,7 @@
 -- What holds of every label's text (BEHAVIOUR: Labels and counts): its shape, its length, the bytes that occur in it, and when it is written. Proofs:
 -- proofs/Statements.antt.
 -- Assumes nothing.
-use Rattle.std.specs.Prelude.{ℕ, ◌+◌, ◌≤◌, max, ◌≡◌, Bool, true, ◌||◌, List, [], ◌∷◌, ◌++◌, eqb, ℤ, nat_abs, length}
+use Rattle.std.specs.Prelude.{ℕ, ◌+◌, ◌≤◌, max, ◌≡◌, Bool, true, ◌||◌, List, [], ◌∷◌, ◌++◌, eqb, ℤ, nat_abs, length, Ok}
 use Rattle.laws.specs.Every.{every}
 use Rattle.numbers.specs.Sign.{is_neg}
 use Rattle.lent.specs.Line.{splice}
@@ -12,7 +12,6 @@ use Rattle.timecodes.specs.Admitted.{Valid}
 use Rattle.digits.specs.Digits.{is_digit, value_of, width}
 use Rattle.digits.specs.Statements.{Padded}
 use Rattle.labels.specs.Label.{LabelOf}
-use Rattle.written.specs.declared.Written.TheVariants.{Length}
 use Rattle.written.specs.Written.{answer_to, line_to}
 use Rattle.written.specs.Parts.{sign_text}
 use Rattle.label_writer.specs.Sections.{label_sections}
@@ -70,7 +69,7 @@ abbrev pub LabelWritten : Type 0
 LabelWritten =
     (tc : Timecode) (line : List ℕ) (place : ℕ) → Valid tc → place + 14 ≤ length line
     → let text = label_text tc.rate tc.count in
-    (answer_to line place (label_draft tc) ≡ Length (length text)) × (line_to line place (label_draft tc) ≡ splice line place text)
+    (answer_to line place (label_draft tc) ≡ Ok (length text)) × (line_to line place (label_draft tc) ≡ splice line place text)
 
 -- the text of any sections: a sign where they are negative, four fields of two digits at least with their values, `:` between them but the mark
 -- before frames

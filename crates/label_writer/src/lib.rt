@@ -4,13 +4,13 @@
 ghost use Rattle.std.specs.Prelude.{◌≡◌};
 ghost use Rattle.lent.specs.Line.{laid};
 ghost use Rattle.timecodes.specs.Admitted.{Valid};
-ghost use Rattle.written.specs.Written.{Text, answer_to, line_to};
+ghost use Rattle.written.specs.Written.{answer_to, line_to};
 ghost use Rattle.label_writer.specs.Sections.{label_sections, sectioned};
 ghost use Rattle.label_writer.specs.LabelText.{frames_mark, sections_text, sections_length, label_draft};
 
-use answers::{Refusal, Verdict};
+use answers::Refusal;
 use timecodes::Timecode;
-use written::Written;
+use written::Writable;
 
 // The fields of a label: minutes and seconds under 60, frames under the timebase; hours run on past 23.
 #[derive(Clone, Copy)]
@@ -22,21 +22,20 @@ pub struct TimecodeSections {
     pub frames: u64,
 }
 
-// The sections of a label, or why there are none.
+// The label of sections at a rate, as it is written.
 #[derive(Clone, Copy)]
-pub enum Sectioned {
-    Sections(TimecodeSections),
-    Refused(Refusal),
+pub struct Label {
+    pub sections: TimecodeSections,
+    pub rate: u64,
 }
 
 // The sections of a timecode's label (vtc's `sections`). Refuses 6: no such rate; 5: a count out of its bounds.
-pub fn sections(tc: Timecode) -> Sectioned
+#[tactic(auto, unfolding(crate::specs::Sections::sectioned))]
+pub fn sections(tc: Timecode) -> Result<TimecodeSections, Refusal>
     ensures { result ≡ sectioned tc }
 {
-    match timecodes::admit(tc) {
-        Verdict::Passed => Sectioned::Sections(label_sections(tc)),
-        Verdict::Refused(e) => Sectioned::Refused(e),
-    }
+    timecodes::admit(tc)?;
+    Ok(label_sections(tc))
 }
 
 // The sections of the label. Asks a timecode that is admitted.
@@ -44,39 +43,41 @@ fn label_sections(tc: Timecode) -> TimecodeSections
     requires { Valid tc }
     ensures { result ≡ label_sections tc.rate tc.count }
 {
-    let fields = labels::sections(numbers::magnitude(tc.count), tc.rate);
+    let [hours, minutes, seconds, frames] = labels::sections(tc.count.unsigned_abs(), tc.rate);
     TimecodeSections {
-        negative: numbers::below_zero(tc.count),
-        hours: fields[0],
-        minutes: fields[1],
-        seconds: fields[2],
-        frames: fields[3],
+        negative: tc.count < 0,
+        hours,
+        minutes,
+        seconds,
+        frames,
     }
 }
 
 // The label of a timecode, laid down from `place` on (vtc's `timecode`): its length, and every byte of the line afterwards.
 // Refuses 6: no such rate; 5: a count out of its bounds; 8: place plus text length exceeds the line's length.
-pub fn write_label(tc: Timecode, line: &mut [u8], place: usize) -> Written
+#[tactic(auto, unfolding(crate::specs::LabelText::label_draft, crate::specs::LabelText::label_text, written::specs::Written::answer_to, written::specs::Written::line_to))]
+pub fn write_label(tc: Timecode, line: &mut [u8], place: usize) -> Result<usize, Refusal>
     ensures answer { result ≡ answer_to line.old place (label_draft tc) }
     ensures line { line.new ≡ line_to line.old place (label_draft tc) }
 {
-    match timecodes::admit(tc) {
-        Verdict::Passed => write_sections(label_sections(tc), tc.rate, line, place),
-        Verdict::Refused(e) => Written::Refused(e),
-    }
+    timecodes::admit(tc)?;
+    let label = Label {
+        sections: label_sections(tc),
+        rate: tc.rate,
+    };
+    written::write(&label, line, place)
 }
 
-// The text of sections, laid down from `place` on: its length first, one test of room, then the rest of the line is lent on.
-fn write_sections(s: TimecodeSections, rate: u64, line: &mut [u8], place: usize) -> Written
-    ensures answer { result ≡ answer_to line.old place (Text (sections_text (frames_mark rate) s)) }
-    ensures line { line.new ≡ line_to line.old place (Text (sections_text (frames_mark rate) s)) }
-{
-    let need = sections_length(s);
-    if lent::room(line.len(), place, need) {
-        put_sections(&mut line[place..], s, rate);
-        return Written::Length(need);
+impl Writable for Label {
+    ghost text = { λ label. sections_text (frames_mark label.rate) label.sections };
+
+    fn length(&self) -> usize {
+        sections_length(self.sections)
     }
-    Written::Refused(answers::NO_ROOM)
+
+    fn put(&self, part: &mut [u8]) {
+        put_sections(part, self.sections, self.rate);
+    }
 }
 
 // How many bytes the text of sections has.

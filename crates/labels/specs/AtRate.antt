@@ -1,10 +1,9 @@
 -- The count of a label and the label of a count at a rate, for every number and every rate number (BEHAVIOUR: Labels and counts).
 -- Assumes nothing.
-use Rattle.std.specs.Prelude.{◌≡◌, Bool, true, false, cond, ◌&&◌, List, [], ◌∷◌, ℕ, ◌≤◌, leb, ℤ}
+use Rattle.answers.specs.declared.Refusal.{Refusal}
+use Rattle.std.specs.Prelude.{◌≡◌, Bool, true, false, cond, ◌&&◌, List, [], ◌∷◌, ℕ, ◌≤◌, leb, ℤ, Result, Err}
 use Rattle.std.proofs.Common.{le-leb}
 use Rattle.numbers.specs.Sign.{signed}
-use Rattle.answers.specs.declared.Counted.{Counted}
-use Rattle.answers.specs.declared.Counted.TheVariants.{Refused}
 use Rattle.answers.specs.Order.{unless}
 use Rattle.answers.specs.Refusals.{most_count, beyond, no_such, held}
 use Rattle.rates.specs.Rates.{is_rate, rate_row, bad_rate, drop_frames}
@@ -35,8 +34,8 @@ unfolding frames_or
 frames_or-long rate fields e f = rw (e, f)
 
 -- 6: no such rate; else it, held to its bounds
-unfoldable pub label_counted : (rate : ℕ) (minus : Bool) (fields : List ℕ) → Counted
-label_counted rate minus fields = unless Refused (bad_rate rate ∷ []) (held (label_frames rate minus fields))
+unfoldable pub label_counted : (rate : ℕ) (minus : Bool) (fields : List ℕ) → Result ℤ Refusal
+label_counted rate minus fields = unless Err (bad_rate rate ∷ []) (held (label_frames rate minus fields))
 
 pub label_counted-in :
     (rate : ℕ) (minus : Bool) (fields : List ℕ) → is_rate rate ≡ true
@@ -45,7 +44,7 @@ unfolding label_counted
 label_counted-in rate minus fields e = rw e
 
 pub label_counted-out :
-    (rate : ℕ) (minus : Bool) (fields : List ℕ) → is_rate rate ≡ false → label_counted rate minus fields ≡ Refused no_such
+    (rate : ℕ) (minus : Bool) (fields : List ℕ) → is_rate rate ≡ false → label_counted rate minus fields ≡ Err no_such
 unfolding label_counted
 label_counted-out rate minus fields e = rw e
 

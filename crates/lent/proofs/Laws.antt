@@ -1,15 +1,13 @@
 -- Texts laid down one behind the other are one text, also where the rest of the line is lent on for the next.
 -- Assumes nothing.
-use Prim.Native.Nat.{ℕ, suc, ◌+◌, ◌-◌, ◌≤◌, ◌<◌}
+use Prim.Native.Nat.{ℕ, ◌+◌, ◌-◌, ◌≤◌, ◌<◌}
 use mathlib.Core.Path.{◌≡◌, refl, sym, ap, ◌∙◌}
 use mathlib.Core.List.{List, [], ◌∷◌, ◌++◌, append_assoc, append-nil}
 use mathlib.Core.Bool.{Bool, true, false}
 use native.Mathlib.Omega.{arith}
-use native.Mathlib.Numerals.{add-one}
 use native.Mathlib.Nat.{add-zero, zero-add}
 use lib.ListN.{length, take, drop, set, length-append, length-take, length-drop, drop_of_length-le, take-append-drop}
-use lib.Dec.{leb}
-use lib.Seq.{take_all, drop-drop, take_at, drop_at, take-suc-set, drop-set-lt, length-take-le}
+use lib.Seq.{take_all, drop-drop, take_at, drop_at, length-take-le}
 use borrow.Author.Tests.{le-leb, lt-leb, leb-true, leb-false}
 use borrow.Rule.Slice.PartMut.{put_mid, mid_of}
 use Rattle.lent.specs.Line.{front, laid, splice, has_room, fits, line_after}
@@ -26,10 +24,6 @@ unfolding front
 front-snoc [] t b h = absurd (omega arith)
 front-snoc (x ∷ l) [] b h = refl
 front-snoc (x ∷ l) (y ∷ t) b h = ap (λ (z : List ℕ). y ∷ z) (front-snoc l t b (omega arith))
-
--- the first byte set is a text of one byte
-pub front-one : (l : List ℕ) (b : ℕ) → 0 < length l → set l 0 b ≡ front l (b ∷ [])
-front-one l b h = sym (front-snoc l [] b h ∙ front-nil (set l 0 b))
 
 -- where the text has room, and where it has none
 pub laid_in : (l text : List ℕ) → length text ≤ length l → laid l text ≡ front l text
@@ -57,14 +51,6 @@ splice-length l t at h = simp (length-append, length-drop, length-take) (omega a
 
 pub front_length : (l t : List ℕ) → length t ≤ length l → length (front l t) ≡ length l
 front_length l t h = ap length (front-is l t) ∙ splice-length l t 0 (omega arith)
-
--- the first byte of a text is set, the rest goes behind it
-pub splice-set : (l : List ℕ) (k x : ℕ) (t : List ℕ) → k < length l → splice l k (x ∷ t) ≡ splice (set l k x) (k + 1) t
-unfolding splice
-splice-set l k x t h =
-    let s : k + 1 ≡ suc k = add-one k in
-    let n : k + suc (length t) ≡ suc k + length t = omega arith in
-    sym (rw (s, take-suc-set l k x h, drop-set-lt (suc k + length t) l k x (omega arith), append_assoc, ← n))
 
 -- no text at all changes nothing
 pub splice-nil : (l : List ℕ) (k : ℕ) → splice l k [] ≡ l
@@ -140,17 +126,6 @@ laid-three l m last last₂ t u v b d h p q e r f =
     laid-lent l _ last₂ (t ++ u) v d two (omega (arith, length-append t u)) a f ∙ ap (laid l) (append_assoc t u v)
 
 -- ---- room
--- the test that cannot wrap is the test on the sum
-room_by : (total place need : ℕ) (t : Bool) → leb need (total - place) ≡ t → place ≤ total → t ≡ has_room total place need
-room_by total place need true e h = sym (le-leb (place + need) total (omega (arith, leb-true need (total - place) e)))
-room_by total place need false e h = sym (lt-leb (place + need) total (omega (arith, leb-false need (total - place) e)))
-
-pub room_within : (total place need : ℕ) → place ≤ total → leb need (total - place) ≡ has_room total place need
-room_within total place need h = room_by total place need (leb need (total - place)) refl h
-
-pub room-past : (total place need : ℕ) → total < place → false ≡ has_room total place need
-room-past total place need h = sym (lt-leb (place + need) total (omega arith))
-
 module _ (line : List ℕ) (place : ℕ) (text : List ℕ) where
   -- from what `room` answered for a text of `need` bytes
   pub fits-yes : (need : ℕ) (r : Bool) → need ≡ length text → r ≡ has_room (length line) place need → r ≡ true

@@ -6,25 +6,22 @@ ghost use Rattle.std.specs.Prelude.{◌≡◌, ◌∷◌, []};
 ghost use Rattle.lent.specs.Line.{laid, has_room};
 
 // One byte at the front of a part; every other byte stays. In a part of no bytes nothing changes.
+#[tactic(auto, unfolding(crate::specs::Line::laid, crate::specs::Line::front))]
 pub fn put_byte(part: &mut [u8], b: u8)
     ensures { part.new ≡ laid part.old (b ∷ []) }
 {
-    if 0 < part.len() {
-        part[0] = b;
+    if let Some(first) = part.first_mut() {
+        *first = b;
     }
 }
 
-// A text at the front of a part, copied byte by byte; every other byte stays. Where it has no room nothing changes.
+// A text at the front of a part; every other byte stays. Where it has no room nothing changes.
+#[tactic(auto, unfolding(crate::specs::Line::laid, crate::specs::Line::front))]
 pub fn put_text(part: &mut [u8], text: &[u8])
     ensures { part.new ≡ laid part.old text.now }
 {
-    if part.len() < text.len() {
-        return;
-    }
-    let mut i = 0;
-    while i < text.len() {
-        part[i] = text[i];
-        i += 1;
+    if text.len() <= part.len() {
+        part[..text.len()].copy_from_slice(text);
     }
 }
 
@@ -32,8 +29,5 @@ pub fn put_text(part: &mut [u8], text: &[u8])
 pub fn room(total: usize, place: usize, need: usize) -> bool
     ensures { result ≡ has_room total place need }
 {
-    if total < place {
-        return false;
-    }
-    need <= total - place
+    place <= total && need <= total - place
 }

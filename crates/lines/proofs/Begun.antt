@@ -1,7 +1,9 @@
 -- Whether a line is one, test by test; its rate is the run of digits in front, and its text what follows.
 -- Assumes nothing.
+use Rattle.std.specs.Prelude.{None, Err}
 use Prim.Native.Nat.{ℕ, ◌≤◌, ◌<◌}
 use mathlib.Core.Path.{◌≡◌, refl, sym, ap, ap₂, ◌∙◌}
+use mathlib.Core.Logic.{◌⊎◌, ⊎_elim}
 use mathlib.Core.List.{List, [], ◌∷◌, ◌++◌}
 use mathlib.Core.Bool.{Bool, true, false, ◌&&◌}
 use native.Mathlib.Omega.{arith, by_contra}
@@ -13,13 +15,11 @@ use Rattle.digits.specs.Digits.{is_digit, all_digits, value_of, first_is, digit_
 use Rattle.digits.proofs.Values.{both, digit_low, digits-length, digits-all, digits-back}
 use Rattle.digits.proofs.Runs.{run-nine}
 use Rattle.answers.specs.Refusals.{no_shape}
-use Rattle.reading.specs.declared.Stated.TheVariants.{Nothing}
 use Rattle.reading.specs.Reading.{read_text}
-use Rattle.timecodes.specs.declared.Answer.TheVariants.{Refused}
 use Rattle.lines.specs.Input.{is_begun, rate_in, text_in, is_line, line_holds, line_of}
 
 -- ---- lines that are none
-pub long-none : (l : List ℕ) → 64 < length l → is_line l ≡ false
+long-none : (l : List ℕ) → 64 < length l → is_line l ≡ false
 unfolding is_line
 long-none l h = ap (λ (t : Bool). t && is_begun l) (lt-leb (length l) 64 h)
 
@@ -35,6 +35,9 @@ short_none (a ∷ []) h = none (leb (length (a ∷ [])) 64) (all_digits (a ∷ [
 short_none (a ∷ b ∷ []) h = none (leb (length (a ∷ b ∷ [])) 64) (all_digits (a ∷ b ∷ []))
 short_none (a ∷ b ∷ s ∷ l) h = absurd (omega arith)
 
+pub out_of_length : (l : List ℕ) → (length l < 3) ⊎ (64 < length l) → is_line l ≡ false
+out_of_length l = ⊎_elim (short_none l) (long-none l)
+
 -- ---- lines of 3 to 64 bytes, byte by byte
 in-turn : (x y z : Bool) → ((x && (y && true)) && z) ≡ (x && (y && z))
 in-turn true true z = refl
@@ -48,26 +51,10 @@ begun (a ∷ []) h = absurd (omega arith)
 begun (a ∷ b ∷ []) h = absurd (omega arith)
 begun (a ∷ b ∷ s ∷ l) h = in-turn (is_digit a) (is_digit b) (eqb s 32)
 
-module _ (l : List ℕ) (least : 3 ≤ length l) (most : length l ≤ 64) where
-  bytes : is_line l ≡ (is_digit (get_or l 0 0) && (is_digit (get_or l 1 0) && eqb (get_or l 2 0) 32))
-  unfolding is_line
-  bytes = ap (λ (t : Bool). t && is_begun l) (le-leb (length l) 64 most) ∙ begun l least
-
-  pub first-none : is_digit (get_or l 0 0) ≡ false → is_line l ≡ false
-  first-none e = bytes ∙ ap (λ (t : Bool). t && (is_digit (get_or l 1 0) && eqb (get_or l 2 0) 32)) e
-
-  module _ (first : is_digit (get_or l 0 0) ≡ true) where
-    pub second_none : is_digit (get_or l 1 0) ≡ false → is_line l ≡ false
-    second_none e =
-        bytes
-        ∙ ap (λ (t : Bool). t && (is_digit (get_or l 1 0) && eqb (get_or l 2 0) 32)) first
-        ∙ ap (λ (t : Bool). t && eqb (get_or l 2 0) 32) e
-
-    pub by-space : is_digit (get_or l 1 0) ≡ true → is_line l ≡ eqb (get_or l 2 0) 32
-    by-space e =
-        bytes
-        ∙ ap (λ (t : Bool). t && (is_digit (get_or l 1 0) && eqb (get_or l 2 0) 32)) first
-        ∙ ap (λ (t : Bool). t && eqb (get_or l 2 0) 32) e
+pub by_bytes : (l : List ℕ) → 3 ≤ length l → length l ≤ 64
+    → is_line l ≡ (is_digit (get_or l 0 0) && (is_digit (get_or l 1 0) && eqb (get_or l 2 0) 32))
+unfolding is_line
+by_bytes l least most = ap (λ (t : Bool). t && is_begun l) (le-leb (length l) 64 most) ∙ begun l least
 
 -- ---- what a line has
 pub line-least : (l : List ℕ) → is_line l ≡ true → 3 ≤ length l
@@ -79,19 +66,19 @@ space-stops : (l : List ℕ) → first_is (λ b. eqb b 32) l ≡ true → digit_
 space-stops [] e = let z : ◌≡◌ {A = ℕ} 0 1 = cc in absurd (omega arith)
 space-stops (b ∷ l) e = digit_low b (omega (arith, eqb-true b 32 e))
 
-pub rate-run : (l : List ℕ) → is_line l ≡ true → (run_of l).value ≡ rate_in l
+pub rate_run : (l : List ℕ) → is_line l ≡ true → (run_of l).value ≡ rate_in l
 unfolding is_line
-rate-run l e =
+rate_run l e =
     let t = both (all_digits (take 2 l)) (first_is (λ b. eqb b 32) (drop 2 l)) (both (leb (length l) 64) (is_begun l) e).1 in
     ap (λ (x : List ℕ). (run_of x).value) (sym (take-append-drop 2 l))
     ∙ ap (λ r. r.value) (run-nine (take 2 l) (drop 2 l) t.0 (space-stops (drop 2 l) t.1) (omega (arith, length-take 2 l)))
 
 -- ---- what it holds
-pub not_line : (l : List ℕ) → is_line l ≡ false → line_of l ≡ Refused no_shape
+pub not_line : (l : List ℕ) → is_line l ≡ false → line_of l ≡ Err no_shape
 unfolding line_of
 not_line l e = rw e
 
-pub line-held : (l : List ℕ) → is_line l ≡ true → line_of l ≡ line_holds (read_text (text_in l) Nothing (rate_in l))
+pub line-held : (l : List ℕ) → is_line l ≡ true → line_of l ≡ line_holds (read_text (text_in l) None (rate_in l))
 unfolding line_of
 line-held l e = rw e
 
@@ -118,5 +105,5 @@ module _ (rate : ℕ) (text : List ℕ) where
       let n : length made ≤ 64 = omega (arith, length-append (digits_of 2 rate) (32 ∷ text), digits-length 2 rate) in
       rw (le-leb (length made) 64 n, two, digits-all 2 rate, behind)
 
-  pub made-read : rate < 100 → length text ≤ 61 → line_of made ≡ line_holds (read_text text Nothing rate)
-  made-read h k = line-held made (made-line k) ∙ ap₂ (λ (r : ℕ) (t : List ℕ). line_holds (read_text t Nothing r)) (made-rate h) made-text
+  pub made-read : rate < 100 → length text ≤ 61 → line_of made ≡ line_holds (read_text text None rate)
+  made-read h k = line-held made (made-line k) ∙ ap₂ (λ (r : ℕ) (t : List ℕ). line_holds (read_text t None r)) (made-rate h) made-text

@@ -1,5 +1,7 @@
 -- A line made of its parts is read by them, one that is none is refused 1, and no answer has more than 47 bytes: count, label and ticks have bounds.
 -- Assumes nothing.
+use Rattle.answers.specs.Causes.{refusal_number}
+use Rattle.std.specs.Prelude.{Result, Ok, Err}
 use Prim.Native.Nat.{ℕ, ◌+◌, ◌^◌, ◌≤◌, ◌<◌}
 use mathlib.Core.Path.{ap}
 use mathlib.Core.Bool.{Bool, false}
@@ -11,8 +13,6 @@ use Rattle.digits.specs.Digits.{digits_of, width_by, width, decimal}
 use Rattle.digits.proofs.Width.{width-at-most}
 use Rattle.answers.specs.declared.Refusal.{Refusal}
 use Rattle.timecodes.specs.declared.Timecode.{Timecode}
-use Rattle.timecodes.specs.declared.Answer.{Answer}
-use Rattle.timecodes.specs.declared.Answer.TheVariants.{At, Refused}
 use Rattle.timecodes.specs.Admitted.{Valid}
 use Rattle.timecodes.specs.AdmittedLaws.{valid-count-le, valid-count}
 use Rattle.timecodes.specs.Instant.{instant}
@@ -27,7 +27,7 @@ use Rattle.lines.specs.Input.{line_of}
 use Rattle.lines.specs.Output.{timecode_text, refused_text, held_text, answer_text, columns_of}
 use Rattle.lines.specs.Statements.{ReadAtRate, NotBegun, ShortAnswer}
 use Rattle.lines.proofs.Begun.{not_line, made-read}
-use Rattle.lines.proofs.Texts.{columns-length, refused-length, sections-there, columns-are}
+use Rattle.lines.proofs.Texts.{columns_length, refused_length, sections-there, columns-are}
 use Rattle.lines.proofs.Held.{Sound, line-sound}
 
 pub read_at_rate : ReadAtRate
@@ -49,7 +49,7 @@ timecode-short tc v =
     omega (
       arith,
       ap length (columns-are tc v s (sections-there tc v)),
-      columns-length (columns_of tc s),
+      columns_length (columns_of tc s),
       signed-most (is_neg tc.count) (nat_abs tc.count) 9 (omega arith) (omega (arith, valid-count-le tc v)),
       sections-same (frames_mark tc.rate) s,
       label_bounds tc.rate tc.count v.rate (valid-count tc v),
@@ -57,12 +57,12 @@ timecode-short tc v =
       signed-most (is_neg (instant tc)) (nat_abs (instant tc)) 19 (omega arith) (omega (arith, instant-abs-le tc v)),
     )
 
-refused-short : (e : Refusal) → e.number < 100 → length (refused_text e.number) ≤ 47
-refused-short e h = omega (arith, refused-length e.number, padded-length false 1 e.number, width-at-most e.number 2 (omega arith) (omega arith))
+refused-short : (e : Refusal) → refusal_number e < 100 → length (refused_text (refusal_number e)) ≤ 47
+refused-short e h = omega (arith, refused_length (refusal_number e), padded-length false 1 (refusal_number e), width-at-most (refusal_number e) 2 (omega arith) (omega arith))
 
-held-short : (held : Answer) → Sound held → length (held_text held) ≤ 47
-held-short (At tc) v = timecode-short tc v
-held-short (Refused e) h = refused-short e h
+held-short : (held : Result Timecode Refusal) → Sound held → length (held_text held) ≤ 47
+held-short (Ok tc) v = timecode-short tc v
+held-short (Err e) h = refused-short e h
 
 pub short_answer : ShortAnswer
 unfolding answer_text

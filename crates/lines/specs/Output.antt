@@ -1,12 +1,12 @@
 -- The answer to a line (BEHAVIOUR: The line program), its newline included: count, label and ticks, or `refused` and the number.
 -- Assumes nothing.
-use Rattle.std.specs.Prelude.{ℕ, List, [], ◌∷◌, ◌++◌, Bool, false, ℤ, nat_abs}
+use Rattle.answers.specs.Causes.{refusal_number}
+use Rattle.answers.specs.declared.Refusal.{Refusal}
+use Rattle.std.specs.Prelude.{ℕ, List, [], ◌∷◌, ◌++◌, Bool, false, ℤ, nat_abs, Result, Ok, Err}
 use Prim.Native.String.{String}
 use Prim.Native.Char.{code}
 use Rattle.numbers.specs.Sign.{is_neg}
 use Rattle.timecodes.specs.declared.Timecode.{Timecode}
-use Rattle.timecodes.specs.declared.Answer.{Answer}
-use Rattle.timecodes.specs.declared.Answer.TheVariants.{At, Refused}
 use Rattle.timecodes.specs.Instant.{instant, instant_in}
 use Rattle.label_writer.specs.declared.TimecodeSections.{TimecodeSections}
 use Rattle.label_writer.specs.LabelText.{frames_mark, sections_text, label_text}
@@ -35,9 +35,9 @@ timecode_text tc =
 unfoldable pub refused_text : (number : ℕ) → List ℕ
 refused_text number = bytes_of "refused " ++ (signed_text false number ++ (10 ∷ []))
 
-abbrev pub held_text : Answer → List ℕ
-held_text (At tc) = timecode_text tc
-held_text (Refused e) = refused_text e.number
+abbrev pub held_text : Result Timecode Refusal → List ℕ
+held_text (Ok tc) = timecode_text tc
+held_text (Err e) = refused_text (refusal_number e)
 
 -- a line of output for a line of input
 unfoldable pub answer_text : (line : List ℕ) → List ℕ

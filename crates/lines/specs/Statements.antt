@@ -1,8 +1,7 @@
 -- What holds of every answer beyond one call (BEHAVIOUR: The line program): the statements. Proofs: proofs/Statements.antt.
 -- Assumes nothing.
-use Rattle.std.specs.Prelude.{ℕ, ◌≤◌, ◌<◌, ◌≡◌, List, [], ◌∷◌, ◌++◌, false, length}
+use Rattle.std.specs.Prelude.{ℕ, ◌≤◌, ◌<◌, ◌≡◌, List, [], ◌∷◌, ◌++◌, false, length, None}
 use Rattle.digits.specs.Digits.{digits_of}
-use Rattle.reading.specs.declared.Stated.TheVariants.{Nothing}
 use Rattle.reading.specs.Reading.{read_text}
 use Rattle.lines.specs.Input.{is_line, line_holds, line_of}
 use Rattle.lines.specs.Output.{bytes_of, answer_text}
@@ -11,7 +10,7 @@ use Rattle.lines.specs.Output.{bytes_of, answer_text}
 abbrev pub ReadAtRate : Type 0
 ReadAtRate =
     (rate : ℕ) (text : List ℕ) → rate < 100 → length text ≤ 61
-    → line_of (digits_of 2 rate ++ (32 ∷ text)) ≡ line_holds (read_text text Nothing rate)
+    → line_of (digits_of 2 rate ++ (32 ∷ text)) ≡ line_holds (read_text text None rate)
 
 -- a line over 64 bytes, or not so begun, is refused 1, whatever its rate
 abbrev pub NotBegun : Type 0

@@ -10,10 +10,11 @@ ghost use Rattle.written.specs.Written.{Text, answer_to, line_to};
 ghost use Rattle.lines.specs.Input.{is_line, rate_in, line_holds, line_of};
 ghost use Rattle.lines.specs.Output.{timecode_text, refused_text, answer_text, ended_text, columns_of, columns_text};
 
-use label_writer::{Sectioned, TimecodeSections};
-use reading::{Read, Stated};
-use timecodes::{Answer, Kind, Timecode};
-use written::Written;
+use answers::{Cause, Refusal};
+use label_writer::TimecodeSections;
+use reading::Read;
+use timecodes::{Kind, Timecode};
+use written::Writable;
 
 // The three columns of an answer: a count by sign and magnitude, the sections of a label at a rate, ticks by sign and magnitude.
 #[derive(Clone, Copy)]
@@ -26,135 +27,130 @@ struct Columns {
     ticks: u64,
 }
 
+// The answer to a line that is refused, by the refusal's number.
+#[derive(Clone, Copy)]
+struct RefusedLine {
+    number: u64,
+}
+
 // The answer to a line of input, laid down from `place` on: its length, and every byte of `out` afterwards.
 // Refuses 8: place plus text length exceeds the length of `out`.
-pub fn answer(input: &[u8], out: &mut [u8], place: usize) -> Written
+pub fn answer(input: &[u8], out: &mut [u8], place: usize) -> Result<usize, Refusal>
     ensures answer { result ≡ answer_to out.old place (Text (answer_text input.now)) }
     ensures line { out.new ≡ line_to out.old place (Text (answer_text input.now)) }
 {
     match read_line(input) {
-        Answer::At(tc) => write_timecode(tc, out, place),
-        Answer::Refused(e) => write_refused(wide(e.number), out, place),
+        Ok(tc) => write_timecode(tc, out, place),
+        Err(e) => {
+            let number = u64::from(e.cause.number());
+            written::write(&RefusedLine { number }, out, place)
+        }
     }
 }
 
 // What a line of input holds, its newline not counted. Refuses 1: it has over 64 bytes, or does not begin with two digits of rate and a
 // space; else as its text is refused at this rate, no film format stated.
-fn read_line(input: &[u8]) -> Answer
+fn read_line(input: &[u8]) -> Result<Timecode, Refusal>
     ensures { result ≡ line_of input.now }
 {
     if !is_line(input) {
-        return Answer::Refused(answers::NO_SHAPE);
+        return Err(Cause::NoShape.into());
     }
     let rate = rate_in(input);
-    let read = reading::read_text(&input[3..], Stated::Nothing, rate, Kind::Length);
-    line_holds(read)
+    line_holds(reading::read_text(&input[3..], None, rate, Kind::Length))
 }
 
 // Has the line at most 64 bytes, and does it begin with two digits and a space?
+#[tactic(auto, using(crate::proofs::Begun::by_bytes, crate::proofs::Begun::out_of_length))]
 fn is_line(input: &[u8]) -> bool
     ensures { result ≡ is_line input.now }
 {
-    if input.len() > 64 {
-        return false;
-    }
-    if input.len() < 3 {
-        return false;
-    }
-    if !digits::is_digit(input[0]) {
-        return false;
-    }
-    if !digits::is_digit(input[1]) {
-        return false;
-    }
-    input[2] == b' '
+    (3..=64).contains(&input.len())
+        && digits::is_digit(input[0])
+        && digits::is_digit(input[1])
+        && input[2] == b' '
 }
 
 // The rate of a line. Asks that it is one.
+#[tactic(auto, using(crate::proofs::Begun::rate_run))]
 fn rate_in(input: &[u8]) -> u64
     requires { is_line input.now ≡ true }
     ensures { result ≡ rate_in input.now }
 {
-    let run = digits::run_at(input, 0);
-    run.value
+    digits::run_at(input, 0).value
 }
 
 // A text's answer as that of its line: a label and a footage hold a timecode alike.
-fn line_holds(read: Read) -> Answer
+fn line_holds(read: Result<Read, Refusal>) -> Result<Timecode, Refusal>
     ensures { result ≡ line_holds read }
 {
-    match read {
-        Read::Label(tc) => Answer::At(tc),
-        Read::Footage(tc, _) => Answer::At(tc),
-        Read::Refused(e) => Answer::Refused(e),
+    match read? {
+        Read::Label(tc) => Ok(tc),
+        Read::Footage(tc, _) => Ok(tc),
     }
 }
 
 // Count, label and ticks of a timecode, laid down from `place` on. Asks a timecode that is admitted: its sections are never refused.
-fn write_timecode(tc: Timecode, out: &mut [u8], place: usize) -> Written
+fn write_timecode(tc: Timecode, out: &mut [u8], place: usize) -> Result<usize, Refusal>
     requires { Valid tc }
     ensures answer { result ≡ answer_to out.old place (Text (timecode_text tc)) }
     ensures line { out.new ≡ line_to out.old place (Text (timecode_text tc)) }
 {
-    match label_writer::sections(tc) {
-        Sectioned::Sections(s) => write_columns(columns_of(tc, s), out, place),
-        Sectioned::Refused(e) => Written::Refused(e),
-    }
+    let sections = label_writer::sections(tc)?;
+    written::write(&columns_of(tc, sections), out, place)
 }
 
 // The columns of a timecode and the sections of its label.
-fn columns_of(tc: Timecode, s: TimecodeSections) -> Columns
-    ensures { result ≡ columns_of tc s }
+fn columns_of(tc: Timecode, sections: TimecodeSections) -> Columns
+    ensures { result ≡ columns_of tc sections }
 {
     let instant = timecodes::instant_of(tc);
     Columns {
-        below: numbers::below_zero(tc.count),
-        count: numbers::magnitude(tc.count),
-        sections: s,
+        below: tc.count < 0,
+        count: tc.count.unsigned_abs(),
+        sections,
         rate: tc.rate,
-        minus: numbers::below_zero(instant),
-        ticks: numbers::magnitude(instant),
+        minus: instant < 0,
+        ticks: instant.unsigned_abs(),
     }
 }
 
-// The columns laid down from `place` on: their length first, one test of room, then the rest is lent on.
-fn write_columns(c: Columns, out: &mut [u8], place: usize) -> Written
-    ensures answer { result ≡ answer_to out.old place (Text (columns_text c)) }
-    ensures line { out.new ≡ line_to out.old place (Text (columns_text c)) }
-{
-    let need = columns_length(c);
-    if lent::room(out.len(), place, need) {
-        put_columns(&mut out[place..], c);
-        return Written::Length(need);
+impl Writable for Columns {
+    ghost text = { λ c. columns_text c };
+
+    fn length(&self) -> usize {
+        written::signed_length(self.below, self.count)
+            + label_writer::sections_length(self.sections)
+            + written::signed_length(self.minus, self.ticks)
+            + 3
     }
-    Written::Refused(answers::NO_ROOM)
+
+    #[tactic(auto, using(crate::proofs::Texts::columns_length, crate::proofs::Texts::ended_length, crate::proofs::Texts::label_length))]
+    fn put(&self, part: &mut [u8]) {
+        let first = written::signed_length(self.below, self.count) + 1;
+        let second = first + label_writer::sections_length(self.sections) + 1;
+        put_ended(part, self.below, self.count, b' ');
+        put_label(&mut part[first..], self.sections, self.rate);
+        put_ended(&mut part[second..], self.minus, self.ticks, b'\n');
+    }
 }
 
-// How many bytes the columns have, with the bytes behind them.
-fn columns_length(c: Columns) -> usize
-    ensures { result ≡ length (columns_text c) }
-{
-    let s = c.sections;
-    written::signed_length(c.below, c.count)
-        + label_writer::sections_length(s)
-        + written::signed_length(c.minus, c.ticks)
-        + 3
-}
+impl Writable for RefusedLine {
+    ghost text = { λ r. refused_text r.number };
 
-// The columns at the front of a part; every other byte stays. Asks their room.
-fn put_columns(part: &mut [u8], c: Columns)
-    requires { length (columns_text c) ≤ length part.old }
-    ensures { part.new ≡ laid part.old (columns_text c) }
-{
-    let s = c.sections;
-    let first = written::signed_length(c.below, c.count) + 1;
-    let second = first + label_writer::sections_length(s) + 1;
-    put_ended(part, c.below, c.count, b' ');
-    put_label(&mut part[first..], s, c.rate);
-    put_ended(&mut part[second..], c.minus, c.ticks, b'\n');
+    fn length(&self) -> usize {
+        written::signed_length(false, self.number) + 9
+    }
+
+    #[tactic(auto, using(crate::proofs::Texts::refused_length, crate::proofs::Texts::ended_length))]
+    fn put(&self, part: &mut [u8]) {
+        lent::put_text(part, b"refused ");
+        put_ended(&mut part[8..], false, self.number, b'\n');
+    }
 }
 
 // A number and the byte behind it at the front of a part; every other byte stays. Asks their room.
+#[tactic(auto, using(crate::proofs::Texts::ended_length))]
 fn put_ended(part: &mut [u8], minus: bool, m: u64, end: u8)
     requires { length (ended_text minus m end) ≤ length part.old }
     ensures { part.new ≡ laid part.old (ended_text minus m end) }
@@ -165,6 +161,7 @@ fn put_ended(part: &mut [u8], minus: bool, m: u64, end: u8)
 }
 
 // A label and the space behind it at the front of a part; every other byte stays. Asks their room.
+#[tactic(auto, using(crate::proofs::Texts::labelled_length))]
 fn put_label(part: &mut [u8], s: TimecodeSections, rate: u64)
     requires { length (sections_text (frames_mark rate) s ++ (32 ∷ [])) ≤ length part.old }
     ensures { part.new ≡ laid part.old (sections_text (frames_mark rate) s ++ (32 ∷ [])) }
@@ -172,33 +169,4 @@ fn put_label(part: &mut [u8], s: TimecodeSections, rate: u64)
     let at = label_writer::sections_length(s);
     label_writer::put_sections(part, s, rate);
     lent::put_byte(&mut part[at..], b' ');
-}
-
-// `refused` and a number, laid down from `place` on.
-fn write_refused(number: u64, out: &mut [u8], place: usize) -> Written
-    ensures answer { result ≡ answer_to out.old place (Text (refused_text number)) }
-    ensures line { out.new ≡ line_to out.old place (Text (refused_text number)) }
-{
-    let need = written::signed_length(false, number) + 9;
-    if lent::room(out.len(), place, need) {
-        put_refused(&mut out[place..], number);
-        return Written::Length(need);
-    }
-    Written::Refused(answers::NO_ROOM)
-}
-
-// `refused`, a number and the newline at the front of a part; every other byte stays. Asks their room.
-fn put_refused(part: &mut [u8], number: u64)
-    requires { length (refused_text number) ≤ length part.old }
-    ensures { part.new ≡ laid part.old (refused_text number) }
-{
-    lent::put_text(part, b"refused ");
-    put_ended(&mut part[8..], false, number, b'\n');
-}
-
-// A refusal's number among all numbers.
-fn wide(number: u8) -> u64
-    ensures { result ≡ number }
-{
-    number as u64
 }

@@ -1,52 +1,28 @@
--- The loop of `put_number`: what is left to be laid down, on the part as it is, makes the part that is wanted.
+-- The loop of `put_number`: the bytes that were set, with those of what is left behind them, are those of the number.
 -- Assumes nothing.
 use Prim.Native.Nat.{ℕ, suc, ◌+◌, ◌-◌, ◌/◌, ◌%◌, ◌≤◌, ◌<◌}
-use mathlib.Core.Path.{◌≡◌, refl, sym, ap, ◌∙◌}
-use mathlib.Core.List.{List}
+use mathlib.Core.Path.{◌≡◌, sym, ◌∙◌}
+use mathlib.Core.List.{List, ◌∷◌, [], ◌++◌, append_assoc, append-nil}
 use native.Mathlib.Omega.{arith}
-use lib.ListN.{length, set, length-set}
-use Rattle.lent.specs.Line.{splice, laid}
-use Rattle.lent.proofs.Laws.{laid_in, front-is, splice-set, splice-nil}
+use lib.ListN.{length, set, take, drop}
+use Rattle.std.proofs.Common.{take_all}
+use Rattle.std.proofs.lemmas.Grind.{take-set_at}
+use Rattle.lent.specs.Line.{front, laid}
+use Rattle.lent.proofs.Laws.{laid_in}
 use Rattle.low_bytes.specs.LowBytes.{low_bytes}
 use Rattle.low_bytes.specs.Laws.{low-length}
 
-pub record Laying (part₀ : List ℕ) (width n : ℕ) (part : List ℕ) (rest i : ℕ) : Type 0 where
-  pub long : length part ≡ length part₀
-  pub room : width ≤ length part₀
-  pub inside : i ≤ width
-  pub left : laid part₀ (low_bytes width n) ≡ splice part i (low_bytes (width - i) rest)
+module _ (width n : ℕ) (l : List ℕ) (rest i : ℕ) (s : low_bytes width n ≡ take i l ++ low_bytes (width - i) rest) where
+  pub laying-turn : i < width → i < length l
+      → low_bytes width n ≡ take (i + 1) (set l i (rest % 256)) ++ low_bytes (width - (i + 1)) (rest / 256)
+  unfolding low_bytes
+  laying-turn h k =
+      let w : width - i ≡ suc (width - (i + 1)) = omega arith in
+      s ∙ rw (w, take-set_at) (sym (append_assoc (take i l) ((rest % 256) ∷ []) (low_bytes (width - (i + 1)) (rest / 256))))
 
-module _ (part₀ : List ℕ) (width n : ℕ) where
-  pub laying-start : width ≤ length part₀ → Laying part₀ width n part₀ n 0
-  laying-start h =
-      let w : width - 0 ≡ width = omega arith in
-      record {
-        long = refl;
-        room = h;
-        inside = omega arith;
-        left =
-            laid_in part₀ (low_bytes width n) (omega (arith, low-length width n))
-            ∙ front-is part₀ (low_bytes width n)
-            ∙ ap (λ (k : ℕ). splice part₀ 0 (low_bytes k n)) (sym w);
-      }
-
-  module _ (part : List ℕ) (rest i : ℕ) (s : Laying part₀ width n part rest i) where
-    pub laying-turn : i < width → Laying part₀ width n (set part i (rest % 256)) (rest / 256) (i + 1)
-    unfolding low_bytes
-    laying-turn h =
-        let w : width - i ≡ suc (width - (i + 1)) = omega arith in
-        record {
-          long = length-set part i (rest % 256) ∙ s.long;
-          room = s.room;
-          inside = omega arith;
-          left =
-              s.left
-              ∙ ap (λ (k : ℕ). splice part i (low_bytes k rest)) w
-              ∙ splice-set part i (rest % 256) (low_bytes (width - (i + 1)) (rest / 256)) (omega (arith, s.long, s.room));
-        }
-
-    pub laying-done : width ≤ i → part ≡ laid part₀ (low_bytes width n)
-    unfolding low_bytes
-    laying-done h =
-        let w : width - i ≡ 0 = omega arith in
-        sym (s.left ∙ ap (λ (k : ℕ). splice part i (low_bytes k rest)) w ∙ splice-nil part i)
+  pub laying-done : (part : List ℕ) → width ≤ i → length l ≤ i → width ≤ length part → l ++ drop width part ≡ laid part (low_bytes width n)
+  unfolding low_bytes front
+  laying-done part h k room =
+      let w : width - i ≡ 0 = omega arith in
+      let whole : low_bytes width n ≡ l = s ∙ rw (w, take_all, append-nil) in
+      sym (laid_in part (low_bytes width n) (omega (arith, low-length width n)) ∙ rw (low-length width n, whole))

@@ -3,3 +3,4 @@ pub mod Summing
 pub mod Laying
 pub mod Statements
 pub mod Determined
+pub mod Machine

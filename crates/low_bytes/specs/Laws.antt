@@ -56,7 +56,7 @@ twos-below w (pos n) h = omega arith
 twos-below w (negsuc n) h = omega arith
 
 -- less than nothing: the one below is its own
-neg-one-less : (m : ℕ) → 0 < m → neg_ℤ (pos m) ≡ negsuc (m - 1)
+pub neg-one-less : (m : ℕ) → 0 < m → neg_ℤ (pos m) ≡ negsuc (m - 1)
 neg-one-less zero h = absurd (omega arith)
 neg-one-less (suc m) h = ap negsuc (omega arith)
 

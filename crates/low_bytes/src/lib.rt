@@ -6,33 +6,17 @@ ghost use Rattle.std.specs.Prelude.{◌≡◌, ◌-◌, min, take, drop};
 ghost use Rattle.lent.specs.Line.{laid};
 ghost use Rattle.low_bytes.specs.LowBytes.{worth, low_bytes, signed_of, twos_of, signed_bytes};
 
-// The smaller of two numbers.
-fn least(a: usize, b: usize) -> usize
-    ensures { result ≡ min a b }
-{
-    if a < b { a } else { b }
-}
-
-// How many of `width` bytes, eight at most, a list of `total` bytes has from a place on.
-fn present(total: usize, at: usize, width: usize) -> usize
-    ensures { result ≡ min (min width 8) (total - at) }
-{
-    if total <= at {
-        return 0;
-    }
-    least(least(width, 8), total - at)
-}
-
 // What the bytes from a place on are worth: `width` of them, eight at most, and those that are not there count nothing.
 pub fn number_at(s: &[u8], at: usize, width: usize) -> u64
     ensures { result ≡ worth (take (min width 8) (drop at s.now)) }
 {
-    let mut n: u64 = 0;
-    let mut k = present(s.len(), at, width);
-    while 0 < k {
-        k -= 1;
-        let b = s[at + k];
-        n = n * 256 + b as u64;
+    let Some(rest) = s.get(at..) else {
+        return 0;
+    };
+    let bytes = &rest[..width.min(8).min(rest.len())];
+    let mut n = 0;
+    for b in bytes.iter().rev() {
+        n = n * 256 + u64::from(*b);
     }
     n
 }
@@ -41,26 +25,20 @@ pub fn number_at(s: &[u8], at: usize, width: usize) -> u64
 pub fn signed_at(s: &[u8], at: usize) -> i64
     ensures { result ≡ signed_of 4 (worth (take 4 (drop at s.now))) }
 {
-    let n = number_at(s, at, 4);
-    if n < 2_147_483_648 {
-        return numbers::with_sign(false, n);
-    }
-    numbers::with_sign(true, 4_294_967_296 - n)
+    let n = number_at(s, at, 4) as u32;
+    i64::from(n.cast_signed())
 }
 
 // The `width` lowest bytes of n at the front of a part; every other byte stays. Where they have no room nothing changes.
 pub fn put_number(part: &mut [u8], width: usize, n: u64)
     ensures { part.new ≡ laid part.old (low_bytes width n) }
 {
-    if part.len() < width {
-        return;
-    }
     let mut rest = n;
-    let mut i = 0;
-    while i < width {
-        part[i] = (rest % 256) as u8;
-        rest /= 256;
-        i += 1;
+    if width <= part.len() {
+        for byte in &mut part[..width] {
+            *byte = (rest % 256) as u8;
+            rest /= 256;
+        }
     }
 }
 
@@ -69,13 +47,11 @@ fn twos_of(z: i64) -> u64
     ensures { result ≡ twos_of 4 z }
 {
     let m = numbers::magnitude(z);
-    if !numbers::below_zero(z) {
-        return m;
+    if numbers::below_zero(z) {
+        4_294_967_296u64.saturating_sub(m)
+    } else {
+        m
     }
-    if m > 4_294_967_296 {
-        return 0;
-    }
-    4_294_967_296 - m
 }
 
 // The four bytes of a signed number that they hold at the front of a part; every other byte stays. Where they have no room nothing changes.

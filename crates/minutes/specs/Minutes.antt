@@ -1,8 +1,7 @@
 -- The minute table (BEHAVIOUR: The minute table): the first frame numbers of a 29.97 drop day's minutes.
 -- Assumes nothing.
-use Rattle.std.specs.Prelude.{cond, not, [], ◌∷◌, ℕ, zero, suc, ◌+◌, ◌%◌, eqb, leb, pos}
-use Rattle.answers.specs.declared.Counted.{Counted}
-use Rattle.answers.specs.declared.Counted.TheVariants.{Count, Refused}
+use Rattle.answers.specs.declared.Refusal.{Refusal}
+use Rattle.std.specs.Prelude.{cond, not, [], ◌∷◌, ℕ, zero, suc, ◌+◌, ◌%◌, eqb, leb, pos, Result, Ok, Err, ℤ}
 use Rattle.answers.specs.Order.{Condition, when, unless}
 use Rattle.answers.specs.Refusals.{out_of_bounds}
 
@@ -20,8 +19,8 @@ abbrev pub bad_minute : (minute : ℕ) → Condition
 bad_minute minute = when out_of_bounds (not (leb minute 1439))
 
 -- the first frame number of a minute of the table
-unfoldable pub minute_at : (minute : ℕ) → Counted
-minute_at minute = unless Refused (bad_minute minute ∷ []) (Count (pos (minute_start minute)))
+unfoldable pub minute_at : (minute : ℕ) → Result ℤ Refusal
+minute_at minute = unless Err (bad_minute minute ∷ []) (Ok (pos (minute_start minute)))
 
 -- the frames of a minute's first allowed label: 0 where the minute is a multiple of 10, else 2
 abbrev pub first_frame : (minute : ℕ) → ℕ

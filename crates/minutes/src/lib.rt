@@ -4,17 +4,17 @@
 ghost use Rattle.std.specs.Prelude.{◌≡◌};
 ghost use Rattle.minutes.specs.Minutes.{minute_at};
 
-use answers::Counted;
+use answers::{Cause, Refusal};
 
 mod table;
 
 // The first frame number of a minute of the day, 0 to 1439; any other minute is out of bounds.
-pub fn minute_start(minute: u64) -> Counted
+pub fn minute_start(minute: u64) -> Result<i64, Refusal>
     ensures { result ≡ minute_at minute }
 {
     if minute > 1439 {
-        return Counted::Refused(answers::OUT_OF_BOUNDS);
+        return Err(Cause::OutOfBounds.into());
     }
     let start = table::entry(minute as usize);
-    Counted::Count(start as i64)
+    Ok(start as i64)
 }

@@ -1,5 +1,4 @@
 pub mod Machine
-pub mod Flipped
 pub mod Tests
 pub mod Closest
 pub mod Statements

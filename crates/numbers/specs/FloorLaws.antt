@@ -1,8 +1,10 @@
 -- Laws of floored division, over every divisor but 0 (BEHAVIOUR: Time, Arithmetic): what rounding down is, and how it goes by magnitudes.
 -- Assumes nothing.
-use Rattle.std.specs.Prelude.{◌≡◌, refl, true, false, ℕ, zero, suc, ◌+◌, ◌*◌, ◌/◌, ◌%◌, ◌≤◌, ◌<◌, T, ℤ, pos, negsuc, neg_ℤ, nat_abs, ◌*ℤ◌, ◌≤ℤ◌}
-use Rattle.std.proofs.Common.{sym, ap, subst, zero-mul, div-add-mod', mod-lt, div-mul-le_self, suc-mul, le-div_iff_mul-le, div-lt_iff_lt-mul, le-mul_of_pos_right, arith}
+use Rattle.std.specs.Prelude.{◌≡◌, refl, true, false, ℕ, zero, suc, ◌+◌, ◌*◌, ◌/◌, ◌≤◌, ◌<◌, T, ℤ, pos, negsuc, neg_ℤ, nat_abs, ◌*ℤ◌, ◌≤ℤ◌}
+use Rattle.std.proofs.Common.{sym, ap, subst, zero-mul, div-mul-le_self, suc-mul, le-div_iff_mul-le, div-lt_iff_lt-mul, arith}
 use Rattle.std.specs.Bool.{beq}
+use Rattle.std.specs.Int.{div_ceil}
+use Rattle.std.proofs.lemmas.Grind.{div_ceil_times}
 use Rattle.std.proofs.Math.Nat.{zero-div, lt-div-mul-add, div-eq_of_lt-le}
 use Rattle.numbers.specs.Sign.{is_neg}
 use Rattle.numbers.specs.OrderLaws.{le-pos, le-across, le-neg, pos-le, neg-le}
@@ -50,19 +52,6 @@ module _ (x d : ℤ) (unlike : beq (is_neg x) (is_neg d) ≡ false) where
       by_cases (negsuc a) (pos b) e k lo hi = down-neg a b k lo hi
       by_cases (negsuc a) (negsuc b) e k lo hi = absurd (subst T e tt)
 
-  -- which is the quotient where nothing is left
-  pub floor-whole : 0 < nat_abs d → nat_abs x % nat_abs d ≡ 0 → neg_ℤ (pos (nat_abs x / nat_abs d)) ≡ floor_z x d
-  floor-whole h e =
-      let s = div-add-mod' (nat_abs x) (nat_abs d) in
-      rounded-up (nat_abs x / nat_abs d) (omega arith) (omega arith)
-
-  -- and one more where something is
-  pub floor-part : 0 < nat_abs d → (nat_abs x % nat_abs d ≡ 0 → ⊥) → neg_ℤ (pos (nat_abs x / nat_abs d + 1)) ≡ floor_z x d
-  floor-part h e =
-      let s = div-add-mod' (nat_abs x) (nat_abs d) in
-      let l = mod-lt (nat_abs x) {m = nat_abs d} h in
-      rounded-up (nat_abs x / nat_abs d + 1) (omega arith) (omega arith)
-
--- a quotient that leaves something is below the number
-pub quotient-below : (m n : ℕ) → 0 < n → (m % n ≡ 0 → ⊥) → m / n < m
-quotient-below m n h e = omega (arith, div-add-mod' m n, le-mul_of_pos_right (m / n) h)
+  pub floor-unlike : 0 < nat_abs d → neg_ℤ (pos (div_ceil (nat_abs x) (nat_abs d))) ≡ floor_z x d
+  floor-unlike h =
+      let t = div_ceil_times (nat_abs x) (nat_abs d) h in rounded-up (div_ceil (nat_abs x) (nat_abs d)) t.0 t.1

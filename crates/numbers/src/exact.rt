@@ -1,6 +1,5 @@
-// The same operations where the answer fits: each asks for that, and only the total function of its name calls it, behind the test.
-ghost use Rattle.std.specs.Prelude.{◌≡◌, ◌+◌, ◌*◌, ◌^◌, ◌<◌, nat_abs, ◌+ℤ◌, ◌-ℤ◌, ◌*ℤ◌};
-ghost use Rattle.std.specs.Int.Signed.{quot_z, rem_z};
+// Operations where the answer fits: each asks for that, and only the total function of its name calls it, behind the test.
+ghost use Rattle.std.specs.Prelude.{◌≡◌, ◌^◌, ◌<◌, nat_abs};
 ghost use Rattle.numbers.specs.Sign.{signed};
 ghost use Rattle.numbers.specs.Nearest.{nearest_n};
 ghost use Rattle.numbers.specs.Floor.{floor_z};
@@ -18,30 +17,6 @@ pub(crate) fn with_sign(minus: bool, m: u64) -> i64
     if minus { 0 - p } else { p }
 }
 
-// The sum.
-pub(crate) fn sum(x: i64, y: i64) -> i64
-    requires { nat_abs x + nat_abs y < 2 ^ 63 }
-    ensures { result ≡ x +ℤ y }
-{
-    x + y
-}
-
-// The difference.
-pub(crate) fn difference(x: i64, y: i64) -> i64
-    requires { nat_abs x + nat_abs y < 2 ^ 63 }
-    ensures { result ≡ x -ℤ y }
-{
-    x - y
-}
-
-// The product.
-pub(crate) fn product(x: i64, y: i64) -> i64
-    requires { nat_abs x * nat_abs y < 2 ^ 63 }
-    ensures { result ≡ x *ℤ y }
-{
-    x * y
-}
-
 // The nearest whole number of a/n, halves up; nothing is doubled, so any a is taken.
 pub(crate) fn nearest(a: u64, n: u64) -> u64
     requires { 0 < n }
@@ -52,22 +27,6 @@ pub(crate) fn nearest(a: u64, n: u64) -> u64
     if n - r <= r { q + 1 } else { q }
 }
 
-// x over d, cut off toward zero.
-pub(crate) fn quotient(x: i64, d: i64) -> i64
-    requires { (nat_abs x < 2 ^ 63) × (0 < nat_abs d) }
-    ensures { result ≡ quot_z x d }
-{
-    x / d
-}
-
-// What the truncated quotient leaves, with the dividend's sign.
-pub(crate) fn remainder(x: i64, d: i64) -> i64
-    requires { (nat_abs x < 2 ^ 63) × (0 < nat_abs d) }
-    ensures { result ≡ rem_z x d }
-{
-    x % d
-}
-
 // x over d, rounded down.
 pub(crate) fn floor(x: i64, d: i64) -> i64
     requires { (nat_abs x < 2 ^ 63) × (0 < nat_abs d) }
@@ -75,14 +34,10 @@ pub(crate) fn floor(x: i64, d: i64) -> i64
 {
     let m = crate::magnitude(x);
     let n = crate::magnitude(d);
-    let q = m / n;
-    let r = m % n;
     if crate::below_zero(x) == crate::below_zero(d) {
-        with_sign(false, q)
-    } else if r == 0 {
-        with_sign(true, q)
+        with_sign(false, m / n)
     } else {
-        with_sign(true, q + 1)
+        with_sign(true, m.div_ceil(n))
     }
 }
 

@@ -1,4 +1,3 @@
-pub mod Laid
 pub mod Statements
 pub mod Room
 pub mod Determined

@@ -1,5 +1,10 @@
 -- What C is handed by every other function is the answer's numbers: those of the struct that the contract names.
 -- Assumes nothing.
+use Rattle.label_writer.specs.declared.TimecodeSections.{TimecodeSections}
+use Rattle.answers.specs.declared.Refusal.{Refusal}
+use Rattle.rates.specs.declared.Framerate.{Framerate}
+use Rattle.film.specs.declared.FilmFormat.{FilmFormat}
+use Rattle.std.specs.Prelude.{Result, Ok, Err, ℤ}
 use Prim.Native.Nat.{ℕ, ◌+◌}
 use mathlib.Core.Path.{◌≡◌, refl, ◌∙◌, ap}
 use mathlib.Core.List.{List}
@@ -7,29 +12,13 @@ use mathlib.Core.Bool.{Bool, true, false, not, cond}
 use lib.Dec.{leb}
 use lib.ListN.{length}
 use borrow.Author.Tests.{le-leb, lt-leb}
-use Rattle.answers.specs.declared.Counted.{Counted}
-use Rattle.answers.specs.declared.Counted.TheVariants as counted
 use Rattle.answers.specs.Refusals.{no_room}
-use Rattle.rates.specs.declared.Rated.{Rated}
-use Rattle.rates.specs.declared.Rated.TheVariants as rated
 use Rattle.rates.specs.Rates.{drop_frames}
 use Rattle.rates.proofs.Statements as rates
 use Rattle.timecodes.specs.declared.Timecode.{Timecode}
-use Rattle.timecodes.specs.declared.Answer.{Answer}
-use Rattle.timecodes.specs.declared.Answer.TheVariants as answer
 use Rattle.timecodes.specs.Instant.{instant}
-use Rattle.film.specs.declared.Filmed.{Filmed}
-use Rattle.film.specs.declared.Filmed.TheVariants as filmed
-use Rattle.time.specs.declared.Ticked.{Ticked}
-use Rattle.time.specs.declared.Ticked.TheVariants as ticked
-use Rattle.time.specs.declared.Timed.{Timed}
-use Rattle.time.specs.declared.Timed.TheVariants as timed
+use Rattle.time.specs.declared.Fraction.{Fraction}
 use Rattle.time.specs.Seconds.{InSeconds, IsSeconds}
-use Rattle.arithmetic.specs.declared.Compared.{Compared}
-use Rattle.arithmetic.specs.declared.Compared.TheVariants as compared
-use Rattle.label_writer.specs.declared.Sectioned.{Sectioned}
-use Rattle.label_writer.specs.declared.Sectioned.TheVariants as sectioned
-use Rattle.written.specs.declared.Written.TheVariants as written
 use Rattle.written.specs.Written.{Draft, Text, NoText, answer_to}
 use Rattle.exports.specs.declared.handed.TzqCount.{TzqCount}
 use Rattle.exports.specs.declared.handed.TzqOrder.{TzqOrder}
@@ -44,32 +33,32 @@ use Rattle.exports.specs.Handed.{SecondsHanded, handed_count, handed_order, hand
 use Rattle.promises.specs.AnswersC.{CountIs, OrderIs, TicksAre, ConvertedIs, SecondsAre, SectionsAre, LengthIs, RateIs, FormatIs, DropsAre, AnswersForC}
 
 -- ---- numbers
-count_is : (t : TzqCount) (a : Counted) → t ≡ handed_count a → CountIs t a
+count_is : (t : TzqCount) (a : Result ℤ Refusal) → t ≡ handed_count a → CountIs t a
 unfolding handed_count
-count_is t (counted.Count z) e = rw e (refl, refl, refl)
-count_is t (counted.Refused r) e = rw e (refl, refl, refl)
+count_is t (Ok z) e = rw e (refl, refl, refl)
+count_is t (Err r) e = rw e (refl, refl, refl)
 
-order_is : (t : TzqOrder) (a : Compared) → t ≡ handed_order a → OrderIs t a
+order_is : (t : TzqOrder) (a : Result ℤ Refusal) → t ≡ handed_order a → OrderIs t a
 unfolding handed_order
-order_is t (compared.Order o) e = rw e (refl, refl)
-order_is t (compared.Refused r) e = rw e (refl, refl)
+order_is t (Ok o) e = rw e (refl, refl)
+order_is t (Err r) e = rw e (refl, refl)
 
-ticks-are : (t : TzqTicks) (a : Ticked) → t ≡ handed_ticks a → TicksAre t a
+ticks-are : (t : TzqTicks) (a : Result ℤ Refusal) → t ≡ handed_ticks a → TicksAre t a
 unfolding handed_ticks
-ticks-are t (ticked.Ticks n) e = rw e (refl, refl)
-ticks-are t (ticked.Refused r) e = rw e (refl, refl)
+ticks-are t (Ok n) e = rw e (refl, refl)
+ticks-are t (Err r) e = rw e (refl, refl)
 
-converted-is : (t : TzqConverted) (a : Answer) → t ≡ handed_timecode a → ConvertedIs t a
+converted-is : (t : TzqConverted) (a : Result Timecode Refusal) → t ≡ handed_timecode a → ConvertedIs t a
 unfolding handed_timecode
-converted-is t (answer.At tc) e = rw e (refl, refl, refl)
-converted-is t (answer.Refused r) e = rw e (refl, refl, refl)
+converted-is t (Ok tc) e = rw e (refl, refl, refl)
+converted-is t (Err r) e = rw e (refl, refl, refl)
 
 -- a right answer that is handed over: seconds are no refusal, and a refusal no seconds
-in-seconds : (tc : Timecode) (t : TzqSeconds) (a : Timed) → t ≡ handed_seconds a → IsSeconds (instant tc) a
+in-seconds : (tc : Timecode) (t : TzqSeconds) (a : Result Fraction Refusal) → t ≡ handed_seconds a → IsSeconds (instant tc) a
     → (t.refused ≡ 0) × InSeconds (instant tc) t.numerator t.denominator
 unfolding handed_seconds
-in-seconds tc t (timed.Seconds p q) e right = rw e (refl, right)
-in-seconds tc t (timed.Refused r) e right = absurd right
+in-seconds tc t (Ok f) e right = rw e (refl, right)
+in-seconds tc t (Err r) e right = absurd right
 
 seconds-are : (tc : Timecode) (t : TzqSeconds) → SecondsHanded tc t → SecondsAre tc t
 unfolding handed_seconds
@@ -79,16 +68,16 @@ seconds-are tc t h = record {
 }
 
 -- ---- texts
-sections-are : (t : TzqSections) (a : Sectioned) → t ≡ handed_sections a → SectionsAre t a
+sections-are : (t : TzqSections) (a : Result TimecodeSections Refusal) → t ≡ handed_sections a → SectionsAre t a
 unfolding handed_sections
-sections-are t (sectioned.Sections s) e = rw e (refl, refl, refl, refl, refl, refl)
-sections-are t (sectioned.Refused r) e = rw e (refl, refl, refl, refl, refl, refl)
+sections-are t (Ok s) e = rw e (refl, refl, refl, refl, refl, refl)
+sections-are t (Err r) e = rw e (refl, refl, refl, refl, refl, refl)
 
 -- by whether there is room
 answered : (line : List ℕ) (place : ℕ) (text : List ℕ) (t : Bool) → leb (place + length text) (length line) ≡ t
-    → answer_to line place (Text text) ≡ cond (not t) (written.Refused no_room) (written.Length (length text))
+    → answer_to line place (Text text) ≡ cond (not t) (Err no_room) (Ok (length text))
 unfolding answer_to
-answered line place text t e = ap (λ (b : Bool). cond (not b) (written.Refused no_room) (written.Length (length text))) e
+answered line place text t e = ap (λ (b : Bool). cond (not b) (Err no_room) (Ok (length text))) e
 
 length-is : (t : TzqLength) (line : List ℕ) (place : ℕ) (draft : Draft) → t ≡ handed_length (answer_to line place draft) → LengthIs t line place draft
 unfolding handed_length answer_to
@@ -99,15 +88,15 @@ length-is t line place (Text text) e = (
 length-is t line place (NoText r) e = rw e (refl, refl)
 
 -- ---- the tables
-rate_is : (t : TzqRate) (a : Rated) → t ≡ handed_rate a → RateIs t a
+rate_is : (t : TzqRate) (a : Result Framerate Refusal) → t ≡ handed_rate a → RateIs t a
 unfolding handed_rate
-rate_is t (rated.Row r) e = rw e (refl, refl, refl, refl, refl)
-rate_is t (rated.Refused r) e = rw e (refl, refl, refl, refl, refl)
+rate_is t (Ok r) e = rw e (refl, refl, refl, refl, refl)
+rate_is t (Err r) e = rw e (refl, refl, refl, refl, refl)
 
-format-is : (t : TzqFormat) (a : Filmed) → t ≡ handed_format a → FormatIs t a
+format-is : (t : TzqFormat) (a : Result FilmFormat Refusal) → t ≡ handed_format a → FormatIs t a
 unfolding handed_format
-format-is t (filmed.Format film) e = rw e (refl, refl, refl, refl)
-format-is t (filmed.Refused r) e = rw e (refl, refl, refl, refl)
+format-is t (Ok film) e = rw e (refl, refl, refl, refl)
+format-is t (Err r) e = rw e (refl, refl, refl, refl)
 
 drops-are : (rate drops : ℕ) → drops ≡ drop_frames rate → DropsAre rate drops
 drops-are rate drops e = record {

@@ -1,5 +1,6 @@
 -- A text is read as a footage exactly when its fields have the values of those that are written for its count.
 -- Assumes nothing.
+use Rattle.std.specs.Prelude.{Option}
 use Prim.Native.Nat.{ℕ, ◌%◌}
 use mathlib.Core.Path.{◌≡◌, refl, sym, ap, ap₂, ◌∙◌, subst}
 use mathlib.Core.Logic.{◌⊎◌, inl, inr, ⊎_elim}
@@ -20,7 +21,6 @@ use Rattle.film.proofs.Statements.{footage_back, footage_forth}
 use Rattle.footage_scan.specs.Shape.{FootageParts, has_perf}
 use Rattle.footage_scan.proofs.Statements.{one_footage_shape, footage-fields}
 use Rattle.footage_writer.specs.FootageText.{footage_text}
-use Rattle.reading.specs.declared.Stated.{Stated}
 use Rattle.reading.specs.Shaped.{format_for}
 use Rattle.reading.specs.Reading.{takes_perf}
 use Rattle.reading.specs.Statements.{FootageCount}
@@ -28,7 +28,7 @@ use Rattle.reading.proofs.Statements.{footage_counted}
 use Rattle.promises.specs.AsWritten.{ButForZeros, Alike, AsWritten, ReadAsWritten}
 use Rattle.promises.proofs.WrittenFootage.{marker_digits, marker-digits, marker-some, marker-taken, written, parts_of, written-shape, written-text}
 
-module _ (l : List ℕ) (stated : Stated) (format : FilmFormat) (count : ℤ) where
+module _ (l : List ℕ) (stated : Option ℕ) (format : FilmFormat) (count : ℤ) where
   -- ---- as written, then read
   module _ (y : AsWritten l stated format count) where
     abbrev q : FootageParts
@@ -135,7 +135,7 @@ read_as_written l stated rate format count a = (
 )
 
 -- what is written is so itself
-pub itself : (stated : Stated) (format : FilmFormat) (count : ℤ) → is_count count ≡ true
+pub itself : (stated : Option ℕ) (format : FilmFormat) (count : ℤ) → is_count count ≡ true
     → format_for stated (has_perf (parts_of format count).perf) ≡ format → AsWritten (footage_text format count) stated format count
 itself stated format count c chosen =
     record {

@@ -1,5 +1,8 @@
 -- Each function that users call answers every call, and in one way: its own crate's theorem.
 -- Assumes nothing.
+use Prim.Native.Nat.{ℕ}
+use mathlib.Core.Path.{subst}
+use mathlib.Core.List.{List, Mem, not-mem-nil}
 use Rattle.promises.specs.Calls.{OneAnswer}
 use Rattle.reading.proofs.Determined as reading-determined
 use Rattle.reasons.proofs.Determined as reasons-determined
@@ -62,12 +65,10 @@ one_answer = record {
   tested = record { asks_nothing = λ κs a. tt; one_outcome = router-determined.tested-determined };
   verdict = record { asks_nothing = λ κs a. tt; one_outcome = router-determined.verdict-determined };
   route_tested = record { asks_nothing = λ κs a. tt; one_outcome = router-determined.route-tested-determined };
-  answers_number = record { asks_nothing = λ κs a. tt; one_outcome = answers-determined.number-determined };
+  answers_cause_number = record { asks_nothing = λ κs a. tt; one_outcome = answers-determined.cause-number-determined };
+  answers_number = λ T laws none. record { asks_nothing = λ κs a x held. absurd (not-mem-nil (subst (λ (l : List ℕ). Mem x l) none held)); one_outcome = answers-determined.number-determined T laws };
   answers_count = record { asks_nothing = λ κs a. tt; one_outcome = answers-determined.count-determined };
-  reading_number = record { asks_nothing = λ κs a. tt; one_outcome = reading-determined.number-determined };
-  timecodes_number = record { asks_nothing = λ κs a. tt; one_outcome = timecodes-determined.number-determined };
   timecodes_timecode_of = record { asks_nothing = λ κs a. tt; one_outcome = timecodes-determined.timecode-of-determined };
-  written_number = record { asks_nothing = λ κs a. tt; one_outcome = written-determined.number-determined };
   written_length = record { asks_nothing = λ κs a. tt; one_outcome = written-determined.length-determined };
   framerate_at = record { asks_nothing = λ κs a. tt; one_outcome = rates-determined.framerate-at-determined };
   format-at = record { asks_nothing = λ κs a. tt; one_outcome = film-determined.format-at-determined };

@@ -1,5 +1,7 @@
 -- Demand 2: the allowed strict labels fill the day's counts once each, and the fields written of a count are these.
 -- Assumes nothing.
+use Rattle.answers.specs.declared.Refusal.{Refusal}
+use Rattle.std.specs.Prelude.{Ok, Err, Result}
 use Prim.Native.Nat.{ℕ, ◌+◌, ◌≤◌, ◌<◌}
 use mathlib.Core.Path.{◌≡◌, refl, sym, ap, ◌∙◌, subst}
 use mathlib.Core.Bool.{Bool, true, false}
@@ -21,13 +23,12 @@ use Rattle.labels.specs.StrictLaws.{is_strict-in}
 use Rattle.labels.specs.Statements.{DayLabel, Filled}
 use Rattle.labels.proofs.Statements.{one_label, fill_rate, fill_in_order}
 use Rattle.reading.specs.declared.Read.{Read}
-use Rattle.reading.specs.declared.Read.TheVariants.{Label, Refused}
+use Rattle.reading.specs.declared.Read.TheVariants.{Label}
 use Rattle.reading.specs.Answer.{timecode_of}
 use Rattle.reading.specs.Reading.{label_read}
 use Rattle.reading.specs.ReadingLaws.{label-dropped}
 use Rattle.reading.proofs.ByShape.{label-within}
 use Rattle.reading.specs.For.{settled_read, is_label_of}
-use Rattle.written.specs.declared.Written.TheVariants.{Length}
 use Rattle.written.specs.Written.{Text, answer_to, line_to}
 use Rattle.written.proofs.Laws.{text-written}
 use Rattle.label_writer.specs.Sections.{label_fields}
@@ -86,7 +87,7 @@ module _ (kind : Kind) (rate : ℕ) (r : is_rate rate ≡ true) where
     strict-read =
         read-label-for rate text r kind false fields (strict-scan timebase (sound rate r).timebase_most fields text x) (either kind)
 
-    dropped-read : dropped_in D fields ≡ true → read_at kind rate text ≡ Refused dropped_label
+    dropped-read : dropped_in D fields ≡ true → read_at kind rate text ≡ Err dropped_label
     dropped-read e = strict-read ∙ ap (settled_read kind) (label-dropped rate false fields e)
 
     of_day : dropped_in D fields ≡ false → (n : ℕ) → count ≡ n → DayLabel timebase D n fields
@@ -95,21 +96,21 @@ module _ (kind : Kind) (rate : ℕ) (r : is_rate rate ≡ true) where
     under_whole : dropped_in D fields ≡ false → count < day_frames rate
     under_whole e = filled.under count fields (of_day e count refl)
 
-    kept_read : dropped_in D fields ≡ false → read_at kind rate text ≡ Label (timecode_as kind (pos count) rate)
+    kept_read : dropped_in D fields ≡ false → read_at kind rate text ≡ Ok (Label (timecode_as kind (pos count) rate))
     kept_read e =
         strict-read
         ∙ ap (settled_read kind) (label-within rate false fields e (few rate r count (under_whole e)))
-        ∙ ap Label (own rate r count (under_whole e) kind)
+        ∙ ap (λ x. Ok (Label x)) (own rate r count (under_whole e) kind)
 
     -- what is read as z is allowed, and z is its count
-    is-count : (z : ℤ) → read_at kind rate text ≡ Label (timecode_as kind z rate) → (dropped_in D fields ≡ false) × (z ≡ pos count)
+    is-count : (z : ℤ) → read_at kind rate text ≡ Ok (Label (timecode_as kind z rate)) → (dropped_in D fields ≡ false) × (z ≡ pos count)
     is-count z e = by (dropped_in D fields) refl
       where
         by : (t : Bool) → dropped_in D fields ≡ t → (dropped_in D fields ≡ false) × (z ≡ pos count)
         by true p = let q = dropped-read p in let f : ◌≡◌ {A = ℕ} 0 1 = cc in absurd (omega arith)
-        by false p = (p, ap (λ (x : Read). (timecode_of x).count) (sym e ∙ kept_read p))
+        by false p = (p, ap (λ (x : Result Read Refusal). (timecode_of x).count) (sym e ∙ kept_read p))
 
-    is-dropped : read_at kind rate text ≡ Refused dropped_label → dropped_in D fields ≡ true
+    is-dropped : read_at kind rate text ≡ Err dropped_label → dropped_in D fields ≡ true
     is-dropped e = by (dropped_in D fields) refl
       where
         by : (t : Bool) → dropped_in D fields ≡ t → dropped_in D fields ≡ true
@@ -151,12 +152,12 @@ module _ (kind : Kind) (rate : ℕ) (r : is_rate rate ≡ true) where
         fields = fields;
         text = text;
         label = day-text n l;
-        read = kept_read fields text (day-text n l) x.allowed ∙ ap (λ (k : ℕ). Label (timecode_as kind (pos k) rate)) x.count;
+        read = kept_read fields text (day-text n l) x.allowed ∙ ap (λ (k : ℕ). Ok (Label (timecode_as kind (pos k) rate))) x.count;
       }
 
   once :
       (a b text other : List ℕ) (z : ℤ) → StrictText timebase a text → StrictText timebase b other
-      → read_at kind rate text ≡ Label (timecode_as kind z rate) → read_at kind rate other ≡ Label (timecode_as kind z rate) → a ≡ b
+      → read_at kind rate text ≡ Ok (Label (timecode_as kind z rate)) → read_at kind rate other ≡ Ok (Label (timecode_as kind z rate)) → a ≡ b
   once a b text other z x y e f =
       let c = is-count a text x z e in
       let d = is-count b other y z f in
@@ -165,7 +166,7 @@ module _ (kind : Kind) (rate : ℕ) (r : is_rate rate ≡ true) where
 
   in_order :
       (a b text other : List ℕ) (m n : ℕ) → StrictText timebase a text → StrictText timebase b other
-      → read_at kind rate text ≡ Label (timecode_as kind (pos m) rate) → read_at kind rate other ≡ Label (timecode_as kind (pos n) rate)
+      → read_at kind rate text ≡ Ok (Label (timecode_as kind (pos m) rate)) → read_at kind rate other ≡ Ok (Label (timecode_as kind (pos n) rate))
       → (m < n) ↔ (label_number timebase a < label_number timebase b)
   in_order a b text other m n x y e f =
       let c = is-count a text x (pos m) e in
@@ -174,7 +175,7 @@ module _ (kind : Kind) (rate : ℕ) (r : is_rate rate ≡ true) where
       (of_day a text x c.0 m (sym (ap nat_abs c.1))).label
       (of_day b other y d.0 n (sym (ap nat_abs d.1))).label
 
-  module _ (fields text : List ℕ) (z : ℤ) (x : StrictText timebase fields text) (e : read_at kind rate text ≡ Label (timecode_as kind z rate)) where
+  module _ (fields text : List ℕ) (z : ℤ) (x : StrictText timebase fields text) (e : read_at kind rate text ≡ Ok (Label (timecode_as kind z rate))) where
     fields_back : label_text rate z ≡ two_digit_text fields 58 58 mark
     fields_back = let c = is-count fields text x z e in ap (label_text rate) c.1 ∙ text-again fields text x c.0
 
@@ -191,12 +192,12 @@ module _ (kind : Kind) (rate : ℕ) (r : is_rate rate ≡ true) where
     draft-back = draft-text (timecode_as kind z rate) in_bounds ∙ ap Text fields_back
 
     written_back : (line : List ℕ) (place : ℕ) → place + 11 ≤ length line
-        → (answer_to line place (label_draft (timecode_as kind z rate)) ≡ Length 11)
+        → (answer_to line place (label_draft (timecode_as kind z rate)) ≡ Ok 11)
         × (line_to line place (label_draft (timecode_as kind z rate)) ≡ splice line place (two_digit_text fields 58 58 mark))
     written_back line place room =
         let long = two-digit-length fields 58 58 mark in
         let w = text-written line place (two_digit_text fields 58 58 mark) (omega arith) in
-        (ap (answer_to line place) draft-back ∙ w.0 ∙ ap Length long, ap (line_to line place) draft-back ∙ w.1)
+        (ap (answer_to line place) draft-back ∙ w.0 ∙ ap Ok long, ap (line_to line place) draft-back ∙ w.1)
 
 pub fills_each_rate : FillsEachRate
 fills_each_rate kind rate r = record {
@@ -204,7 +205,7 @@ fills_each_rate kind rate r = record {
   counts_earlier =
       λ fields text x e.
       kept_read kind rate r fields text x e
-      ∙ ap (λ (k : ℕ). Label (timecode_as kind (pos k) rate))
+      ∙ ap (λ (k : ℕ). Ok (Label (timecode_as kind (pos k) rate)))
       ((filled kind rate r).earlier (count kind rate r fields text x) fields (of_day kind rate r fields text x e _ refl));
   each_read = each_read kind rate r;
   no_other = count_under kind rate r;

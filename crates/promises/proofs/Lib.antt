@@ -25,4 +25,8 @@ pub mod Cases
 pub mod PositionCases
 pub mod WhyCases
 pub mod RouteCases
+pub mod PlainForms
+pub mod FloorSteps
+pub mod RouterSteps
+pub mod ReadSteps
 pub mod Promises

@@ -1,11 +1,13 @@
 -- What C is handed of a shot list is the record's numbers: those of the struct that the contract names.
 -- Assumes nothing.
+use Rattle.shot_lists.specs.declared.records.Taken.{Taken}
+use Rattle.answers.specs.declared.Refusal.{Refusal}
+use Rattle.std.specs.Prelude.{Err, None, Ok, Some, Option, Result}
+use Rattle.answers.specs.Causes.{refusal_number}
 use Prim.Native.Nat.{ℕ}
 use mathlib.Core.Path.{◌≡◌, refl, sym, subst}
 use Rattle.shot_lists.specs.declared.records.Record.{Record}
 use Rattle.shot_lists.specs.declared.records.Record.TheVariants.{Rate, Shot, Reel}
-use Rattle.shot_lists.specs.declared.records.Entry.{Entry}
-use Rattle.shot_lists.specs.declared.records.Entry.TheVariants as entered
 use Rattle.shot_lists.specs.Entries.{on_disk}
 use Rattle.shot_lists.specs.Reading.{Reading, AllOf, FaultOf, checked_of, read_of}
 use Rattle.exports.specs.declared.lists.TzqRecord.{TzqRecord}
@@ -24,18 +26,18 @@ unfolding record_of_kind
 without_is refused =
     record { number = refl; kind = refl; none = record { rate = refl; first = refl; end = refl; reel = refl }; held = refl; size = refl }
 
-entry-is : (a : Entry) → EntryWhole (handed_entry a) a
+entry-is : (a : Result (Option Taken) Refusal) → EntryWhole (handed_entry a) a
 unfolding handed_entry
-entry-is (entered.Taken r held size) = with-is r held size
-entry-is (entered.Refused e) = without_is e.number
-entry-is entered.End = without_is 0
+entry-is (Ok (Some t)) = with-is t.found t.held t.size
+entry-is (Err e) = without_is (refusal_number e)
+entry-is (Ok None) = without_is 0
 
 checked-is : (t : Reading) → CheckedWhole (handed_checked (checked_of t)) t
 unfolding handed_checked
 checked-is (AllOf rs) = (refl, refl)
 checked-is (FaultOf e) = (refl, refl)
 
-entry_whole : (t : TzqRecord) (a : Entry) → t ≡ handed_entry a → EntryWhole t a
+entry_whole : (t : TzqRecord) (a : Result (Option Taken) Refusal) → t ≡ handed_entry a → EntryWhole t a
 entry_whole t a e = subst (λ (x : TzqRecord). EntryWhole x a) (sym e) (entry-is a)
 
 checked-whole : (t : TzqChecked) (r : Reading) → t ≡ handed_checked (checked_of r) → CheckedWhole t r

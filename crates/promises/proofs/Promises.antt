@@ -71,9 +71,13 @@ use Rattle.promises.proofs.Cases.{starred_cases}
 use Rattle.promises.proofs.PositionCases.{position-cases}
 use Rattle.promises.proofs.WhyCases.{why_cases}
 use Rattle.promises.proofs.RouteCases.{route_cases}
+use Rattle.promises.proofs.PlainForms.{causes_numbered, refusals_named, parts_of_answers}
 
 pub promises : Promises
 promises = record {
+  causes_numbered = causes_numbered;
+  refusals_named = refusals_named;
+  parts_of_answers = parts_of_answers;
   one_answer = one_answer;
   one_answer_c = one_answer_c;
   ties = ties;

@@ -1,9 +1,11 @@
 -- What C is handed is the answer's numbers: those of the struct that the contract names.
 -- Assumes nothing.
+use Rattle.timecodes.specs.declared.Timecode.{Timecode}
+use Rattle.answers.specs.declared.Refusal.{Refusal}
+use Rattle.std.specs.Prelude.{Result}
 use mathlib.Core.Path.{◌≡◌, refl, sym, ◌∙◌, ap}
 use mathlib.Core.Logic.{◌↔◌}
 use mathlib.Core.Bool.{Bool, true, false}
-use Rattle.timecodes.specs.declared.Answer.{Answer}
 use Rattle.timecodes.specs.declared.kinds.Kind.{Kind}
 use Rattle.timecodes.specs.declared.kinds.Kind.TheVariants.{Position}
 use Rattle.timecodes.specs.Kinds.{kind_from, is_position}
@@ -24,7 +26,7 @@ kind-is : (t : Bool) → (kind_from t ≡ Position) ↔ (t ≡ true)
 kind-is true = (λ h. refl, λ h. refl)
 kind-is false = (λ h. ap is_position h, λ h. ap kind_from h)
 
-whole : (t : TzqRead) (a : Read) → t ≡ handed_read a → HandedWhole t a
+whole : (t : TzqRead) (a : Result Read Refusal) → t ≡ handed_read a → HandedWhole t a
 unfolding handed_read
 whole t a e = record {
   refused = ap (λ (x : TzqRead). x.refused) e;
@@ -34,7 +36,7 @@ whole t a e = record {
   position = position-is t.position (timecode_of a).kind (ap (λ (x : TzqRead). x.position) e);
 }
 
-timecode : (t : TzqCount) (a : Answer) → t ≡ handed_answer a → HandedAnswer t a
+timecode : (t : TzqCount) (a : Result Timecode Refusal) → t ≡ handed_answer a → HandedAnswer t a
 unfolding handed_answer
 timecode t a e = record {
   refused = ap (λ (x : TzqCount). x.refused) e;

@@ -1,16 +1,17 @@
 -- What C is handed is the answer's numbers: those of the struct that the contract names.
 -- Assumes nothing.
+use Rattle.timecodes.specs.declared.Timecode.{Timecode}
+use Rattle.answers.specs.declared.Refusal.{Refusal}
+use Rattle.std.specs.Prelude.{Result, Ok, Err}
 use mathlib.Core.Path.{◌≡◌, refl, ap}
 use mathlib.Core.Logic.{◌↔◌}
 use mathlib.Core.Bool.{Bool, true, false}
-use Rattle.timecodes.specs.declared.Answer.{Answer}
-use Rattle.timecodes.specs.declared.Answer.TheVariants as answer
 use Rattle.timecodes.specs.declared.kinds.Kind.{Kind}
 use Rattle.timecodes.specs.declared.kinds.Kind.TheVariants.{Position}
 use Rattle.timecodes.specs.Kinds.{kind_from, is_position}
 use Rattle.timecodes.specs.KindLaws.{position-told}
 use Rattle.reading.specs.declared.Read.{Read}
-use Rattle.reading.specs.declared.Read.TheVariants.{Label, Footage, Refused}
+use Rattle.reading.specs.declared.Read.TheVariants.{Label, Footage}
 use Rattle.exports.specs.declared.handed.TzqCount.{TzqCount}
 use Rattle.exports.specs.declared.handed.TzqRead.{TzqRead}
 use Rattle.exports.specs.Handed.{handed_read, handed_answer}
@@ -25,21 +26,21 @@ kind-is true = (λ h. refl, λ h. refl)
 kind-is false = (λ h. ap is_position h, λ h. ap kind_from h)
 
 -- what is handed over of a text, and of a timecode
-pub read_is : (a : Read) → ReadWhole (handed_read a) a
+pub read_is : (a : Result Read Refusal) → ReadWhole (handed_read a) a
 unfolding handed_read
-read_is (Label tc) = (refl, refl, refl, refl, kind-told tc.kind)
-read_is (Footage tc film) = (refl, refl, refl, refl, kind-told tc.kind)
-read_is (Refused e) = (refl, refl, refl, refl, refl)
+read_is (Ok (Label tc)) = (refl, refl, refl, refl, kind-told tc.kind)
+read_is (Ok (Footage tc film)) = (refl, refl, refl, refl, kind-told tc.kind)
+read_is (Err e) = (refl, refl, refl, refl, refl)
 
-answer-is : (a : Answer) → AnswerWhole (handed_answer a) a
+answer-is : (a : Result Timecode Refusal) → AnswerWhole (handed_answer a) a
 unfolding handed_answer
-answer-is (answer.At tc) = (refl, refl, kind-told tc.kind)
-answer-is (answer.Refused e) = (refl, refl, refl)
+answer-is (Ok tc) = (refl, refl, kind-told tc.kind)
+answer-is (Err e) = (refl, refl, refl)
 
-whole : (t : TzqRead) (a : Read) → t ≡ handed_read a → ReadWhole t a
+whole : (t : TzqRead) (a : Result Read Refusal) → t ≡ handed_read a → ReadWhole t a
 whole t a e = rw e (read_is a)
 
-timecode : (t : TzqCount) (a : Answer) → t ≡ handed_answer a → AnswerWhole t a
+timecode : (t : TzqCount) (a : Result Timecode Refusal) → t ≡ handed_answer a → AnswerWhole t a
 timecode t a e = rw e (answer-is a)
 
 pub read_fields_for_c : ReadFieldsForC

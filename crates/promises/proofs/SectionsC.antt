@@ -1,5 +1,6 @@
 -- The fields that C is handed are those of the one allowed label whose count it is: `labels` has it, and the struct's names are its fields.
 -- Assumes nothing.
+use Rattle.std.specs.Prelude.{Ok, Err}
 use Prim.Native.Nat.{ℕ, zero, suc, ◌%◌, ◌<◌}
 use mathlib.Core.Path.{◌≡◌, refl, sym, ◌∙◌, ap}
 use mathlib.Core.Bool.{Bool, true, false, not, cond}
@@ -17,7 +18,6 @@ use Rattle.labels.specs.Label.{label_count, is_dropped, minutes_in, seconds_in, 
 use Rattle.labels.specs.LabelLaws.{all-dropped}
 use Rattle.labels.specs.Sections.{sections_of}
 use Rattle.labels.proofs.Statements.{has_label}
-use Rattle.label_writer.specs.declared.Sectioned.TheVariants.{Sections, Refused}
 use Rattle.label_writer.specs.Sections.{label_fields, label_sections, sectioned, number_of}
 use Rattle.exports.specs.declared.handed.TzqSections.{TzqSections}
 use Rattle.exports.specs.Handed.{timecode_from, handed_sections}
@@ -39,7 +39,7 @@ in-tenth D m s f kept none low = by (m % 10) refl
         absurd (omega arith)
 
 label_of : (rate : ℕ) (count : ℤ) → is_rate rate ≡ true
-    → LabelOfCount (rate_row rate).timebase (drop_frames rate) count (handed_sections (Sections (label_sections rate count)))
+    → LabelOfCount (rate_row rate).timebase (drop_frames rate) count (handed_sections (Ok (label_sections rate count)))
 unfolding handed_sections label_sections label_fields label_count
 label_of rate count r =
     let fields = sections_of (rate_row rate).timebase (drop_frames rate) (nat_abs count) in
@@ -66,10 +66,10 @@ labelled : (tc : Timecode) (t : TzqSections) → t ≡ handed_sections (sectione
     → LabelOfCount (rate_row tc.rate).timebase (drop_frames tc.rate) tc.count t
 unfolding sectioned handed_sections
 labelled tc t e k =
-    let answer = Sections (label_sections tc.rate tc.count) in
-    let given = unless-number number_of Refused (λ r. refl) (admits tc) answer refl in
+    let answer = Ok (label_sections tc.rate tc.count) in
+    let given = unless-number number_of Err (λ r. refl) (admits tc) answer refl in
     let clear = clear_of tc (sym given ∙ (sym (ap (λ (x : TzqSections). x.refused) e) ∙ k)) in
-    rw (e ∙ ap handed_sections (unless-clear Refused (admits tc) answer clear)) (label_of tc.rate tc.count (admits-valid tc clear).rate)
+    rw (e ∙ ap handed_sections (unless-clear Err (admits tc) answer clear)) (label_of tc.rate tc.count (admits-valid tc clear).rate)
 
 pub sections_for_c : SectionsForC
 sections_for_c κs a x p k = labelled (timecode_from a.0) x.0 p k

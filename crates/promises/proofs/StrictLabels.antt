@@ -1,5 +1,6 @@
 -- A strict two-digit label has eleven bytes, and is scanned as its fields.
 -- Assumes nothing.
+use Rattle.std.specs.Prelude.{Ok}
 use Prim.Native.Nat.{ℕ, ◌^◌, ◌≤◌, ◌<◌}
 use mathlib.Core.Path.{◌≡◌, sym, ap, ◌∙◌}
 use mathlib.Core.Bool.{false}
@@ -45,10 +46,10 @@ module _ (timebase : ℕ) (few : timebase ≤ 60) (fields text : List ℕ) (x : 
       let s = x.strict in record { hours = omega arith; minutes = omega arith; seconds = omega arith; frames = omega arith }
 
   -- a strict label is scanned as its fields
-  pub strict-scan : label_scan text ≡ fitting_label false fields
+  pub strict-scan : label_scan text ≡ Ok (fitting_label false fields)
   strict-scan =
       let t = strict-digits in
       ap label_scan (x.spelt ∙ sym (two_digits fields x.first x.second x.third t))
       ∙ label_back false (hours_in fields) (minutes_in fields) (seconds_in fields) (frames_in fields) x.first x.second x.third
       (omega arith) (omega arith) (omega arith) (omega arith) x.first_divides x.second_divides x.third_divides
-      ∙ ap (fitting_label false) (sym (four-fields fields x.strict.four))
+      ∙ ap (λ (l : List ℕ). Ok (fitting_label false l)) (sym (four-fields fields x.strict.four))

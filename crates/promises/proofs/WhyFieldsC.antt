@@ -1,10 +1,10 @@
 -- What C is handed of why a text is read as it is, field by field: the numbers of the struct that the contract names.
 -- Assumes nothing.
+use Rattle.answers.specs.declared.Refusal.{Refusal}
+use Rattle.std.specs.Prelude.{Result, Ok, Err}
 use mathlib.Core.Path.{◌≡◌, refl}
 use Rattle.timecodes.specs.Kinds.{kind_from}
 use Rattle.reasons.specs.declared.Reason.{Reason}
-use Rattle.reasons.specs.declared.Reasoned.{Reasoned}
-use Rattle.reasons.specs.declared.Reasoned.TheVariants.{Told, Refused}
 use Rattle.reasons.specs.Why.{why_of}
 use Rattle.exports.specs.declared.why.TzqReason.{TzqReason}
 use Rattle.exports.specs.HandedWhy.{stated_from, told_reason, no_reason, handed_reason}
@@ -19,10 +19,10 @@ module _ (r : Reason) where
   unfolding told_reason
   told_is = record { refused = refl; read = read_is r.read; fact = fact_is r r.fact refl; length = refl }
 
-reason-is : (t : TzqReason) (w : Reasoned) → t ≡ handed_reason w → ReasonFields t w
+reason-is : (t : TzqReason) (w : Result Reason Refusal) → t ≡ handed_reason w → ReasonFields t w
 unfolding no_reason
-reason-is t (Told r) e = rw e (told_is r)
-reason-is t (Refused x) e = rw e (record {
+reason-is t (Ok r) e = rw e (told_is r)
+reason-is t (Err x) e = rw e (record {
   refused = refl;
   number = refl;
   place = refl;

@@ -1,34 +1,23 @@
 -- What C is handed by every other function: each field of the struct, in the cases of the answer; of a refusal its number, and zeros.
 -- Assumes nothing.
-use Rattle.std.specs.Prelude.{ℕ, ◌+◌, ◌≤◌, ◌<◌, ◌≡◌, List, false, pos, length}
+use Rattle.label_writer.specs.declared.TimecodeSections.{TimecodeSections}
+use Rattle.rates.specs.declared.Framerate.{Framerate}
+use Rattle.film.specs.declared.FilmFormat.{FilmFormat}
+use Rattle.std.specs.Prelude.{ℕ, ◌+◌, ◌≤◌, ◌<◌, ◌≡◌, List, false, pos, length, Result, Ok, Err, ℤ}
 use Rattle.outcomes.specs.Outcome.{Gives}
 use Rattle.answers.specs.declared.Refusal.{Refusal}
-use Rattle.answers.specs.declared.Counted.{Counted}
-use Rattle.answers.specs.declared.Counted.TheVariants as counted
-use Rattle.answers.specs.declared.Verdict.TheVariants as verdict
+use Rattle.answers.specs.Causes.{refusal_number}
 use Rattle.answers.specs.Order.{judged}
-use Rattle.rates.specs.declared.Rated.{Rated}
-use Rattle.rates.specs.declared.Rated.TheVariants as rated
 use Rattle.rates.specs.Rates.{rate_at}
 use Rattle.timecodes.specs.declared.Timecode.{Timecode}
-use Rattle.timecodes.specs.declared.Answer.{Answer}
-use Rattle.timecodes.specs.declared.Answer.TheVariants as answer
 use Rattle.timecodes.specs.Admitted.{admits}
 use Rattle.timecodes.specs.Instant.{instant}
-use Rattle.film.specs.declared.Filmed.{Filmed}
-use Rattle.film.specs.declared.Filmed.TheVariants as filmed
 use Rattle.film.specs.Film.{perfs_per_frame_of, perfs_per_foot_of, allows_perf_field, format_at}
 use Rattle.minutes.specs.Minutes.{minute_at}
-use Rattle.time.specs.declared.Ticked.{Ticked}
-use Rattle.time.specs.declared.Ticked.TheVariants as ticked
 use Rattle.time.specs.Ticks.{ticks_of}
 use Rattle.time.specs.Seconds.{InSeconds}
-use Rattle.arithmetic.specs.declared.Compared.{Compared}
-use Rattle.arithmetic.specs.declared.Compared.TheVariants as compared
 use Rattle.arithmetic.specs.Compare.{compare_of}
 use Rattle.chains.specs.Chain.{convert_of}
-use Rattle.label_writer.specs.declared.Sectioned.{Sectioned}
-use Rattle.label_writer.specs.declared.Sectioned.TheVariants as sectioned
 use Rattle.label_writer.specs.Sections as label
 use Rattle.label_writer.specs.LabelText.{label_draft}
 use Rattle.footage_writer.specs.FootageText.{footage_draft}
@@ -74,56 +63,56 @@ use Rattle.exports.proofs.tables.tzq_minute_start.Reads as tzq-minute-start-read
 
 -- ---- numbers
 -- a count alone is no position
-abbrev pub CountIs : TzqCount → Counted → Type 0
-CountIs t (counted.Count z) = (t.refused ≡ 0) × (t.count ≡ z) × (t.position ≡ false)
-CountIs t (counted.Refused e) = (t.refused ≡ e.number) × (t.count ≡ pos 0) × (t.position ≡ false)
+abbrev pub CountIs : TzqCount → Result ℤ Refusal → Type 0
+CountIs t (Ok z) = (t.refused ≡ 0) × (t.count ≡ z) × (t.position ≡ false)
+CountIs t (Err e) = (t.refused ≡ refusal_number e) × (t.count ≡ pos 0) × (t.position ≡ false)
 
-abbrev pub OrderIs : TzqOrder → Compared → Type 0
-OrderIs t (compared.Order o) = (t.refused ≡ 0) × (t.order ≡ o)
-OrderIs t (compared.Refused e) = (t.refused ≡ e.number) × (t.order ≡ pos 0)
+abbrev pub OrderIs : TzqOrder → Result ℤ Refusal → Type 0
+OrderIs t (Ok o) = (t.refused ≡ 0) × (t.order ≡ o)
+OrderIs t (Err e) = (t.refused ≡ refusal_number e) × (t.order ≡ pos 0)
 
-abbrev pub TicksAre : TzqTicks → Ticked → Type 0
-TicksAre t (ticked.Ticks n) = (t.refused ≡ 0) × (t.ticks ≡ n)
-TicksAre t (ticked.Refused e) = (t.refused ≡ e.number) × (t.ticks ≡ pos 0)
+abbrev pub TicksAre : TzqTicks → Result ℤ Refusal → Type 0
+TicksAre t (Ok n) = (t.refused ≡ 0) × (t.ticks ≡ n)
+TicksAre t (Err e) = (t.refused ≡ refusal_number e) × (t.ticks ≡ pos 0)
 
 -- a timecode with its rate
-abbrev pub ConvertedIs : TzqConverted → Answer → Type 0
-ConvertedIs t (answer.At tc) = (t.refused ≡ 0) × (t.count ≡ tc.count) × (t.rate ≡ tc.rate)
-ConvertedIs t (answer.Refused e) = (t.refused ≡ e.number) × (t.count ≡ pos 0) × (t.rate ≡ 0)
+abbrev pub ConvertedIs : TzqConverted → Result Timecode Refusal → Type 0
+ConvertedIs t (Ok tc) = (t.refused ≡ 0) × (t.count ≡ tc.count) × (t.rate ≡ tc.rate)
+ConvertedIs t (Err e) = (t.refused ≡ refusal_number e) × (t.count ≡ pos 0) × (t.rate ≡ 0)
 
 -- the seconds of the timecode as numerator and denominator; of its first refusal 0/1
 pub record SecondsAre (tc : Timecode) (t : TzqSeconds) : Type 0 where
   pub refused :
-      (e : Refusal) → judged (admits tc) ≡ verdict.Refused e → (t.refused ≡ e.number) × (t.numerator ≡ pos 0) × (t.denominator ≡ 1)
-  pub seconds : judged (admits tc) ≡ verdict.Passed → (t.refused ≡ 0) × InSeconds (instant tc) t.numerator t.denominator
+      (e : Refusal) → judged (admits tc) ≡ Err e → (t.refused ≡ refusal_number e) × (t.numerator ≡ pos 0) × (t.denominator ≡ 1)
+  pub seconds : judged (admits tc) ≡ (Ok tt) → (t.refused ≡ 0) × InSeconds (instant tc) t.numerator t.denominator
 
 -- ---- texts
 -- the label's sign and its fields by name
-abbrev pub SectionsAre : TzqSections → Sectioned → Type 0
-SectionsAre t (sectioned.Sections s) =
+abbrev pub SectionsAre : TzqSections → Result TimecodeSections Refusal → Type 0
+SectionsAre t (Ok s) =
     (t.refused ≡ 0) × (t.negative ≡ s.negative) × (t.hours ≡ s.hours) × (t.minutes ≡ s.minutes) × (t.seconds ≡ s.seconds)
     × (t.frames ≡ s.frames)
-SectionsAre t (sectioned.Refused e) =
-    (t.refused ≡ e.number) × (t.negative ≡ false) × (t.hours ≡ 0) × (t.minutes ≡ 0) × (t.seconds ≡ 0) × (t.frames ≡ 0)
+SectionsAre t (Err e) =
+    (t.refused ≡ refusal_number e) × (t.negative ≡ false) × (t.hours ≡ 0) × (t.minutes ≡ 0) × (t.seconds ≡ 0) × (t.frames ≡ 0)
 
 -- a text that has room: its length; one that has none: 8, and length 0; no text: why not, and length 0
 abbrev pub LengthIs : TzqLength → (line : List ℕ) (place : ℕ) → Draft → Type 0
 LengthIs t line place (Text text) =
     (place + length text ≤ length line → (t.refused ≡ 0) × (t.length ≡ length text))
     × (length line < place + length text → (t.refused ≡ 8) × (t.length ≡ 0))
-LengthIs t line place (NoText e) = (t.refused ≡ e.number) × (t.length ≡ 0)
+LengthIs t line place (NoText e) = (t.refused ≡ refusal_number e) × (t.length ≡ 0)
 
 -- ---- the tables
-abbrev pub RateIs : TzqRate → Rated → Type 0
-RateIs t (rated.Row r) =
+abbrev pub RateIs : TzqRate → Result Framerate Refusal → Type 0
+RateIs t (Ok r) =
     (t.refused ≡ 0) × (t.numerator ≡ r.numerator) × (t.denominator ≡ r.denominator) × (t.timebase ≡ r.timebase) × (t.ticks ≡ r.ticks)
-RateIs t (rated.Refused e) = (t.refused ≡ e.number) × (t.numerator ≡ 0) × (t.denominator ≡ 0) × (t.timebase ≡ 0) × (t.ticks ≡ 0)
+RateIs t (Err e) = (t.refused ≡ refusal_number e) × (t.numerator ≡ 0) × (t.denominator ≡ 0) × (t.timebase ≡ 0) × (t.ticks ≡ 0)
 
-abbrev pub FormatIs : TzqFormat → Filmed → Type 0
-FormatIs t (filmed.Format film) =
+abbrev pub FormatIs : TzqFormat → Result FilmFormat Refusal → Type 0
+FormatIs t (Ok film) =
     (t.refused ≡ 0) × (t.perfs_per_frame ≡ perfs_per_frame_of film) × (t.perfs_per_foot ≡ perfs_per_foot_of film)
     × (t.perf_field ≡ allows_perf_field film)
-FormatIs t (filmed.Refused e) = (t.refused ≡ e.number) × (t.perfs_per_frame ≡ 0) × (t.perfs_per_foot ≡ 0) × (t.perf_field ≡ false)
+FormatIs t (Err e) = (t.refused ≡ refusal_number e) × (t.perfs_per_frame ≡ 0) × (t.perfs_per_foot ≡ 0) × (t.perf_field ≡ false)
 
 -- 2 at rate 5, 4 at rate 11, 0 for every other number
 pub record DropsAre (rate drops : ℕ) : Type 0 where

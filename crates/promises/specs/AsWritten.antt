@@ -1,13 +1,12 @@
 -- A footage that is read is what the writer gives for its count, but for leading zeros, an absent marker and the sign of zero.
 -- Assumes nothing.
-use Rattle.std.specs.Prelude.{ℕ, ◌≡◌, ◌↔◌, ◌⊎◌, List, true, ℤ, pos}
+use Rattle.std.specs.Prelude.{ℕ, ◌≡◌, ◌↔◌, ◌⊎◌, List, true, ℤ, pos, Option, Ok}
 use Rattle.digits.specs.Digits.{significant}
 use Rattle.answers.specs.Refusals.{is_count}
 use Rattle.timecodes.specs.Timecode.{timecode}
 use Rattle.film.specs.declared.FilmFormat.{FilmFormat}
 use Rattle.footage_scan.specs.Shape.{FootageParts, FootageShape, has_perf}
 use Rattle.footage_writer.specs.FootageText.{footage_text}
-use Rattle.reading.specs.declared.Stated.{Stated}
 use Rattle.reading.specs.declared.Read.TheVariants.{Footage}
 use Rattle.reading.specs.Shaped.{format_for}
 use Rattle.reading.specs.Reading.{read_text}
@@ -26,7 +25,7 @@ pub record Alike (count : ℤ) (p q : FootageParts) : Type 0 where
 
 -- a text, no field of over 9 digits, is so what the writer gives for a count in this film format: the stated one, or that which its marker
 -- chooses
-pub record AsWritten (l : List ℕ) (stated : Stated) (format : FilmFormat) (count : ℤ) : Type 0 where
+pub record AsWritten (l : List ℕ) (stated : Option ℕ) (format : FilmFormat) (count : ℤ) : Type 0 where
   pub parts : FootageParts
   pub text : FootageText l parts
   pub chosen : format_for stated (has_perf parts.perf) ≡ format
@@ -37,5 +36,5 @@ pub record AsWritten (l : List ℕ) (stated : Stated) (format : FilmFormat) (cou
 -- a text is read as a footage exactly when it is so what the writer gives for its count
 abbrev pub ReadAsWritten : Type 0
 ReadAsWritten =
-    (l : List ℕ) (stated : Stated) (rate : ℕ) (format : FilmFormat) (count : ℤ) → RateAndFormat stated rate
-    → (read_text l stated rate ≡ Footage (timecode count rate) format) ↔ (AsWritten l stated format count × (is_count count ≡ true))
+    (l : List ℕ) (stated : Option ℕ) (rate : ℕ) (format : FilmFormat) (count : ℤ) → RateAndFormat stated rate
+    → (read_text l stated rate ≡ Ok (Footage (timecode count rate) format)) ↔ (AsWritten l stated format count × (is_count count ≡ true))

@@ -1,12 +1,11 @@
 -- Demand 1, calls: any bytes and any numbers get an answer, and one only; nothing relies on the caller having checked.
 -- Assumes nothing.
+use Rattle.std.specs.Prelude.{◌≡◌, []}
 use Rattle.promises.specs.Answers.{Answers}
 use Rattle.reading.specs.contracts.read_text as read-text
 use Rattle.reading.proofs.read_text.Reads as read-text-reads
 use Rattle.reading.specs.contracts.read_label_only as read_label_only
 use Rattle.reading.proofs.read_label_only.Reads as read-label-only-reads
-use Rattle.reading.specs.contracts.number as reading_number
-use Rattle.reading.proofs.number.Reads as reading-number-reads
 use Rattle.reasons.specs.contracts.why as why
 use Rattle.reasons.proofs.why.Reads as why-reads
 use Rattle.phrases.specs.contracts.write_phrase as write_phrase
@@ -81,16 +80,16 @@ use Rattle.router.specs.contracts.verdict as verdict
 use Rattle.router.proofs.verdict.Reads as verdict-reads
 use Rattle.router.specs.contracts.route_tested as route_tested
 use Rattle.router.proofs.route_tested.Reads as route-tested-reads
+use denote.RattleType.{RattleType}
+use denote.Param.Laws.{Laws}
+use Rattle.answers.specs.contracts.Cause.number as answers_cause_number
+use Rattle.answers.proofs.Cause.number.Reads as answers-cause-number-reads
 use Rattle.answers.specs.contracts.number as answers_number
 use Rattle.answers.proofs.number.Reads as answers-number-reads
 use Rattle.answers.specs.contracts.count as answers_count
 use Rattle.answers.proofs.count.Reads as answers-count-reads
-use Rattle.timecodes.specs.contracts.number as timecodes_number
-use Rattle.timecodes.proofs.number.Reads as timecodes-number-reads
 use Rattle.timecodes.specs.contracts.timecode_of as timecodes_timecode_of
 use Rattle.timecodes.proofs.timecode_of.Reads as timecodes-timecode-of-reads
-use Rattle.written.specs.contracts.number as written_number
-use Rattle.written.proofs.number.Reads as written-number-reads
 use Rattle.written.specs.contracts.length as written_length
 use Rattle.written.proofs.length.Reads as written-length-reads
 use Rattle.rates.specs.contracts.framerate_at as framerate_at
@@ -101,7 +100,7 @@ use Rattle.minutes.specs.contracts.minute_start as minute-start
 use Rattle.minutes.proofs.minute_start.Reads as minute-start-reads
 
 -- every function that a user calls answers every call, and in one way
-pub record OneAnswer : Type 0 where
+pub record OneAnswer : Type 2 where
   -- reading
   pub read-text : Answers read-text.ended read-text-reads.Asked read-text-reads.Learnt
   pub read_label_only : Answers read_label_only.ended read-label-only-reads.Asked read-label-only-reads.Learnt
@@ -149,12 +148,11 @@ pub record OneAnswer : Type 0 where
   pub verdict : Answers verdict.ended verdict-reads.Asked verdict-reads.Learnt
   pub route_tested : Answers route_tested.ended route-tested-reads.Asked route-tested-reads.Learnt
   -- what an answer holds
-  pub answers_number : Answers answers_number.ended answers-number-reads.Asked answers-number-reads.Learnt
+  pub answers_cause_number : Answers answers_cause_number.ended answers-cause-number-reads.Asked answers-cause-number-reads.Learnt
+  -- of any type of answers that holds no reference, those of the reader and of the writers among them
+  pub answers_number : (T : RattleType) (laws : Laws T) → T.lives ≡ [] → Answers (answers_number.ended T) (answers-number-reads.Asked T laws) (answers-number-reads.Learnt T laws)
   pub answers_count : Answers answers_count.ended answers-count-reads.Asked answers-count-reads.Learnt
-  pub reading_number : Answers reading_number.ended reading-number-reads.Asked reading-number-reads.Learnt
-  pub timecodes_number : Answers timecodes_number.ended timecodes-number-reads.Asked timecodes-number-reads.Learnt
   pub timecodes_timecode_of : Answers timecodes_timecode_of.ended timecodes-timecode-of-reads.Asked timecodes-timecode-of-reads.Learnt
-  pub written_number : Answers written_number.ended written-number-reads.Asked written-number-reads.Learnt
   pub written_length : Answers written_length.ended written-length-reads.Asked written-length-reads.Learnt
   -- the tables
   pub framerate_at : Answers framerate_at.ended framerate-at-reads.Asked framerate-at-reads.Learnt

@@ -1,15 +1,14 @@
 -- The worked cases: rows of a single table, under one statement.
 -- Assumes nothing.
-use Rattle.std.specs.Prelude.{ℕ, ◌≡◌, true, List, [], ◌∷◌, ℤ, pos, negsuc}
+use Rattle.std.specs.Prelude.{ℕ, ◌≡◌, true, List, [], ◌∷◌, ℤ, pos, negsuc, Option, Some, None, Ok, Err}
 use Prim.Native.String.{String}
-use Rattle.answers.specs.Refusals.{refusal, at_place}
+use Rattle.answers.specs.Causes.{refusal}
+use Rattle.answers.specs.Refusals.{at_place}
 use Rattle.rates.specs.Rates.{is_rate}
 use Rattle.film.specs.declared.FilmFormat.{FilmFormat}
 use Rattle.film.specs.declared.FilmFormat.TheVariants.{FF35mm3perf, FF35mm2perf, FF16mm}
 use Rattle.film.specs.Film.{format_number}
-use Rattle.reading.specs.declared.Stated.{Stated}
-use Rattle.reading.specs.declared.Stated.TheVariants.{Nothing, Format}
-use Rattle.reading.specs.declared.Read.TheVariants.{Label, Footage, Refused}
+use Rattle.reading.specs.declared.Read.TheVariants.{Label, Footage}
 use Rattle.reading.specs.Answer.{number_of}
 use Rattle.reading.specs.Reading.{read_text}
 use Rattle.label_writer.specs.LabelText.{label_text}
@@ -22,7 +21,6 @@ use Rattle.shot_writer.specs.ListText.{list_bytes}
 use Rattle.arithmetic.specs.Truncating.{div_of}
 use Rattle.arithmetic.specs.Flooring.{divq_of}
 use Rattle.arithmetic.specs.Sum.{add_of}
-use Rattle.timecodes.specs.declared.Answer.TheVariants.{At}
 use Rattle.timecodes.specs.Timecode.{timecode}
 use Rattle.chains.specs.Chain.{convert_of}
 use Rattle.lines.specs.Output.{bytes_of}
@@ -31,8 +29,8 @@ use Rattle.lines.specs.Output.{bytes_of}
 pub data Case : Type 0 where
   label : (rate : ℕ) (count : ℤ) (text : String) → Case  -- rate 5: 1800 is `00:01:00;02`
   gives : (rate : ℕ) (text : String) (number : ℕ) → Case  -- rate 5: `00:01:00;00` gives 3
-  stops : (stated : Stated) (rate : ℕ) (text : String) (number place : ℕ) → Case  -- 4-perf stated, rate 2: `1+2.` gives 1 at 4
-  takes : (stated : Stated) (text : String) (count : ℤ) (format : FilmFormat) → Case  -- 3-perf stated: `1+00` is 21
+  stops : (stated : Option ℕ) (rate : ℕ) (text : String) (number place : ℕ) → Case  -- 4-perf stated, rate 2: `1+2.` gives 1 at 4
+  takes : (stated : Option ℕ) (text : String) (count : ℤ) (format : FilmFormat) → Case  -- 3-perf stated: `1+00` is 21
   lists : (bytes : List ℕ) (records : List Record) → Case  -- 1 5 3 7 0 0 0 is rate 5, reel 7
   hands_over : (numbers : List ℤ) (records : List Record) → Case  -- 1 5 3 7 hands rate 5, reel 7 over
   list_refused : (bytes : List ℕ) (number : ℕ) → Case  -- 1 5 4 gives 9
@@ -44,20 +42,20 @@ pub data Case : Type 0 where
 
 -- a count is a text where it is written so, and the text is read as the count; what names no rate holds at every rate
 abbrev pub Holds : Case → Type 0
-Holds (label rate count text) = (label_text rate count ≡ bytes_of text) × (read_text (bytes_of text) Nothing rate ≡ Label (timecode count rate))
-Holds (gives rate text number) = number_of (read_text (bytes_of text) Nothing rate) ≡ number
-Holds (stops stated rate text number place) = read_text (bytes_of text) stated rate ≡ Refused (at_place (refusal number) place)
+Holds (label rate count text) = (label_text rate count ≡ bytes_of text) × (read_text (bytes_of text) None rate ≡ Ok (Label (timecode count rate)))
+Holds (gives rate text number) = number_of (read_text (bytes_of text) None rate) ≡ number
+Holds (stops stated rate text number place) = read_text (bytes_of text) stated rate ≡ Err (at_place (refusal number) place)
 Holds (footage format count text) =
     (footage_text format count ≡ bytes_of text)
-    × ((rate : ℕ) → is_rate rate ≡ true → read_text (bytes_of text) (Format (format_number format)) rate ≡ Footage (timecode count rate) format)
-Holds (takes stated text count format) = (rate : ℕ) → is_rate rate ≡ true → read_text (bytes_of text) stated rate ≡ Footage (timecode count rate) format
+    × ((rate : ℕ) → is_rate rate ≡ true → read_text (bytes_of text) (Some (format_number format)) rate ≡ Ok (Footage (timecode count rate) format))
+Holds (takes stated text count format) = (rate : ℕ) → is_rate rate ≡ true → read_text (bytes_of text) stated rate ≡ Ok (Footage (timecode count rate) format)
 Holds (lists bytes rs) = (read_of on_disk bytes ≡ AllOf rs) × (list_bytes rs ≡ bytes)
 Holds (hands_over numbers rs) = read_of in_numbers numbers ≡ AllOf rs
 Holds (list_refused bytes number) = read_of on_disk bytes ≡ FaultOf (refusal number)
-Holds (divided count n answer) = (rate : ℕ) → is_rate rate ≡ true → div_of (timecode count rate) n ≡ At (timecode answer rate)
-Holds (divided_by count p q answer) = (rate : ℕ) → is_rate rate ≡ true → divq_of (timecode count rate) p q ≡ At (timecode answer rate)
-Holds (plus count rate other otherRate answer) = add_of (timecode count rate) (timecode other otherRate) ≡ At (timecode answer rate)
-Holds (through count rate list answer last) = convert_of (timecode count rate) list ≡ At (timecode answer last)
+Holds (divided count n answer) = (rate : ℕ) → is_rate rate ≡ true → div_of (timecode count rate) n ≡ Ok (timecode answer rate)
+Holds (divided_by count p q answer) = (rate : ℕ) → is_rate rate ≡ true → divq_of (timecode count rate) p q ≡ Ok (timecode answer rate)
+Holds (plus count rate other otherRate answer) = add_of (timecode count rate) (timecode other otherRate) ≡ Ok (timecode answer rate)
+Holds (through count rate list answer last) = convert_of (timecode count rate) list ≡ Ok (timecode answer last)
 
 abbrev pub All : List Case → Type 0
 All [] = Unit {0}
@@ -81,22 +79,22 @@ cases =
     ∷ divided_by (negsuc 0) (pos 2) 1 (negsuc 0)
     ∷ plus (pos 5) 2 (negsuc 0) 8 (pos 5)
     ∷ through (pos 1) 12 (2 ∷ 12 ∷ []) (pos 0) 12
-    ∷ stops (Format 1) 2 "1+2." 1 4
-    ∷ stops Nothing 2 "12+3:4" 1 4
-    ∷ stops Nothing 2 "1:00+5" 1 4
-    ∷ stops Nothing 2 "-0000000001:0000000002" 2 1
-    ∷ stops (Format 1) 2 "1+2.0000000003" 2 4
-    ∷ takes (Format 2) "1+00" (pos 21) FF35mm3perf
-    ∷ takes Nothing "4+00.01" (pos 85) FF35mm3perf
-    ∷ stops Nothing 2 "0+20" 13 0
-    ∷ stops (Format 2) 2 "1+21" 13 0
-    ∷ stops Nothing 2 "-4+00.4" 13 0
-    ∷ stops Nothing 2 "25000000+16" 13 0
-    ∷ stops (Format 1) 2 "1+16.9" 4 0
-    ∷ takes (Format 3) "0+31" (pos 31) FF35mm2perf
-    ∷ takes (Format 4) "0+19" (pos 19) FF16mm
-    ∷ stops (Format 3) 2 "1+00.1" 4 0
-    ∷ stops (Format 4) 2 "1+00.1" 4 0
+    ∷ stops (Some 1) 2 "1+2." 1 4
+    ∷ stops None 2 "12+3:4" 1 4
+    ∷ stops None 2 "1:00+5" 1 4
+    ∷ stops None 2 "-0000000001:0000000002" 2 1
+    ∷ stops (Some 1) 2 "1+2.0000000003" 2 4
+    ∷ takes (Some 2) "1+00" (pos 21) FF35mm3perf
+    ∷ takes None "4+00.01" (pos 85) FF35mm3perf
+    ∷ stops None 2 "0+20" 13 0
+    ∷ stops (Some 2) 2 "1+21" 13 0
+    ∷ stops None 2 "-4+00.4" 13 0
+    ∷ stops None 2 "25000000+16" 13 0
+    ∷ stops (Some 1) 2 "1+16.9" 4 0
+    ∷ takes (Some 3) "0+31" (pos 31) FF35mm2perf
+    ∷ takes (Some 4) "0+19" (pos 19) FF16mm
+    ∷ stops (Some 3) 2 "1+00.1" 4 0
+    ∷ stops (Some 4) 2 "1+00.1" 4 0
     ∷ lists (1 ∷ 5 ∷ 2 ∷ 246 ∷ 255 ∷ 255 ∷ 255 ∷ 100 ∷ 0 ∷ 0 ∷ 0 ∷ 3 ∷ 7 ∷ 0 ∷ 0 ∷ 0 ∷ []) (Rate 5 ∷ Shot (negsuc 9) (pos 100) ∷ Reel 7 ∷ [])
     ∷ hands_over (pos 1 ∷ pos 5 ∷ pos 2 ∷ negsuc 9 ∷ pos 100 ∷ pos 3 ∷ pos 7 ∷ []) (Rate 5 ∷ Shot (negsuc 9) (pos 100) ∷ Reel 7 ∷ [])
     ∷ lists [] []

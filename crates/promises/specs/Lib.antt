@@ -23,4 +23,5 @@ pub mod Cases
 pub mod PositionCases
 pub mod WhyCases
 pub mod RouteCases
+pub mod PlainForms
 pub mod Promises

@@ -1,11 +1,12 @@
 -- What C is handed of a shot list: each number of the struct is that of the record, of the refusal, or 0.
 -- Assumes nothing.
-use Rattle.std.specs.Prelude.{ℕ, ◌≡◌, pos, length, drop}
+use Rattle.shot_lists.specs.declared.records.Taken.{Taken}
+use Rattle.answers.specs.declared.Refusal.{Refusal}
+use Rattle.answers.specs.Causes.{refusal_number}
+use Rattle.std.specs.Prelude.{ℕ, ◌≡◌, pos, length, drop, Err, None, Ok, Some, Option, Result}
 use Rattle.outcomes.specs.Outcome.{Gives}
 use Rattle.shot_lists.specs.declared.records.Record.{Record}
 use Rattle.shot_lists.specs.declared.records.Record.TheVariants.{Rate, Shot, Reel}
-use Rattle.shot_lists.specs.declared.records.Entry.{Entry}
-use Rattle.shot_lists.specs.declared.records.Entry.TheVariants as entered
 use Rattle.shot_lists.specs.Grammar.{kind_byte}
 use Rattle.shot_lists.specs.Entries.{on_disk, entry_of}
 use Rattle.shot_lists.specs.Reading.{Reading, AllOf, FaultOf, read_of}
@@ -46,15 +47,15 @@ pub record With (t : TzqRecord) (r : Record) (held size : ℕ) : Type 0 where
   pub bytes : t.size ≡ size
 
 -- a record, why there is none, or the end
-abbrev pub EntryWhole : TzqRecord → Entry → Type 0
-EntryWhole t (entered.Taken r held size) = With t r held size
-EntryWhole t (entered.Refused e) = Without t e.number
-EntryWhole t entered.End = Without t 0
+abbrev pub EntryWhole : TzqRecord → Result (Option Taken) Refusal → Type 0
+EntryWhole t (Ok (Some r)) = With t r.found r.held r.size
+EntryWhole t (Err e) = Without t (refusal_number e)
+EntryWhole t (Ok None) = Without t 0
 
 -- how many records were read; of a refusal its number, and 0
 abbrev pub CheckedWhole : TzqChecked → Reading → Type 0
 CheckedWhole t (AllOf rs) = (t.refused ≡ 0) × (t.records ≡ length rs)
-CheckedWhole t (FaultOf e) = (t.refused ≡ e.number) × (t.records ≡ 0)
+CheckedWhole t (FaultOf e) = (t.refused ≡ refusal_number e) × (t.records ≡ 0)
 
 -- so it is of whatever the contracts of the two functions for C allow
 pub record ListsForC : Type 0 where

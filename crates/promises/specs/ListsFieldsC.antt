@@ -1,11 +1,12 @@
 -- What C is handed of a shot list: each number of the struct is that of the record, of the refusal, or 0.
 -- Assumes nothing.
-use Rattle.std.specs.Prelude.{ℕ, ◌≡◌, pos, drop}
+use Rattle.shot_lists.specs.declared.records.Taken.{Taken}
+use Rattle.answers.specs.declared.Refusal.{Refusal}
+use Rattle.answers.specs.Causes.{refusal_number}
+use Rattle.std.specs.Prelude.{ℕ, ◌≡◌, pos, drop, Err, None, Ok, Some, Option, Result}
 use Rattle.outcomes.specs.Outcome.{Gives}
 use Rattle.shot_lists.specs.declared.records.Record.{Record}
 use Rattle.shot_lists.specs.declared.records.Record.TheVariants.{Rate, Shot, Reel}
-use Rattle.shot_lists.specs.declared.records.Entry.{Entry}
-use Rattle.shot_lists.specs.declared.records.Entry.TheVariants as entered
 use Rattle.shot_lists.specs.Entries.{on_disk, entry_of}
 use Rattle.exports.specs.declared.lists.TzqRecord.{TzqRecord}
 use Rattle.exports.specs.contracts.lists.tzq_record_at as tzq_record_at
@@ -26,10 +27,10 @@ pub record RecordFields (t : TzqRecord) (r : Record) (held size : ℕ) : Type 0 
   pub bytes : t.size ≡ size
 
 -- a record, why there is none, or the end
-abbrev pub EntryFields : TzqRecord → Entry → Type 0
-EntryFields t (entered.Taken r held size) = RecordFields t r held size
-EntryFields t (entered.Refused e) = Without t e.number
-EntryFields t entered.End = Without t 0
+abbrev pub EntryFields : TzqRecord → Result (Option Taken) Refusal → Type 0
+EntryFields t (Ok (Some r)) = RecordFields t r.found r.held r.size
+EntryFields t (Err e) = Without t (refusal_number e)
+EntryFields t (Ok None) = Without t 0
 
 -- so it is of whatever the contract of `tzq_record_at` allows
 pub record ListsFieldsForC : Type 0 where

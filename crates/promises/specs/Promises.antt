@@ -65,9 +65,13 @@ use Rattle.promises.specs.Cases.{StarredCases}
 use Rattle.promises.specs.PositionCases.{PositionCases}
 use Rattle.promises.specs.WhyCases.{WhyCases}
 use Rattle.promises.specs.RouteCases.{RouteCases}
+use Rattle.promises.specs.PlainForms.{CausesNumbered, RefusalsNamed, PartsOfAnswers}
 
-pub record Promises : Type 1 where
+pub record Promises : Type 2 where
   -- demand 1
+  pub causes_numbered : CausesNumbered
+  pub refusals_named : RefusalsNamed
+  pub parts_of_answers : PartsOfAnswers
   pub one_answer : OneAnswer
   pub one_answer_c : OneAnswerC
   pub ties : Ties

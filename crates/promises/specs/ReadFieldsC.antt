@@ -1,9 +1,10 @@
 -- What C is handed of a text that is read, and of an answer that is a timecode: each field of the struct, in the cases of the answer.
 -- Assumes nothing.
-use Rattle.std.specs.Prelude.{ℕ, ◌≡◌, ◌↔◌, Bool, true, false, ℤ, pos}
+use Rattle.answers.specs.Causes.{refusal_number}
+use Rattle.timecodes.specs.declared.Timecode.{Timecode}
+use Rattle.answers.specs.declared.Refusal.{Refusal}
+use Rattle.std.specs.Prelude.{ℕ, ◌≡◌, ◌↔◌, Bool, true, false, ℤ, pos, Some, None, Result, Ok, Err}
 use Rattle.outcomes.specs.Outcome.{Gives}
-use Rattle.timecodes.specs.declared.Answer.{Answer}
-use Rattle.timecodes.specs.declared.Answer.TheVariants as answer
 use Rattle.timecodes.specs.declared.kinds.Kind.TheVariants.{Position}
 use Rattle.timecodes.specs.Kinds.{kind_from}
 use Rattle.timecodes.specs.Made.{settled}
@@ -17,9 +18,8 @@ use Rattle.arithmetic.specs.Truncating.{div_of, rem_of}
 use Rattle.arithmetic.specs.Flooring.{divq_of}
 use Rattle.arithmetic.specs.Remainder.{remq_of}
 use Rattle.arithmetic.specs.Count.{neg_of, abs_of, rebase_of}
-use Rattle.reading.specs.declared.Stated.TheVariants.{Nothing, Format}
 use Rattle.reading.specs.declared.Read.{Read}
-use Rattle.reading.specs.declared.Read.TheVariants.{Label, Footage, Refused}
+use Rattle.reading.specs.declared.Read.TheVariants.{Label, Footage}
 use Rattle.reading.specs.For.{read_for}
 use Rattle.exports.specs.declared.handed.TzqCount.{TzqCount}
 use Rattle.exports.specs.declared.handed.TzqRead.{TzqRead}
@@ -59,28 +59,28 @@ use Rattle.exports.proofs.sums.tzq_rebase.Reads as tzq-rebase-reads
 
 -- ---- what a text reads as
 -- the five numbers that are handed over of a text: of a label, of a footage, of a refusal
-abbrev pub ReadsAs : Read → (refused : ℕ) (count : ℤ) (format place : ℕ) (position : Bool) → Type 0
-ReadsAs (Label tc) refused count format place position =
+abbrev pub ReadsAs : Result Read Refusal → (refused : ℕ) (count : ℤ) (format place : ℕ) (position : Bool) → Type 0
+ReadsAs (Ok (Label tc)) refused count format place position =
     (refused ≡ 0) × (count ≡ tc.count) × (format ≡ 0) × (place ≡ 0) × ((position ≡ true) ↔ (tc.kind ≡ Position))
-ReadsAs (Footage tc film) refused count format place position =
+ReadsAs (Ok (Footage tc film)) refused count format place position =
     (refused ≡ 0) × (count ≡ tc.count) × (format ≡ format_number film) × (place ≡ 0) × ((position ≡ true) ↔ (tc.kind ≡ Position))
-ReadsAs (Refused e) refused count format place position =
-    (refused ≡ e.number) × (count ≡ pos 0) × (format ≡ 0) × (place ≡ e.place) × (position ≡ false)
+ReadsAs (Err e) refused count format place position =
+    (refused ≡ refusal_number e) × (count ≡ pos 0) × (format ≡ 0) × (place ≡ e.place) × (position ≡ false)
 
-abbrev pub ReadWhole : TzqRead → Read → Type 0
+abbrev pub ReadWhole : TzqRead → Result Read Refusal → Type 0
 ReadWhole t a = ReadsAs a t.refused t.count t.format t.place t.position
 
 -- ---- a timecode
 -- of a timecode its count, and whether it is a position; of a refusal its number, count 0 and no position
-abbrev pub AnswerWhole : TzqCount → Answer → Type 0
-AnswerWhole t (answer.At tc) = (t.refused ≡ 0) × (t.count ≡ tc.count) × ((t.position ≡ true) ↔ (tc.kind ≡ Position))
-AnswerWhole t (answer.Refused e) = (t.refused ≡ e.number) × (t.count ≡ pos 0) × (t.position ≡ false)
+abbrev pub AnswerWhole : TzqCount → Result Timecode Refusal → Type 0
+AnswerWhole t (Ok tc) = (t.refused ≡ 0) × (t.count ≡ tc.count) × ((t.position ≡ true) ↔ (tc.kind ≡ Position))
+AnswerWhole t (Err e) = (t.refused ≡ refusal_number e) × (t.count ≡ pos 0) × (t.position ≡ false)
 
 -- so it is of whatever the contracts of the readers, the makers and the arithmetic for C allow; and film formats are 1 to 4
 pub record ReadFieldsForC : Type 0 where
-  pub read : Gives tzq_read.ended tzq-read-reads.Learnt (λ κs a x. ReadWhole x.0 (read_for (kind_from a.1.1.0) a.0.now Nothing a.1.0))
+  pub read : Gives tzq_read.ended tzq-read-reads.Learnt (λ κs a x. ReadWhole x.0 (read_for (kind_from a.1.1.0) a.0.now None a.1.0))
   pub read_as : Gives tzq_read_as.ended tzq-read-as-reads.Learnt (λ κs a x.
-      ReadWhole x.0 (read_for (kind_from a.1.1.1.0) a.0.now (Format a.1.0) a.1.1.0))
+      ReadWhole x.0 (read_for (kind_from a.1.1.1.0) a.0.now (Some a.1.0) a.1.1.0))
   pub read-runtime : Gives tzq_read_runtime.ended tzq-read-runtime-reads.Learnt (λ κs a x.
       AnswerWhole x.0 (settled (kind_from a.1.1.0) (read_runtime a.0.now a.1.0)))
   pub with_frames : Gives tzq_with_frames.ended tzq-with-frames-reads.Learnt (λ κs a x.

@@ -1,6 +1,9 @@
 -- The promises speak of what runs: whatever the contract of a function that users call allows is what its definition says.
 -- Assumes nothing.
-use Rattle.std.specs.Prelude.{◌≡◌, drop}
+use Rattle.std.specs.Prelude.{ℕ, ◌≡◌, drop}
+use denote.Param.{number}
+use mir.Syntax.{w64}
+use mir.Val.{Fits}
 use Rattle.outcomes.specs.Outcome.{Gives}
 use Rattle.arithmetic.specs.Compare.{compare_of}
 use Rattle.arithmetic.specs.Count.{abs_of, neg_of, rebase_of}
@@ -22,7 +25,6 @@ use Rattle.reading.specs.For.{read_for, label_for}
 use Rattle.reading.specs.Answer as reading
 use Rattle.showing.specs.Why.{why_on}
 use Rattle.showing.specs.Routes.{routed_on}
-use Rattle.streams.specs.Sheet.{sheet}
 use Rattle.phrases.specs.Phrases.{phrase_of}
 use Rattle.reasons.specs.Why.{phrase_for, why_of}
 use Rattle.runtime_reading.specs.Reading.{read_runtime}
@@ -47,8 +49,6 @@ use Rattle.reading.specs.contracts.read_label_only as read_label_only
 use Rattle.reading.proofs.read_label_only.Reads as read-label-only-reads
 use Rattle.reading.specs.contracts.read_text as read-text
 use Rattle.reading.proofs.read_text.Reads as read-text-reads
-use Rattle.reading.specs.contracts.number as reading_number
-use Rattle.reading.proofs.number.Reads as reading-number-reads
 use Rattle.reasons.specs.contracts.why as why
 use Rattle.showing.specs.contracts.show_why as show_why
 use Rattle.showing.proofs.show_why.Reads as show-why-reads
@@ -127,16 +127,17 @@ use Rattle.router.specs.contracts.verdict as verdict
 use Rattle.router.proofs.verdict.Reads as verdict-reads
 use Rattle.router.specs.contracts.route_tested as route_tested
 use Rattle.router.proofs.route_tested.Reads as route-tested-reads
+use denote.RattleType.{RattleType}
+use denote.Param.Laws.{Laws}
+use Rattle.answers.specs.Causes.{cause_number}
+use Rattle.answers.specs.contracts.Cause.number as answers_cause_number
+use Rattle.answers.proofs.Cause.number.Reads as answers-cause-number-reads
 use Rattle.answers.specs.contracts.number as answers_number
 use Rattle.answers.proofs.number.Reads as answers-number-reads
 use Rattle.answers.specs.contracts.count as answers_count
 use Rattle.answers.proofs.count.Reads as answers-count-reads
-use Rattle.timecodes.specs.contracts.number as timecodes_number
-use Rattle.timecodes.proofs.number.Reads as timecodes-number-reads
 use Rattle.timecodes.specs.contracts.timecode_of as timecodes_timecode_of
 use Rattle.timecodes.proofs.timecode_of.Reads as timecodes-timecode-of-reads
-use Rattle.written.specs.contracts.number as written_number
-use Rattle.written.proofs.number.Reads as written-number-reads
 use Rattle.written.specs.contracts.length as written_length
 use Rattle.written.proofs.length.Reads as written-length-reads
 use Rattle.rates.specs.contracts.framerate_at as framerate_at
@@ -147,7 +148,7 @@ use Rattle.minutes.specs.contracts.minute_start as minute-start
 use Rattle.minutes.proofs.minute_start.Reads as minute-start-reads
 
 -- a is what the function is called with, x what comes of it: the answer, and the last value of each thing lent
-pub record Ties : Type 0 where
+pub record Ties : Type 2 where
   -- reading
   pub read-text : Gives read-text.ended read-text-reads.Learnt (λ κs a x. x.0 ≡ read_for a.1.1.1.0 a.0.now a.1.0 a.1.1.0)
   pub read_label_only : Gives read_label_only.ended read-label-only-reads.Learnt (λ κs a x. x.0 ≡ label_for a.1.1.0 a.0.now a.1.0)
@@ -207,18 +208,16 @@ pub record Ties : Type 0 where
   pub verdict : Gives verdict.ended verdict-reads.Learnt (λ κs a x. x.0 ≡ verdict_of a.0)
   pub route_tested : Gives route_tested.ended route-tested-reads.Learnt (λ κs a x. x.0 ≡ routed_in a.0 a.1.0 a.1.1.0.now)
   -- shown by the calculator
-  pub show_why : Gives show_why.ended show-why-reads.Learnt (λ κs a x.
-      (x.0 ≡ (why_on (sheet a.0.now a.1.0) a.1.1.1.0 a.1.1.0 a.1.1.1.1.0.now).used)
-      × (x.1.0 ≡ (why_on (sheet a.0.now a.1.0) a.1.1.1.0 a.1.1.0 a.1.1.1.1.0.now).bytes))
-  pub show_routed : Gives show_routed.ended show-routed-reads.Learnt (λ κs a x.
-      (x.0 ≡ (routed_on (sheet a.0.now a.1.0) a.1.1.0).used) × (x.1.0 ≡ (routed_on (sheet a.0.now a.1.0) a.1.1.0).bytes))
+  pub show_why : (N : ℕ) (fits : Fits w64 N) → Gives (show_why.ended (number N)) (show-why-reads.Learnt N fits) (λ κs a x.
+      x.1.0 ≡ why_on a.0.now a.1.1.0 a.1.0 a.1.1.1.0.now)
+  pub show_routed : (N : ℕ) (fits : Fits w64 N) → Gives (show_routed.ended (number N)) (show-routed-reads.Learnt N fits) (λ κs a x.
+      x.1.0 ≡ routed_on a.0.now a.1.0)
   -- what an answer holds
-  pub answers_number : Gives answers_number.ended answers-number-reads.Learnt (λ κs a x. x.0 ≡ answers.number_of a.0)
+  pub answers_cause_number : Gives answers_cause_number.ended answers-cause-number-reads.Learnt (λ κs a x. x.0 ≡ cause_number a.0)
+  -- of any type of answers, those of the reader and of the writers among them
+  pub answers_number : (T : RattleType) (laws : Laws T) → Gives (answers_number.ended T) (answers-number-reads.Learnt T laws) (λ κs a x. x.0 ≡ answers.number_of a.0.now)
   pub answers_count : Gives answers_count.ended answers-count-reads.Learnt (λ κs a x. x.0 ≡ answers.count_of a.0)
-  pub reading_number : Gives reading_number.ended reading-number-reads.Learnt (λ κs a x. x.0 ≡ reading.number_of a.0)
-  pub timecodes_number : Gives timecodes_number.ended timecodes-number-reads.Learnt (λ κs a x. x.0 ≡ timecodes.number_of a.0)
   pub timecodes_timecode_of : Gives timecodes_timecode_of.ended timecodes-timecode-of-reads.Learnt (λ κs a x. x.0 ≡ timecodes.timecode_of a.0)
-  pub written_number : Gives written_number.ended written-number-reads.Learnt (λ κs a x. x.0 ≡ written.number_of a.0)
   pub written_length : Gives written_length.ended written-length-reads.Learnt (λ κs a x. x.0 ≡ written.length_of a.0)
   -- the tables
   pub framerate_at : Gives framerate_at.ended framerate-at-reads.Learnt (λ κs a x. x.0 ≡ rate_at a.0)

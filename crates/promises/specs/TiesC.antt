@@ -1,6 +1,6 @@
 -- The promises speak of what runs, from C: whatever the contract of a function for C allows is the answer of the definition, handed over.
 -- Assumes nothing.
-use Rattle.std.specs.Prelude.{◌≡◌, drop}
+use Rattle.std.specs.Prelude.{◌≡◌, drop, Some, None}
 use Rattle.outcomes.specs.Outcome.{Gives}
 use Rattle.arithmetic.specs.Compare.{compare_of}
 use Rattle.arithmetic.specs.Count.{abs_of, neg_of, rebase_of}
@@ -27,7 +27,6 @@ use Rattle.rates.specs.Rates.{drop_frames, rate_at}
 use Rattle.timecodes.specs.Kinds.{kind_from}
 use Rattle.timecodes.specs.Made.{settled}
 use Rattle.reading.specs.For.{read_for}
-use Rattle.reading.specs.declared.Stated.TheVariants.{Format, Nothing}
 use Rattle.runtime_reading.specs.Reading.{read_runtime}
 use Rattle.runtime_writer.specs.RuntimeText.{runtime_draft}
 use Rattle.time.specs.Frames.{frames_at, seconds_at, ticks_at}
@@ -104,9 +103,9 @@ use Rattle.exports.proofs.tables.tzq_minute_start.Reads as tzq-minute-start-read
 -- a is what the function is called with, x what comes of it: the answer, and the last value of each thing lent
 pub record TiesC : Type 0 where
   -- texts read
-  pub tzq_read : Gives tzq_read.ended tzq-read-reads.Learnt (λ κs a x. x.0 ≡ handed_read (read_for (kind_from a.1.1.0) a.0.now Nothing a.1.0))
+  pub tzq_read : Gives tzq_read.ended tzq-read-reads.Learnt (λ κs a x. x.0 ≡ handed_read (read_for (kind_from a.1.1.0) a.0.now None a.1.0))
   pub tzq_read_as : Gives tzq_read_as.ended tzq-read-as-reads.Learnt (λ κs a x.
-      x.0 ≡ handed_read (read_for (kind_from a.1.1.1.0) a.0.now (Format a.1.0) a.1.1.0))
+      x.0 ≡ handed_read (read_for (kind_from a.1.1.1.0) a.0.now (Some a.1.0) a.1.1.0))
   pub tzq_read_runtime : Gives tzq_read_runtime.ended tzq-read-runtime-reads.Learnt (λ κs a x.
       x.0 ≡ handed_answer (settled (kind_from a.1.1.0) (read_runtime a.0.now a.1.0)))
   pub tzq_why : Gives tzq_why.ended tzq-why-reads.Learnt (λ κs a x.

@@ -1,11 +1,10 @@
 -- What C is handed of why a text is read as it is: the numbers that tzq_read hands over, field by field, the fact, and room for its label.
 -- Assumes nothing.
-use Rattle.std.specs.Prelude.{◌≤◌, ◌<◌, ◌≡◌}
+use Rattle.answers.specs.declared.Refusal.{Refusal}
+use Rattle.std.specs.Prelude.{◌≤◌, ◌<◌, ◌≡◌, Result, Ok, Err}
 use Rattle.outcomes.specs.Outcome.{Gives}
 use Rattle.timecodes.specs.Kinds.{kind_from}
 use Rattle.reasons.specs.declared.Reason.{Reason}
-use Rattle.reasons.specs.declared.Reasoned.{Reasoned}
-use Rattle.reasons.specs.declared.Reasoned.TheVariants.{Told, Refused}
 use Rattle.reasons.specs.Why.{why_of}
 use Rattle.exports.specs.declared.why.TzqReason.{TzqReason}
 use Rattle.exports.specs.HandedWhy.{stated_from}
@@ -21,9 +20,9 @@ pub record ToldFields (t : TzqReason) (r : Reason) : Type 0 where
   pub fact : FactIs t r.fact
   pub length : t.length ≡ r.length
 
-abbrev pub ReasonFields : TzqReason → Reasoned → Type 0
-ReasonFields t (Told r) = ToldFields t r
-ReasonFields t (Refused e) = NotTold t e
+abbrev pub ReasonFields : TzqReason → Result Reason Refusal → Type 0
+ReasonFields t (Ok r) = ToldFields t r
+ReasonFields t (Err e) = NotTold t e
 
 -- a sign, ten digits of hours, and two of each other field: the label of 3 has at most 20 bytes
 pub record ShortIn (t : TzqReason) : Type 0 where

@@ -1,10 +1,9 @@
 -- Laws of the rate numbers that callers cite (BEHAVIOUR: Rates): the answer for each number, and the labels that a minute drops.
 -- Assumes nothing.
-use Rattle.std.specs.Prelude.{ℕ, zero, suc, ◌-◌, ◌≤◌, ◌≡◌, refl, Bool, true, false, not, cond, ◌||◌, ◌&&◌, T, eqb, ltb, leb, get_or}
+use Rattle.std.specs.Prelude.{ℕ, zero, suc, ◌-◌, ◌≤◌, ◌≡◌, refl, Bool, true, false, not, cond, ◌||◌, ◌&&◌, T, eqb, ltb, leb, get_or, Ok, Err}
 use Rattle.std.proofs.Common.{arith, ap, subst, leb-false}
 use Rattle.std.proofs.Math.ListN.{get_or-eq_default}
 use Rattle.answers.specs.Refusals.{no_such}
-use Rattle.rates.specs.declared.Rated.TheVariants.{Row, Refused}
 use Rattle.rates.specs.Rates.{rates, is_rate, no_row, rate_row, rate_at, drop_frames, is_drop}
 use Rattle.rates.specs.Rule.{in_table, rows-twelve}
 
@@ -29,13 +28,13 @@ row_out (suc m) h = by (leb 1 (suc m)) (leb (suc m) 12) refl refl h
 
 -- ---- the answer for a number that is a rate, and for one that is none
 
-pub rate_at-in : (n : ℕ) → is_rate n ≡ true → rate_at n ≡ Row (rate_row n)
+pub rate_at-in : (n : ℕ) → is_rate n ≡ true → rate_at n ≡ Ok (rate_row n)
 unfolding rate_at
-rate_at-in n h = ap (λ (t : Bool). cond (not t) (Refused no_such) (Row (rate_row n))) h
+rate_at-in n h = ap (λ (t : Bool). cond (not t) (Err no_such) (Ok (rate_row n))) h
 
-pub rate_at-out : (n : ℕ) → is_rate n ≡ false → rate_at n ≡ Refused no_such
+pub rate_at-out : (n : ℕ) → is_rate n ≡ false → rate_at n ≡ Err no_such
 unfolding rate_at
-rate_at-out n h = ap (λ (t : Bool). cond (not t) (Refused no_such) (Row (rate_row n))) h
+rate_at-out n h = ap (λ (t : Bool). cond (not t) (Err no_such) (Ok (rate_row n))) h
 
 -- ---- the labels that a minute drops
 

@@ -1,11 +1,11 @@
 -- Rates, one constant table (BEHAVIOUR: Rates): its rows, the row of a rate number, and the labels that a minute drops.
 -- Assumes nothing.
-use Rattle.std.specs.Prelude.{ℕ, Bool, cond, not, ◌&&◌, ◌||◌, List, [], ◌∷◌, leb, eqb, get_or}
+use Rattle.answers.specs.declared.Refusal.{Refusal}
+use Rattle.std.specs.Prelude.{ℕ, Bool, cond, not, ◌&&◌, ◌||◌, List, [], ◌∷◌, leb, eqb, get_or, Result, Ok, Err}
+use Rattle.answers.specs.Causes.{refusal_number}
 use Rattle.answers.specs.Order.{Condition, when, unless}
 use Rattle.answers.specs.Refusals.{no_such}
 use Rattle.rates.specs.declared.Framerate.{Framerate}
-use Rattle.rates.specs.declared.Rated.{Rated}
-use Rattle.rates.specs.declared.Rated.TheVariants.{Row, Refused}
 
 -- a row of the table
 abbrev pub framerate : (numerator denominator timebase ticks : ℕ) → Framerate
@@ -52,8 +52,8 @@ second_ticks = 254016000000
 abbrev pub bad_rate : (rate : ℕ) → Condition
 bad_rate rate = when no_such (not (is_rate rate))
 
-unfoldable pub rate_at : ℕ → Rated
-rate_at n = unless Refused (bad_rate n ∷ []) (Row (rate_row n))
+unfoldable pub rate_at : ℕ → Result Framerate Refusal
+rate_at n = unless Err (bad_rate n ∷ []) (Ok (rate_row n))
 
 -- D is 2 at rate 5, 4 at rate 11, else 0
 unfoldable pub drop_frames : ℕ → ℕ
@@ -64,10 +64,10 @@ unfoldable pub is_drop : ℕ → Bool
 is_drop n = eqb n 5 || eqb n 11
 
 -- the number of an answer (0: not refused), and its row (a refusal's numbers are 0)
-abbrev pub number_of : Rated → ℕ
-number_of (Row r) = 0
-number_of (Refused e) = e.number
+abbrev pub number_of : Result Framerate Refusal → ℕ
+number_of (Ok r) = 0
+number_of (Err e) = refusal_number e
 
-abbrev pub row_of : Rated → Framerate
-row_of (Row r) = r
-row_of (Refused e) = no_row
+abbrev pub row_of : Result Framerate Refusal → Framerate
+row_of (Ok r) = r
+row_of (Err e) = no_row

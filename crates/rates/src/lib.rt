@@ -1,11 +1,11 @@
 // The twelve rates by number: one constant table. A number that is no rate is refused 6.
 #![tactic(auto)]
 
-ghost use Rattle.std.specs.Prelude.{◌≡◌, true};
+ghost use Rattle.std.specs.Prelude.{◌≡◌};
 ghost use Rattle.rates.specs.Rates.{is_rate, rate_row, rate_at, drop_frames, is_drop};
 ghost use Rattle.rates.specs.Day.{day_frames};
 
-use answers::Refusal;
+use answers::{Cause, Refusal};
 
 // A row of the table: frames a second as a fraction in lowest terms, frames a second of the labels, ticks a frame.
 #[derive(Clone, Copy)]
@@ -19,12 +19,13 @@ pub struct Framerate {
 // A second has so many ticks.
 pub const SECOND_TICKS: u64 = 254_016_000_000;
 
-// The row of a rate, or why there is none.
-#[derive(Clone, Copy)]
-pub enum Rated {
-    Row(Framerate),
-    Refused(Refusal),
-}
+// The row of a number that is no rate.
+const NO_ROW: Framerate = Framerate {
+    numerator: 0,
+    denominator: 0,
+    timebase: 0,
+    ticks: 0,
+};
 
 // Rates 1 to 12, in order. A whole rate has denominator 1.
 const RATES: [Framerate; 12] = [
@@ -103,92 +104,53 @@ const RATES: [Framerate; 12] = [
 ];
 
 // Whether there is a rate of this number: 1 to 12.
+#[tactic(auto, unfolding(crate::specs::Rates::is_rate))]
 pub fn is_rate(no: u64) -> bool
     ensures { result ≡ is_rate no }
 {
-    if no < 1 {
-        return false;
+    matches!(no, 1..=12)
+}
+
+// The row of a rate. Refuses 6: no such rate.
+pub fn framerate_at(no: u64) -> Result<Framerate, Refusal>
+    ensures { result ≡ rate_at no }
+{
+    if !is_rate(no) {
+        return Err(Cause::NoSuch.into());
     }
-    if no > 12 {
-        return false;
-    }
-    true
+    Ok(RATES[(no - 1) as usize])
 }
 
 // The row of a rate; of a number that is no rate, zeros.
 pub fn row(no: u64) -> Framerate
     ensures { result ≡ rate_row no }
 {
-    if is_rate(no) {
-        return entry(no);
-    }
-    Framerate {
-        numerator: 0,
-        denominator: 0,
-        timebase: 0,
-        ticks: 0,
-    }
-}
-
-// The entry of a rate. Asks that the number is one.
-fn entry(no: u64) -> Framerate
-    requires { is_rate no ≡ true }
-    ensures { result ≡ rate_row no }
-{
-    RATES[(no - 1) as usize]
-}
-
-// The row of a rate. Refuses 6: no such rate.
-pub fn framerate_at(no: u64) -> Rated
-    ensures { result ≡ rate_at no }
-{
-    if is_rate(no) {
-        Rated::Row(row(no))
-    } else {
-        Rated::Refused(answers::NO_SUCH)
-    }
+    framerate_at(no).unwrap_or(NO_ROW)
 }
 
 // How many labels a minute drops, but each tenth: 2 at rate 5, 4 at rate 11, else 0 (vtc's word).
+#[tactic(auto, unfolding(crate::specs::Rates::drop_frames))]
 pub fn drop_frames_per_minute(no: u64) -> u64
     ensures { result ≡ drop_frames no }
 {
-    if no == 5 {
-        return 2;
+    match no {
+        5 => 2,
+        11 => 4,
+        _ => 0,
     }
-    if no == 11 {
-        return 4;
-    }
-    0
 }
 
-// The frames of a rate's day: 24 hours of the timebase, less the dropped labels; of a number that is no rate, 0.
+// The frames of a rate's day: 24 hours of the timebase, less the labels that 1,296 of its 1,440 minutes drop; of a number that is no rate, 0.
 pub fn day(no: u64) -> u64
-    ensures { result ≡ day_frames no }
-{
-    if is_rate(no) {
-        return day_of(no);
-    }
-    0
-}
-
-// The frames of a day of 1,440 minutes, of which 1,296 drop labels. Asks a rate.
-fn day_of(no: u64) -> u64
-    requires { is_rate no ≡ true }
     ensures { result ≡ day_frames no }
 {
     86_400 * row(no).timebase - 1_296 * drop_frames_per_minute(no)
 }
 
 // Whether the rate drops labels: rates 5 and 11.
+#[tactic(auto, unfolding(crate::specs::Rates::is_drop, crate::specs::Rates::drop_frames))]
 pub fn is_drop(no: u64) -> bool
     ensures { result ≡ is_drop no }
 {
-    if no == 5 {
-        return true;
-    }
-    if no == 11 {
-        return true;
-    }
-    false
+    drop_frames_per_minute(no) > 0
 }

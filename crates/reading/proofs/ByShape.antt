@@ -1,8 +1,8 @@
 -- What a label that is kept gives, and that a text reads as its shape does, and as a length what it was (BEHAVIOUR: Text shapes, Positions).
 -- Assumes nothing.
-use Rattle.std.specs.Prelude.{ℕ, ◌≡◌, refl, Bool, true, false, List, [], ◌∷◌}
+use Rattle.answers.specs.declared.Refusal.{Refusal}
+use Rattle.std.specs.Prelude.{ℕ, ◌≡◌, refl, Bool, true, false, List, [], ◌∷◌, Option, Ok, Err, Result}
 use Rattle.std.proofs.Common.{sym, ap, ◌∙◌}
-use Rattle.answers.specs.declared.Counted.TheVariants as counted
 use Rattle.answers.specs.OrderLaws.{unless-map}
 use Rattle.answers.specs.Refusals.{is_count, bad_count, held}
 use Rattle.answers.specs.Laws.{held_in}
@@ -11,8 +11,7 @@ use Rattle.timecodes.specs.Timecode.{timecode}
 use Rattle.film.specs.declared.FilmFormat.{FilmFormat}
 use Rattle.labels.specs.Label.{dropped_in}
 use Rattle.labels.specs.AtRate.{label_frames}
-use Rattle.reading.specs.declared.Stated.{Stated}
-use Rattle.reading.specs.declared.Read.TheVariants.{Label, Refused, Footage}
+use Rattle.reading.specs.declared.Read.TheVariants.{Label, Footage}
 use Rattle.reading.specs.Answer.{as_label}
 use Rattle.reading.specs.Shaped.{is_stated, shape_of, format_for, Shaped, label, footage, refused}
 use Rattle.reading.specs.Reading.{label_read, footage_frames, footage_read, read_shaped, read_text, label_read_when, footage_read_when}
@@ -31,43 +30,43 @@ module _ (rate : ℕ) (minus : Bool) (fields : List ℕ) where
   unfolding label_read held
   label_kept e =
       let z = label_frames rate minus fields in
-      simp e (sym (unless-map (as_label rate) counted.Refused Refused (λ f. refl) (bad_count z ∷ []) (counted.Count z)))
+      simp e (sym (unless-map (as_label rate) Err Err (λ f. refl) (bad_count z ∷ []) (Ok z)))
 
   -- and where that is within its bounds, it is read as it
   pub label-within :
       dropped_in (drop_frames rate) fields ≡ false → is_count (label_frames rate minus fields) ≡ true
-      → label_read rate minus fields ≡ Label (timecode (label_frames rate minus fields) rate)
+      → label_read rate minus fields ≡ Ok (Label (timecode (label_frames rate minus fields) rate))
   label-within kept bounds = label_kept kept ∙ ap (as_label rate) (held_in (label_frames rate minus fields) bounds)
 
 -- ---- a text
-module _ (text : List ℕ) (stated : Stated) (rate : ℕ) where
+module _ (text : List ℕ) (stated : Option ℕ) (rate : ℕ) where
   pub read-shaped : is_rate rate ≡ true → is_stated stated ≡ true → read_text text stated rate ≡ read_shaped rate stated (shape_of stated text)
   unfolding read_text
   read-shaped r s = simp (r, s)
 
 -- ---- by shape a length's reading is as it was
-length_read : (rate : ℕ) (stated : Stated) (x : Shaped) → shaped_for Length rate stated x ≡ read_shaped rate stated x
+length_read : (rate : ℕ) (stated : Option ℕ) (x : Shaped) → shaped_for Length rate stated x ≡ read_shaped rate stated x
 unfolding shaped_for label_read footage_read
 length_read rate stated (label minus fields) =
-    unless-map (settled_read Length) Refused Refused (λ e. refl) (label_read_when rate minus fields) (Label (timecode (label_frames rate minus fields) rate))
+    unless-map (settled_read Length) Err Err (λ e. refl) (label_read_when rate minus fields) (Ok (Label (timecode (label_frames rate minus fields) rate)))
 length_read rate stated (footage minus feet frames perf marker) = settled-footage (format_for stated perf)
   where
     settled-footage : (format : FilmFormat) → settled_read Length (footage_read rate format minus feet frames perf marker) ≡ footage_read rate format minus feet frames perf marker
     settled-footage format =
-        unless-map (settled_read Length) Refused Refused (λ e. refl) (footage_read_when format minus feet frames perf marker)
-        (Footage (timecode (footage_frames format minus feet frames) rate) format)
+        unless-map (settled_read Length) Err Err (λ e. refl) (footage_read_when format minus feet frames perf marker)
+        (Ok (Footage (timecode (footage_frames format minus feet frames) rate) format))
 length_read rate stated (refused e) = refl
 
 -- ---- a text by kind
-module _ (kind : Kind) (text : List ℕ) (stated : Stated) (rate : ℕ) where
+module _ (kind : Kind) (text : List ℕ) (stated : Option ℕ) (rate : ℕ) where
   pub for-shaped : is_rate rate ≡ true → is_stated stated ≡ true → read_for kind text stated rate ≡ shaped_for kind rate stated (shape_of stated text)
   unfolding read_for shaped_for
   for-shaped r s =
       let x = shape_of stated text in
-      simp (r, s) (ap (λ (a : Read). unless Refused (strict_when kind rate x) (settled_read kind a)) (read-shaped text stated rate r s))
+      simp (r, s) (ap (λ (a : Result Read Refusal). unless Err (strict_when kind rate x) (settled_read kind a)) (read-shaped text stated rate r s))
 
 -- a text reads as its shape does
-pub read-by-shape : (kind : Kind) (text : List ℕ) (stated : Stated) (rate : ℕ)
+pub read-by-shape : (kind : Kind) (text : List ℕ) (stated : Option ℕ) (rate : ℕ)
     → read_for kind text stated rate ≡ read_by kind stated rate (shape_of stated text)
 read-by-shape kind text stated rate = by (is_rate rate) (is_stated stated) refl refl
   where
@@ -77,7 +76,7 @@ read-by-shape kind text stated rate = by (is_rate rate) (is_stated stated) refl 
     by true true r f = for-shaped kind text stated rate r f ∙ sym (by-shaped kind stated rate (shape_of stated text) r f)
 
 -- a length's reading is as it was
-pub read_length : (text : List ℕ) (stated : Stated) (rate : ℕ) → read_for Length text stated rate ≡ read_text text stated rate
+pub read_length : (text : List ℕ) (stated : Option ℕ) (rate : ℕ) → read_for Length text stated rate ≡ read_text text stated rate
 read_length text stated rate = by (is_rate rate) (is_stated stated) refl refl
   where
     by : (s t : Bool) → is_rate rate ≡ s → is_stated stated ≡ t → read_for Length text stated rate ≡ read_text text stated rate

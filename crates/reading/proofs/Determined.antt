@@ -4,8 +4,6 @@ use mathlib.Core.Path.{sym, ap, ◌∙◌}
 use Rattle.outcomes.specs.Outcome.{Determined}
 use Rattle.reading.specs.contracts.read_text as read-text
 use Rattle.reading.proofs.read_text.Reads as read-text-reads
-use Rattle.reading.specs.contracts.number as number
-use Rattle.reading.proofs.number.Reads as number-reads
 use Rattle.reading.specs.contracts.taking.take_text as take-text
 use Rattle.reading.proofs.taking.take_text.Reads as take-text-reads
 use Rattle.reading.specs.contracts.taking.take_label as take-label
@@ -39,6 +37,3 @@ format-for-determined κs a asked x y p q = ap (λ z. (z, x.1)) (p ∙ sym q)
 
 pub position-fault-determined : Determined position-fault.ended position-fault-reads.Asked position-fault-reads.Learnt
 position-fault-determined κs a asked x y p q = ap (λ z. (z, x.1)) (p ∙ sym q)
-
-pub number-determined : Determined number.ended number-reads.Asked number-reads.Learnt
-number-determined κs a asked x y p q = ap (λ z. (z, x.1)) (p ∙ sym q)

@@ -1,5 +1,6 @@
 -- What a text's shape and its fault give: the answer of each case.
 -- Assumes nothing.
+use Rattle.std.specs.Prelude.{Option, None, Err}
 use Prim.Native.Nat.{ℕ}
 use mathlib.Core.Path.{◌≡◌, refl, ap, ◌∙◌}
 use mathlib.Core.List.{List}
@@ -11,9 +12,6 @@ use Rattle.film.specs.declared.FilmFormat.{FilmFormat}
 use Rattle.film.specs.Statements.{OffFilm}
 use Rattle.film.proofs.Statements.{on_film_exactly, off_film_exactly}
 use Rattle.footage_scan.specs.Shape.{FootageParts, has_perf}
-use Rattle.reading.specs.declared.Stated.{Stated}
-use Rattle.reading.specs.declared.Stated.TheVariants.{Nothing}
-use Rattle.reading.specs.declared.Read.TheVariants.{Refused}
 use Rattle.reading.specs.Answer.{as_label, as_footage}
 use Rattle.reading.specs.Shaped.{format_for, Shaped, shape_of}
 use Rattle.reading.specs.Reading.{label_read, takes_perf, footage_read, read_shaped, read_text}
@@ -23,21 +21,21 @@ use Rattle.reading.specs.Statements.{RateAndFormat, HasShape, FootageText, PerfR
 use Rattle.reading.proofs.Shapes.{shape-label, shape-footage, shape-long, long-place}
 use Rattle.reading.proofs.FourKinds.{shape-none}
 
-module _ (l : List ℕ) (stated : Stated) (rate : ℕ) (a : RateAndFormat stated rate) where
+module _ (l : List ℕ) (stated : Option ℕ) (rate : ℕ) (a : RateAndFormat stated rate) where
   by_shape : (x : Shaped) → shape_of stated l ≡ x → read_text l stated rate ≡ read_shaped rate stated x
   by_shape x e = read-shaped l stated rate a.rated a.filmed ∙ ap (read_shaped rate stated) e
 
-  pub gives_none : ((t : Bool) → ¬ HasShape stated l t) → (place : ℕ) × (read_text l stated rate ≡ Refused (at_place no_shape place))
+  pub gives_none : ((t : Bool) → ¬ HasShape stated l t) → (place : ℕ) × (read_text l stated rate ≡ Err (at_place no_shape place))
   gives_none h = let s = shape-none stated l h in (s.0, by_shape _ s.1)
 
-  pub gives-long : HasShape stated l true → (place : ℕ) × (read_text l stated rate ≡ Refused (at_place too_long place))
+  pub gives-long : HasShape stated l true → (place : ℕ) × (read_text l stated rate ≡ Err (at_place too_long place))
   gives-long h = let s = long-place stated l h in (s.0, by_shape _ (shape-long stated l s.0 s.1))
 
   -- ---- a label
-  pub gives-label : stated ≡ Nothing → (m : Bool) (fields : List ℕ) → LabelText l m fields → read_text l stated rate ≡ label_read rate m fields
-  gives-label u m fields t = by_shape _ (ap (λ (s : Stated). shape_of s l) u ∙ shape-label l m fields t)
+  pub gives-label : stated ≡ None → (m : Bool) (fields : List ℕ) → LabelText l m fields → read_text l stated rate ≡ label_read rate m fields
+  gives-label u m fields t = by_shape _ (ap (λ (s : Option ℕ). shape_of s l) u ∙ shape-label l m fields t)
 
-  pub gives-dropped : stated ≡ Nothing → DroppedText l rate → read_text l stated rate ≡ Refused dropped_label
+  pub gives-dropped : stated ≡ None → DroppedText l rate → read_text l stated rate ≡ Err dropped_label
   gives-dropped u d = gives-label u d.minus d.fields d.text ∙ label-dropped rate d.minus d.fields d.dropped
 
   pub gives-label-count : (z : ℤ) → LabelCount l stated rate z → read_text l stated rate ≡ as_label rate (held z)
@@ -58,24 +56,24 @@ module _ (l : List ℕ) (stated : Stated) (rate : ℕ) (a : RateAndFormat stated
         ∙ ap (λ (f : FilmFormat). footage_read rate f p.minus (value_of p.feet) (value_of p.frames) perf (value_of p.perf)) chosen
 
     -- a perf field that the format has not
-    gives-marked : takes_perf (format_for stated perf) perf ≡ false → read_text l stated rate ≡ Refused no_perf_field
+    gives-marked : takes_perf (format_for stated perf) perf ≡ false → read_text l stated rate ≡ Err no_perf_field
     gives-marked e =
         gives-footage (format_for stated perf) refl
         ∙ footage-marked rate (format_for stated perf) p.minus (value_of p.feet) (value_of p.frames) perf (value_of p.perf) e
 
     -- one that cannot be on the film
     gives-off : (format : FilmFormat) → InFormat stated p format
-        → OffFilm format (value_of p.feet) (value_of p.frames) perf (value_of p.perf) → read_text l stated rate ≡ Refused not_on_film
+        → OffFilm format (value_of p.feet) (value_of p.frames) perf (value_of p.perf) → read_text l stated rate ≡ Err not_on_film
     gives-off format i off =
         gives-footage format i.chosen
         ∙ footage-off rate format p.minus (value_of p.feet) (value_of p.frames) perf (value_of p.perf) i.takes
         ((off_film_exactly format (value_of p.feet) (value_of p.frames) perf (value_of p.perf)).1 off)
 
-  pub gives-no-perf : PerfRefused l stated → read_text l stated rate ≡ Refused no_perf_field
+  pub gives-no-perf : PerfRefused l stated → read_text l stated rate ≡ Err no_perf_field
   gives-no-perf x =
       gives-marked x.parts x.text (ap (λ (b : Bool). takes_perf (format_for stated b) b) x.present ∙ x.none)
 
-  pub gives-not-on-film : FilmRefused l stated → read_text l stated rate ≡ Refused not_on_film
+  pub gives-not-on-film : FilmRefused l stated → read_text l stated rate ≡ Err not_on_film
   gives-not-on-film x = gives-off x.parts x.text x.format x.in-format x.off
 
   pub gives-footage-count : (format : FilmFormat) (z : ℤ) → FootageCount l stated format z → read_text l stated rate ≡ as_footage rate format (held z)

@@ -1,7 +1,6 @@
 pub mod ByShape
 pub mod TakenLaws
 pub mod Filmed
-pub mod Scans
 pub mod Shapes
 pub mod FourKinds
 pub mod Told

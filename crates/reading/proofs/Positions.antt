@@ -1,5 +1,7 @@
 -- What a text reads as for a position, proved: by its shape 14 or what a length's reading gives, and back.
 -- Assumes nothing.
+use Rattle.answers.specs.declared.Refusal.{Refusal}
+use Rattle.std.specs.Prelude.{Option, None, Ok, Err, Result}
 use Prim.Native.Nat.{ℕ}
 use native.Mathlib.Omega.{arith}
 use mathlib.Core.Path.{◌≡◌, refl, sym, ap, ◌∙◌}
@@ -7,17 +9,15 @@ use mathlib.Core.Logic.{◌⊎◌, inl, inr, ⊎_elim}
 use mathlib.Core.List.{List, map}
 use lib.ListN.{length}
 use Rattle.digits.specs.Digits.{value_of}
-use mathlib.Core.Bool.{Bool, true, false, not, ◌&&◌, and-eq-true_iff, false≢true}
+use mathlib.Core.Bool.{Bool, true, false, not, and-eq-true_iff, false≢true}
 use Rattle.answers.specs.Refusals.{not_strict}
 use Rattle.rates.specs.Rates.{is_rate, rate_row}
 use Rattle.timecodes.specs.declared.kinds.Kind.{Kind}
 use Rattle.timecodes.specs.declared.kinds.Kind.TheVariants.{Position}
 use Rattle.labels.specs.Label.{is_strict}
 use Rattle.labels.specs.StrictLaws.{is_strict-told, is_strict-in}
-use Rattle.reading.specs.declared.Stated.{Stated}
-use Rattle.reading.specs.declared.Stated.TheVariants.{Nothing}
 use Rattle.reading.specs.declared.Read.{Read}
-use Rattle.reading.specs.declared.Read.TheVariants.{Label, Footage, Refused}
+use Rattle.reading.specs.declared.Read.TheVariants.{Label, Footage}
 use Rattle.reading.specs.Answer.{number_of, place_of}
 use Rattle.reading.specs.Shaped.{is_stated, Shaped, label, shape_of}
 use Rattle.reading.specs.Reading.{read_shaped, read_text}
@@ -63,19 +63,19 @@ strict-out rate minus fields never four = by (is_label_of Position rate minus fi
 
 -- ---- 14, or what a length's reading gives
 -- settling changes no refusal
-pub settled-number : (kind : Kind) (r : Read) → number_of (settled_read kind r) ≡ number_of r
-settled-number kind (Label tc) = refl
-settled-number kind (Footage tc format) = refl
-settled-number kind (Refused e) = refl
+pub settled-number : (kind : Kind) (r : Result Read Refusal) → number_of (settled_read kind r) ≡ number_of r
+settled-number kind (Ok (Label tc)) = refl
+settled-number kind (Ok (Footage tc format)) = refl
+settled-number kind (Err e) = refl
 
-module _ (l : List ℕ) (stated : Stated) (rate : ℕ) where
+module _ (l : List ℕ) (stated : Option ℕ) (rate : ℕ) where
   -- refused, and why
-  pub record Fourteen (r : Read) : Type 0 where
-    pub is : r ≡ Refused not_strict
-    pub unstated : stated ≡ Nothing
+  pub record Fourteen (r : Result Read Refusal) : Type 0 where
+    pub is : r ≡ Err not_strict
+    pub unstated : stated ≡ None
     pub text : NotStrictText l rate
 
-  label-outcome : (m : Bool) (fields : List ℕ) → stated ≡ Nothing → LabelText l m fields → (t : Bool) → is_label_of Position rate m fields ≡ t
+  label-outcome : (m : Bool) (fields : List ℕ) → stated ≡ None → LabelText l m fields → (t : Bool) → is_label_of Position rate m fields ≡ t
       → Fourteen (shaped_for Position rate stated (label m fields))
       ⊎ (shaped_for Position rate stated (label m fields) ≡ settled_read Position (read_shaped rate stated (label m fields)))
   label-outcome m fields u t true e = inr (label_of Position rate stated m fields e)
@@ -129,8 +129,8 @@ module _ (l : List ℕ) (stated : Stated) (rate : ℕ) where
   not-fourteen n = ⊎_elim (λ f. absurd (n (ap number_of f.1.is))) (λ same. same) outcome
 
 -- a label of the text, with no film format stated
-pub label-shape : (l : List ℕ) (stated : Stated) (m : Bool) (fields : List ℕ) → stated ≡ Nothing → LabelText l m fields → shape_of stated l ≡ label m fields
-label-shape l stated m fields u t = ap (λ (s : Stated). shape_of s l) u ∙ shape-label l m fields t
+pub label-shape : (l : List ℕ) (stated : Option ℕ) (m : Bool) (fields : List ℕ) → stated ≡ None → LabelText l m fields → shape_of stated l ≡ label m fields
+label-shape l stated m fields u t = ap (λ (s : Option ℕ). shape_of s l) u ∙ shape-label l m fields t
 
 pub refused_fourteen : RefusedFourteen
 refused_fourteen l stated rate = (

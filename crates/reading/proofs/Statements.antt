@@ -1,5 +1,7 @@
 -- Each answer tells the text's shape and its fault, and each shape and fault gives its answer.
 -- Assumes nothing.
+use Rattle.answers.specs.declared.Refusal.{Refusal}
+use Rattle.std.specs.Prelude.{Option, Some, Ok, Err, Result}
 use Prim.Native.Nat.{ℕ, zero, suc, ◌≤◌}
 use native.Mathlib.Omega.{arith}
 use mathlib.Core.Path.{◌≡◌, refl, sym, ap, ◌∙◌, subst}
@@ -19,16 +21,13 @@ use Rattle.timecodes.specs.Admitted.{Valid}
 use Rattle.digits.specs.Digits.{value_of}
 use Rattle.film.specs.declared.FilmFormat.{FilmFormat}
 use Rattle.film.specs.declared.FilmFormat.TheVariants.{FF35mm4perf, FF35mm3perf, FF35mm2perf, FF16mm}
-use Rattle.film.specs.declared.Filmed.TheVariants.{Format}
 use Rattle.film.specs.Film.{is_format, format_at}
 use Rattle.film.specs.FormatLaws.{at-number}
 use Rattle.film.specs.Statements.{Occurs, OffFilm}
 use Rattle.footage_scan.specs.Shape.{FootageParts, has_perf}
 use Rattle.footage_scan.proofs.Statements.{one_footage_shape}
-use Rattle.reading.specs.declared.Stated.{Stated}
-use Rattle.reading.specs.declared.Stated.TheVariants as stated
 use Rattle.reading.specs.declared.Read.{Read}
-use Rattle.reading.specs.declared.Read.TheVariants.{Label, Footage, Refused}
+use Rattle.reading.specs.declared.Read.TheVariants.{Label, Footage}
 use Rattle.reading.specs.Answer.{number_of, place_of, timecode_of, as_label, as_footage}
 use Rattle.reading.specs.Shaped.{is_stated, format_from, format_for, Shaped, label, footage, refused}
 use Rattle.reading.specs.Reading.{takes_perf, read_text}
@@ -43,7 +42,7 @@ pub shapes_apart : ShapesApart
 shapes_apart = shapes.shapes_apart
 
 -- ---- the refusals
-six-by : (l : List ℕ) (stated : Stated) (rate : ℕ) (t : Bool) → is_rate rate ≡ t → is_stated stated ≡ false → number_of (read_text l stated rate) ≡ 6
+six-by : (l : List ℕ) (stated : Option ℕ) (rate : ℕ) (t : Bool) → is_rate rate ≡ t → is_stated stated ≡ false → number_of (read_text l stated rate) ≡ 6
 six-by l stated rate true r s = ap number_of (no-format l stated rate r s)
 six-by l stated rate false r s = ap number_of (no_rate l stated rate r)
 
@@ -87,7 +86,7 @@ pub place_else : PlaceElse
 place_else = tells.place_else
 
 -- a number states its format
-stated-as : (n : ℕ) (format : FilmFormat) (perf : Bool) → format_at n ≡ Format format → format_for (stated.Format n) perf ≡ format
+stated-as : (n : ℕ) (format : FilmFormat) (perf : Bool) → format_at n ≡ Ok format → format_for (Some n) perf ≡ format
 stated-as n format perf e = ap format_from e
 
 pub format_chosen : FormatChosen
@@ -116,15 +115,15 @@ unmarked-off format feet frames marked marker off absent = ⊎_elim (λ never. n
 pub marker_absent : MarkerAbsent
 unfolding is_format
 marker_absent l rate p r t absent =
-    let a : RateAndFormat (stated.Format 2) rate = record { rated = r; filmed = refl } in
+    let a : RateAndFormat (Some 2) rate = record { rated = r; filmed = refl } in
     let three = (format_chosen.0 false).1 in (
-      λ e. let x = (refused_thirteen l (stated.Format 2) rate a).0 e in
+      λ e. let x = (refused_thirteen l (Some 2) rate a).0 e in
           let same = one_footage_shape l x.parts p x.text.shape t.shape in
           let is : x.format ≡ FF35mm3perf = sym x.in-format.chosen ∙ three in
           subst (λ (f : FilmFormat). ¬ Occurs f (value_of p.feet) (value_of p.frames)) is
           (subst (λ (q : FootageParts). ¬ Occurs x.format (value_of q.feet) (value_of q.frames)) same
           (unmarked-off x.format _ _ _ _ x.off (ap (λ (q : FootageParts). has_perf q.perf) same ∙ absent))),
-      λ never. (refused_thirteen l (stated.Format 2) rate a).1 (record {
+      λ never. (refused_thirteen l (Some 2) rate a).1 (record {
         parts = p;
         text = t;
         format = FF35mm3perf;
@@ -149,7 +148,7 @@ footage_counted l stated rate format z a = (
   λ x. gives-footage-count l stated rate a format z x.0 ∙ ap (as_footage rate format) (held_in z x.1),
 )
 
-gives-out : (l : List ℕ) (stated : Stated) (rate : ℕ) → RateAndFormat stated rate → CountOut l stated rate → number_of (read_text l stated rate) ≡ 5
+gives-out : (l : List ℕ) (stated : Option ℕ) (rate : ℕ) → RateAndFormat stated rate → CountOut l stated rate → number_of (read_text l stated rate) ≡ 5
 gives-out l stated rate a x =
     ⊎_elim
     (λ c. ap number_of (gives-label-count l stated rate a x.z c ∙ ap (as_label rate) (held_out x.z x.out)))
@@ -159,10 +158,10 @@ gives-out l stated rate a x =
 pub refused-five : RefusedFive
 refused-five l stated rate a = (λ e. (cause l stated rate 5 (omega arith) e).0, gives-out l stated rate a)
 
-bounded-by : (l : List ℕ) (stated : Stated) (rate : ℕ) (r : Read) → Told l stated rate r → is_count (timecode_of r).count ≡ true
-bounded-by l stated rate (Label tc) t = t.1.1
-bounded-by l stated rate (Footage tc format) t = t.1.1
-bounded-by l stated rate (Refused e) t = refl
+bounded-by : (l : List ℕ) (stated : Option ℕ) (rate : ℕ) (r : Result Read Refusal) → Told l stated rate r → is_count (timecode_of r).count ≡ true
+bounded-by l stated rate (Ok (Label tc)) t = t.1.1
+bounded-by l stated rate (Ok (Footage tc format)) t = t.1.1
+bounded-by l stated rate (Err e) t = refl
 
 pub count-bounded : CountBounded
 count-bounded l stated rate = bounded-by l stated rate (read_text l stated rate) (told l stated rate)
@@ -173,7 +172,7 @@ at-rate l stated rate tc = (
   λ format e. ap (λ (x : Timecode). x.rate) (subst (Told l stated rate) e (told l stated rate)).0,
 )
 
-module _ (l : List ℕ) (stated : Stated) (rate : ℕ) where
+module _ (l : List ℕ) (stated : Option ℕ) (rate : ℕ) where
   rated-by : (t : Bool) → is_rate rate ≡ t → number_of (read_text l stated rate) ≡ 0 → is_rate rate ≡ true
   rated-by true r e = r
   rated-by false r e = let f = ap number_of (no_rate l stated rate r) in absurd (omega arith)

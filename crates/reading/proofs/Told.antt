@@ -1,5 +1,7 @@
 -- What an answer tells of the text: each refusal's number its cause, and each count its label or its footage.
 -- Assumes nothing.
+use Rattle.answers.specs.declared.Refusal.{Refusal}
+use Rattle.std.specs.Prelude.{Option, None, Ok, Err, Result}
 use Prim.Native.Nat.{ℕ, zero, suc, ◌<◌}
 use native.Mathlib.Omega.{arith}
 use mathlib.Core.Path.{◌≡◌, refl, sym, ap, ◌∙◌, subst}
@@ -10,6 +12,7 @@ use lib.Dec.{eqb}
 use lib.IntN.{ℤ}
 use Rattle.beginnings.specs.Beginning.{LongestBeginning}
 use Rattle.digits.specs.Digits.{value_of}
+use Rattle.answers.specs.Causes.{refusal_number}
 use Rattle.answers.specs.Refusals.{is_count, held}
 use Rattle.answers.specs.Laws.{held_in, held_out}
 use Rattle.rates.specs.Rates.{is_rate, drop_frames}
@@ -21,10 +24,8 @@ use Rattle.film.proofs.Statements.{on_film_exactly, off_film_exactly}
 use Rattle.labels.specs.Label.{dropped_in}
 use Rattle.labels.specs.AtRate.{label_frames}
 use Rattle.footage_scan.specs.Shape.{FootageParts, has_perf}
-use Rattle.reading.specs.declared.Stated.{Stated}
-use Rattle.reading.specs.declared.Stated.TheVariants.{Nothing}
 use Rattle.reading.specs.declared.Read.{Read}
-use Rattle.reading.specs.declared.Read.TheVariants.{Label, Footage, Refused}
+use Rattle.reading.specs.declared.Read.TheVariants.{Label, Footage}
 use Rattle.reading.specs.Answer.{number_of, place_of, as_label, as_footage}
 use Rattle.reading.specs.Shaped.{is_stated, format_for, Shaped, shape_of}
 use Rattle.reading.specs.Reading.{label_read, takes_perf, footage_frames, footage_read, read_shaped, read_text}
@@ -33,7 +34,7 @@ use Rattle.reading.proofs.ByShape.{label_kept, read-shaped}
 use Rattle.reading.specs.Statements.{HasShape, AllowedShape, LongShape, FootageText, PerfRefused, FilmRefused, LabelText, DroppedText, LabelCount, FootageCount, CountOut}
 use Rattle.reading.proofs.FourKinds.{Kind, none, long, labelled, filmed, kind}
 
-module _ (l : List ℕ) (stated : Stated) (rate : ℕ) where
+module _ (l : List ℕ) (stated : Option ℕ) (rate : ℕ) where
   -- what a number behind 5 tells: 6 or 13, and no other is given
   abbrev pub Behind : (six thirteen : Bool) (place : ℕ) → Type 0
   Behind true thirteen place = ((is_rate rate ≡ false) ⊎ (is_stated stated ≡ false)) × (place ≡ 0)
@@ -45,22 +46,22 @@ module _ (l : List ℕ) (stated : Stated) (rate : ℕ) where
   Cause zero place = ⊥
   Cause (suc zero) place = ((t : Bool) → ¬ HasShape stated l t) × LongestBeginning (AllowedShape stated) l place
   Cause (suc (suc zero)) place = LongShape stated l place
-  Cause (suc (suc (suc zero))) place = ((stated ≡ Nothing) × DroppedText l rate) × (place ≡ 0)
+  Cause (suc (suc (suc zero))) place = ((stated ≡ None) × DroppedText l rate) × (place ≡ 0)
   Cause (suc (suc (suc (suc zero)))) place = PerfRefused l stated × (place ≡ 0)
   Cause (suc (suc (suc (suc (suc zero))))) place = CountOut l stated rate × (place ≡ 0)
   Cause (suc (suc (suc (suc (suc (suc past)))))) place = Behind (eqb past 0) (eqb past 7) place
 
-  abbrev pub Told : Read → Type 0
-  Told (Label tc) = (tc ≡ timecode tc.count rate) × (LabelCount l stated rate tc.count × (is_count tc.count ≡ true))
-  Told (Footage tc format) = (tc ≡ timecode tc.count rate) × (FootageCount l stated format tc.count × (is_count tc.count ≡ true))
-  Told (Refused e) = Cause e.number e.place
+  abbrev pub Told : Result Read Refusal → Type 0
+  Told (Ok (Label tc)) = (tc ≡ timecode tc.count rate) × (LabelCount l stated rate tc.count × (is_count tc.count ≡ true))
+  Told (Ok (Footage tc format)) = (tc ≡ timecode tc.count rate) × (FootageCount l stated format tc.count × (is_count tc.count ≡ true))
+  Told (Err e) = Cause (refusal_number e) e.place
 
   -- ---- a label
   label-by-count : (z : ℤ) → LabelCount l stated rate z → (t : Bool) → is_count z ≡ t → Told (as_label rate (held z))
   label-by-count z x true e = subst (λ a. Told (as_label rate a)) (sym (held_in z e)) (refl, (x, e))
   label-by-count z x false e = subst (λ a. Told (as_label rate a)) (sym (held_out z e)) (record { z = z; count = inl x; out = e }, refl)
 
-  label_told : stated ≡ Nothing → (m : Bool) (fields : List ℕ) → LabelText l m fields
+  label_told : stated ≡ None → (m : Bool) (fields : List ℕ) → LabelText l m fields
       → (t : Bool) → dropped_in (drop_frames rate) fields ≡ t → Told (label_read rate m fields)
   label_told u m fields x true e =
       subst Told (sym (label-dropped rate m fields e)) ((u, record { minus = m; fields = fields; text = x; dropped = e }), refl)
@@ -87,7 +88,7 @@ module _ (l : List ℕ) (stated : Stated) (rate : ℕ) where
     abbrev format : FilmFormat
     format = format_for stated perf
 
-    abbrev read : Read
+    abbrev read : Result Read Refusal
     read = footage_read rate format p.minus (value_of p.feet) (value_of p.frames) perf (value_of p.perf)
 
     -- in a format that takes it, by whether it can be on the film
@@ -136,10 +137,10 @@ module _ (l : List ℕ) (stated : Stated) (rate : ℕ) where
   pub told : Told (read_text l stated rate)
   told = by-rate (is_rate rate) refl
 
-  number_by : (r : Read) (n : ℕ) → Told r → 0 < n → number_of r ≡ n → Cause n (place_of r)
-  number_by (Label tc) n t h e = absurd (omega arith)
-  number_by (Footage tc format) n t h e = absurd (omega arith)
-  number_by (Refused f) n t h e = subst (λ (k : ℕ). Cause k f.place) e t
+  number_by : (r : Result Read Refusal) (n : ℕ) → Told r → 0 < n → number_of r ≡ n → Cause n (place_of r)
+  number_by (Ok (Label tc)) n t h e = absurd (omega arith)
+  number_by (Ok (Footage tc format)) n t h e = absurd (omega arith)
+  number_by (Err f) n t h e = subst (λ (k : ℕ). Cause k f.place) e t
 
   -- a refusal's number tells its cause, and what its place is
   pub cause : (n : ℕ) → 0 < n → number_of (read_text l stated rate) ≡ n → Cause n (place_of (read_text l stated rate))
@@ -160,10 +161,10 @@ module _ (l : List ℕ) (stated : Stated) (rate : ℕ) where
   cause-else (suc (suc (suc (suc (suc zero))))) place c one two = c.1
   cause-else (suc (suc (suc (suc (suc (suc past)))))) place c one two = behind-else (eqb past 0) (eqb past 7) place c
 
-  else-by : (r : Read) → Told r → ¬ (number_of r ≡ 1) → ¬ (number_of r ≡ 2) → place_of r ≡ 0
-  else-by (Label tc) t one two = refl
-  else-by (Footage tc format) t one two = refl
-  else-by (Refused f) t one two = cause-else f.number f.place t one two
+  else-by : (r : Result Read Refusal) → Told r → ¬ (number_of r ≡ 1) → ¬ (number_of r ≡ 2) → place_of r ≡ 0
+  else-by (Ok (Label tc)) t one two = refl
+  else-by (Ok (Footage tc format)) t one two = refl
+  else-by (Err f) t one two = cause-else (refusal_number f) f.place t one two
 
   pub place_else : ¬ (number_of (read_text l stated rate) ≡ 1) → ¬ (number_of (read_text l stated rate) ≡ 2) → place_of (read_text l stated rate) ≡ 0
   place_else = else-by (read_text l stated rate) told

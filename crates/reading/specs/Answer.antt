@@ -1,42 +1,40 @@
 -- What a text is answered (BEHAVIOUR: Text shapes): the number, timecode and film format of each case.
 -- Assumes nothing.
-use Rattle.std.specs.Prelude.{ℕ, pos}
-use Rattle.answers.specs.declared.Counted.{Counted}
-use Rattle.answers.specs.declared.Counted.TheVariants as counted
+use Rattle.answers.specs.declared.Refusal.{Refusal}
+use Rattle.std.specs.Prelude.{ℕ, pos, Result, Ok, Err, ℤ}
 use Rattle.timecodes.specs.declared.Timecode.{Timecode}
 use Rattle.timecodes.specs.Timecode.{timecode}
 use Rattle.film.specs.declared.FilmFormat.{FilmFormat}
 use Rattle.film.specs.Film.{format_number}
+use Rattle.answers.specs.Refusals as answers
 use Rattle.reading.specs.declared.Read.{Read}
-use Rattle.reading.specs.declared.Read.TheVariants.{Label, Footage, Refused}
+use Rattle.reading.specs.declared.Read.TheVariants.{Label, Footage}
 
 -- the number of an answer (0: not refused) and its place in the text, its timecode (a refusal's numbers are 0), and the number of its
 -- film format (0: none)
-abbrev pub number_of : Read → ℕ
-number_of (Label tc) = 0
-number_of (Footage tc format) = 0
-number_of (Refused e) = e.number
+abbrev pub number_of : Result Read Refusal → ℕ
+number_of read = answers.number_of read
 
-abbrev pub place_of : Read → ℕ
-place_of (Label tc) = 0
-place_of (Footage tc format) = 0
-place_of (Refused e) = e.place
+abbrev pub place_of : Result Read Refusal → ℕ
+place_of (Ok (Label tc)) = 0
+place_of (Ok (Footage tc format)) = 0
+place_of (Err e) = e.place
 
-abbrev pub timecode_of : Read → Timecode
-timecode_of (Label tc) = tc
-timecode_of (Footage tc format) = tc
-timecode_of (Refused e) = timecode (pos 0) 0
+abbrev pub timecode_of : Result Read Refusal → Timecode
+timecode_of (Ok (Label tc)) = tc
+timecode_of (Ok (Footage tc format)) = tc
+timecode_of (Err e) = timecode (pos 0) 0
 
-abbrev pub format_of : Read → ℕ
-format_of (Label tc) = 0
-format_of (Footage tc format) = format_number format
-format_of (Refused e) = 0
+abbrev pub format_of : Result Read Refusal → ℕ
+format_of (Ok (Label tc)) = 0
+format_of (Ok (Footage tc format)) = format_number format
+format_of (Err e) = 0
 
 -- a count at a rate as a label's answer, and as that of a footage, which carries the count together with the film format chosen
-abbrev pub as_label : (rate : ℕ) → Counted → Read
-as_label rate (counted.Count z) = Label (timecode z rate)
-as_label rate (counted.Refused e) = Refused e
+abbrev pub as_label : (rate : ℕ) → Result ℤ Refusal → Result Read Refusal
+as_label rate (Ok z) = Ok (Label (timecode z rate))
+as_label rate (Err e) = Err e
 
-abbrev pub as_footage : (rate : ℕ) → FilmFormat → Counted → Read
-as_footage rate format (counted.Count z) = Footage (timecode z rate) format
-as_footage rate format (counted.Refused e) = Refused e
+abbrev pub as_footage : (rate : ℕ) → FilmFormat → Result ℤ Refusal → Result Read Refusal
+as_footage rate format (Ok z) = Ok (Footage (timecode z rate) format)
+as_footage rate format (Err e) = Err e

@@ -1,6 +1,6 @@
 -- Laws of reading a length or a position that callers cite (BEHAVIOUR: Positions): each test. That a text reads as its shape does, and as a length what it was: proofs/ByShape.antt.
 -- Assumes nothing.
-use Rattle.std.specs.Prelude.{ℕ, ◌≡◌, Bool, true, false, not, ◌&&◌, List, T}
+use Rattle.std.specs.Prelude.{ℕ, ◌≡◌, Bool, true, false, not, ◌&&◌, List, T, Option, Err}
 use Rattle.std.proofs.Math.Path.{refl}
 use Rattle.std.proofs.Common.{sym, ap₂, ◌∙◌, subst}
 use Rattle.answers.specs.declared.Refusal.{Refusal}
@@ -14,8 +14,6 @@ use Rattle.faults.specs.FaultLaws.{sign-none, leftmost-none}
 use Rattle.labels.specs.Label.{is_strict}
 use Rattle.labels.specs.Faults.{strict_fault}
 use Rattle.labels.specs.FaultLaws.{strict_fault-none}
-use Rattle.reading.specs.declared.Stated.{Stated}
-use Rattle.reading.specs.declared.Read.TheVariants.{Refused}
 use Rattle.reading.specs.Shaped.{is_stated, format_for, Shaped, label, footage, refused}
 use Rattle.reading.specs.Reading.{label_read, footage_read}
 use Rattle.reading.specs.For.{settled_read, position_fault, is_label_of, shaped_for, read_by, read_for}
@@ -39,9 +37,9 @@ position-none rate minus fields =
     ∙ ap₂ ◌&&◌ (sign-none minus) (strict_fault-none (rate_row rate).timebase fields)
 
 -- ---- by shape
-module _ (kind : Kind) (rate : ℕ) (stated : Stated) where
+module _ (kind : Kind) (rate : ℕ) (stated : Option ℕ) where
   pub label-not-of : (minus : Bool) (fields : List ℕ) → is_label_of kind rate minus fields ≡ false
-      → shaped_for kind rate stated (label minus fields) ≡ Refused not_strict
+      → shaped_for kind rate stated (label minus fields) ≡ Err not_strict
   unfolding shaped_for
   label-not-of minus fields e = rw e
 
@@ -57,27 +55,27 @@ module _ (kind : Kind) (rate : ℕ) (stated : Stated) where
   unfolding shaped_for
   footage-for minus feet frames perf marker = refl
 
-  pub refused-for : (e : Refusal) → shaped_for kind rate stated (refused e) ≡ Refused e
+  pub refused-for : (e : Refusal) → shaped_for kind rate stated (refused e) ≡ Err e
   unfolding shaped_for
   refused-for e = refl
 
 -- ---- a text
-module _ (kind : Kind) (text : List ℕ) (stated : Stated) (rate : ℕ) where
-  pub for-no-rate : is_rate rate ≡ false → read_for kind text stated rate ≡ Refused no_such
+module _ (kind : Kind) (text : List ℕ) (stated : Option ℕ) (rate : ℕ) where
+  pub for-no-rate : is_rate rate ≡ false → read_for kind text stated rate ≡ Err no_such
   unfolding read_for
   for-no-rate e = simp e
 
-  pub for-no-format : is_rate rate ≡ true → is_stated stated ≡ false → read_for kind text stated rate ≡ Refused no_such
+  pub for-no-format : is_rate rate ≡ true → is_stated stated ≡ false → read_for kind text stated rate ≡ Err no_such
   unfolding read_for
   for-no-format r s = simp (r, s)
 
 -- ---- what was taken by its shape
-module _ (kind : Kind) (stated : Stated) (rate : ℕ) (x : Shaped) where
-  pub by-no-rate : is_rate rate ≡ false → read_by kind stated rate x ≡ Refused no_such
+module _ (kind : Kind) (stated : Option ℕ) (rate : ℕ) (x : Shaped) where
+  pub by-no-rate : is_rate rate ≡ false → read_by kind stated rate x ≡ Err no_such
   unfolding read_by
   by-no-rate e = simp e
 
-  pub by-no-format : is_rate rate ≡ true → is_stated stated ≡ false → read_by kind stated rate x ≡ Refused no_such
+  pub by-no-format : is_rate rate ≡ true → is_stated stated ≡ false → read_by kind stated rate x ≡ Err no_such
   unfolding read_by
   by-no-format r s = simp (r, s)
 

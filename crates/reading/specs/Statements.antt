@@ -1,6 +1,6 @@
 -- What a text reads as, by its shape (BEHAVIOUR: Text shapes): each refusal exactly, and the counts. Proofs: proofs/Statements.antt.
 -- Assumes nothing.
-use Rattle.std.specs.Prelude.{ℕ, ◌≤◌, ◌≡◌, ◌↔◌, ◌⊎◌, List, map, Bool, true, false, ℤ}
+use Rattle.std.specs.Prelude.{ℕ, ◌≤◌, ◌≡◌, ◌↔◌, ◌⊎◌, List, map, Bool, true, false, ℤ, Option, Some, None, Ok}
 use Rattle.beginnings.specs.Beginning.{LongestBeginning, Either}
 use Rattle.digits.specs.Digits.{value_of}
 use Rattle.answers.specs.Refusals.{is_count}
@@ -18,8 +18,6 @@ use Rattle.scanner.specs.Long.{fields_long}
 use Rattle.scanner.specs.Justified.{justified}
 use Rattle.label_scan.specs.Shape.{LabelShape, HasLabelShape, IsLabel, LongLabel}
 use Rattle.footage_scan.specs.Shape.{FootageParts, FootageShape, has_perf, footage_long, HasFootageShape, IsFootage, LongFootage}
-use Rattle.reading.specs.declared.Stated.{Stated}
-use Rattle.reading.specs.declared.Stated.TheVariants.{Nothing, Format}
 use Rattle.reading.specs.declared.Read.TheVariants.{Label, Footage}
 use Rattle.reading.specs.Answer.{number_of, place_of, timecode_of}
 use Rattle.reading.specs.Shaped.{is_stated, format_for}
@@ -34,59 +32,59 @@ ShapesApart =
 -- refusal 6 exactly when there is no such rate or film format
 abbrev pub RefusedSix : Type 0
 RefusedSix =
-    (l : List ℕ) (stated : Stated) (rate : ℕ)
+    (l : List ℕ) (stated : Option ℕ) (rate : ℕ)
     → (number_of (read_text l stated rate) ≡ 6) ↔ ((is_rate rate ≡ false) ⊎ (is_stated stated ≡ false))
 
 -- a rate, and a film format where one is stated
-pub record RateAndFormat (stated : Stated) (rate : ℕ) : Type 0 where
+pub record RateAndFormat (stated : Option ℕ) (rate : ℕ) : Type 0 where
   pub rated : is_rate rate ≡ true
   pub filmed : is_stated stated ≡ true
 
 -- a text has a shape: a label or a footage, but with a stated film format only a footage; and a field has over 9 digits, or none has
-abbrev pub HasShape : Stated → (l : List ℕ) (long : Bool) → Type 0
-HasShape Nothing l long = HasLabelShape l long ⊎ HasFootageShape l long
-HasShape (Format n) l long = HasFootageShape l long
+abbrev pub HasShape : Option ℕ → (l : List ℕ) (long : Bool) → Type 0
+HasShape None l long = HasLabelShape l long ⊎ HasFootageShape l long
+HasShape (Some n) l long = HasFootageShape l long
 
 -- refusal 1 exactly when the text has no shape
 abbrev pub RefusedOne : Type 0
 RefusedOne =
-    (l : List ℕ) (stated : Stated) (rate : ℕ) → RateAndFormat stated rate
+    (l : List ℕ) (stated : Option ℕ) (rate : ℕ) → RateAndFormat stated rate
     → (number_of (read_text l stated rate) ≡ 1) ↔ ((long : Bool) → ¬ HasShape stated l long)
 
 -- refusal 2 exactly when the shape fits, but a field has over 9 digits
 abbrev pub RefusedTwo : Type 0
 RefusedTwo =
-    (l : List ℕ) (stated : Stated) (rate : ℕ) → RateAndFormat stated rate
+    (l : List ℕ) (stated : Option ℕ) (rate : ℕ) → RateAndFormat stated rate
     → (number_of (read_text l stated rate) ≡ 2) ↔ HasShape stated l true
 
 -- ---- the places of 1 and 2
 -- a text of an allowed shape, fields of any length: a label or a footage, but with a stated film format only a footage, with a perf field
 -- or without, whatever the format
-abbrev pub AllowedShape : Stated → List ℕ → Type 0
-AllowedShape Nothing = Either IsLabel IsFootage
-AllowedShape (Format n) = IsFootage
+abbrev pub AllowedShape : Option ℕ → List ℕ → Type 0
+AllowedShape None = Either IsLabel IsFootage
+AllowedShape (Some n) = IsFootage
 
 -- refused with 1, the place is the length of the longest beginning of the text that also begins some text of an allowed shape
 abbrev pub PlaceOne : Type 0
 PlaceOne =
-    (l : List ℕ) (stated : Stated) (rate place : ℕ) → number_of (read_text l stated rate) ≡ 1
+    (l : List ℕ) (stated : Option ℕ) (rate place : ℕ) → number_of (read_text l stated rate) ≡ 1
     → (place_of (read_text l stated rate) ≡ place) ↔ LongestBeginning (AllowedShape stated) l place
 
 -- the first digit of the first field that is too long, of the shape that the text has, stands at this place
-abbrev pub LongShape : Stated → (l : List ℕ) (place : ℕ) → Type 0
-LongShape Nothing l place = LongLabel l place ⊎ LongFootage l place
-LongShape (Format n) l place = LongFootage l place
+abbrev pub LongShape : Option ℕ → (l : List ℕ) (place : ℕ) → Type 0
+LongShape None l place = LongLabel l place ⊎ LongFootage l place
+LongShape (Some n) l place = LongFootage l place
 
 -- refused with 2, the place is that of the first digit of the first field that is too long
 abbrev pub PlaceTwo : Type 0
 PlaceTwo =
-    (l : List ℕ) (stated : Stated) (rate place : ℕ) → number_of (read_text l stated rate) ≡ 2
+    (l : List ℕ) (stated : Option ℕ) (rate place : ℕ) → number_of (read_text l stated rate) ≡ 2
     → (place_of (read_text l stated rate) ≡ place) ↔ LongShape stated l place
 
 -- every other refusal has place 0, and so has a text that is read
 abbrev pub PlaceElse : Type 0
 PlaceElse =
-    (l : List ℕ) (stated : Stated) (rate : ℕ) → ¬ (number_of (read_text l stated rate) ≡ 1) → ¬ (number_of (read_text l stated rate) ≡ 2)
+    (l : List ℕ) (stated : Option ℕ) (rate : ℕ) → ¬ (number_of (read_text l stated rate) ≡ 1) → ¬ (number_of (read_text l stated rate) ≡ 2)
     → place_of (read_text l stated rate) ≡ 0
 
 -- ---- the film format of a footage
@@ -94,9 +92,9 @@ PlaceElse =
 abbrev pub FormatChosen : Type 0
 FormatChosen =
     ((perf : Bool)
-    → (format_for (Format 1) perf ≡ FF35mm4perf) × (format_for (Format 2) perf ≡ FF35mm3perf)
-    × (format_for (Format 3) perf ≡ FF35mm2perf) × (format_for (Format 4) perf ≡ FF16mm))
-    × (format_for Nothing true ≡ FF35mm3perf) × (format_for Nothing false ≡ FF35mm4perf)
+    → (format_for (Some 1) perf ≡ FF35mm4perf) × (format_for (Some 2) perf ≡ FF35mm3perf)
+    × (format_for (Some 3) perf ≡ FF35mm2perf) × (format_for (Some 4) perf ≡ FF16mm))
+    × (format_for None true ≡ FF35mm3perf) × (format_for None false ≡ FF35mm4perf)
 
 -- ---- 4
 -- a text is a footage of these parts, no field of over 9 digits
@@ -105,7 +103,7 @@ pub record FootageText (l : List ℕ) (p : FootageParts) : Type 0 where
   pub short : footage_long p ≡ false
 
 -- a perf field is present, and the stated film format has none (where none is stated, 3-perf is chosen, which has one)
-pub record PerfRefused (l : List ℕ) (stated : Stated) : Type 0 where
+pub record PerfRefused (l : List ℕ) (stated : Option ℕ) : Type 0 where
   pub parts : FootageParts
   pub text : FootageText l parts
   pub present : has_perf parts.perf ≡ true
@@ -114,18 +112,18 @@ pub record PerfRefused (l : List ℕ) (stated : Stated) : Type 0 where
 -- refusal 4 exactly when a perf field is present, and the stated film format has none
 abbrev pub RefusedFour : Type 0
 RefusedFour =
-    (l : List ℕ) (stated : Stated) (rate : ℕ) → RateAndFormat stated rate
+    (l : List ℕ) (stated : Option ℕ) (rate : ℕ) → RateAndFormat stated rate
     → (number_of (read_text l stated rate) ≡ 4) ↔ PerfRefused l stated
 
 -- ---- 13
 -- a footage of these parts is one of this film format: the stated one, or that which the perf field chooses; and that has a perf field, if the
 -- text has one
-pub record InFormat (stated : Stated) (p : FootageParts) (format : FilmFormat) : Type 0 where
+pub record InFormat (stated : Option ℕ) (p : FootageParts) (format : FilmFormat) : Type 0 where
   pub chosen : format_for stated (has_perf p.perf) ≡ format
   pub takes : takes_perf format (has_perf p.perf) ≡ true
 
 -- a text is a footage that cannot be on the film: by its values, whatever its sign
-pub record FilmRefused (l : List ℕ) (stated : Stated) : Type 0 where
+pub record FilmRefused (l : List ℕ) (stated : Option ℕ) : Type 0 where
   pub parts : FootageParts
   pub text : FootageText l parts
   pub format : FilmFormat
@@ -135,14 +133,14 @@ pub record FilmRefused (l : List ℕ) (stated : Stated) : Type 0 where
 -- refusal 13 exactly when the frames number does not occur in that foot, or the marker is present and is not feet modulo 3
 abbrev pub RefusedThirteen : Type 0
 RefusedThirteen =
-    (l : List ℕ) (stated : Stated) (rate : ℕ) → RateAndFormat stated rate
+    (l : List ℕ) (stated : Option ℕ) (rate : ℕ) → RateAndFormat stated rate
     → (number_of (read_text l stated rate) ≡ 13) ↔ FilmRefused l stated
 
 -- an absent marker with stated 3-perf is allowed: 13 then exactly when the frames number does not occur in that foot
 abbrev pub MarkerAbsent : Type 0
 MarkerAbsent =
     (l : List ℕ) (rate : ℕ) (p : FootageParts) → is_rate rate ≡ true → FootageText l p → has_perf p.perf ≡ false
-    → (number_of (read_text l (Format 2) rate) ≡ 13) ↔ (¬ Occurs FF35mm3perf (value_of p.feet) (value_of p.frames))
+    → (number_of (read_text l (Some 2) rate) ≡ 13) ↔ (¬ Occurs FF35mm3perf (value_of p.feet) (value_of p.frames))
 
 -- ---- 3
 -- a text is a label with these four fields, none of over 9 digits
@@ -162,13 +160,13 @@ pub record DroppedText (l : List ℕ) (rate : ℕ) : Type 0 where
 -- refusal 3 exactly when the text is a dropped label, no film format stated
 abbrev pub RefusedThree : Type 0
 RefusedThree =
-    (l : List ℕ) (stated : Stated) (rate : ℕ) → RateAndFormat stated rate
-    → (number_of (read_text l stated rate) ≡ 3) ↔ ((stated ≡ Nothing) × DroppedText l rate)
+    (l : List ℕ) (stated : Option ℕ) (rate : ℕ) → RateAndFormat stated rate
+    → (number_of (read_text l stated rate) ≡ 3) ↔ ((stated ≡ None) × DroppedText l rate)
 
 -- ---- the count, and 5
 -- a text is an allowed label, and this is its count
-pub record LabelCount (l : List ℕ) (stated : Stated) (rate : ℕ) (z : ℤ) : Type 0 where
-  pub unstated : stated ≡ Nothing
+pub record LabelCount (l : List ℕ) (stated : Option ℕ) (rate : ℕ) (z : ℤ) : Type 0 where
+  pub unstated : stated ≡ None
   pub minus : Bool
   pub fields : List ℕ
   pub text : LabelText l minus fields
@@ -176,7 +174,7 @@ pub record LabelCount (l : List ℕ) (stated : Stated) (rate : ℕ) (z : ℤ) : 
   pub count : label_frames rate minus fields ≡ z
 
 -- a text is a footage in a film format that takes it, which can be on the film, and this is its count
-pub record FootageCount (l : List ℕ) (stated : Stated) (format : FilmFormat) (z : ℤ) : Type 0 where
+pub record FootageCount (l : List ℕ) (stated : Option ℕ) (format : FilmFormat) (z : ℤ) : Type 0 where
   pub parts : FootageParts
   pub text : FootageText l parts
   pub in-format : InFormat stated parts format
@@ -186,17 +184,17 @@ pub record FootageCount (l : List ℕ) (stated : Stated) (format : FilmFormat) (
 -- a label is read as its count at the rate exactly when that is within its bounds
 abbrev pub LabelCounted : Type 0
 LabelCounted =
-    (l : List ℕ) (stated : Stated) (rate : ℕ) (z : ℤ) → RateAndFormat stated rate
-    → (read_text l stated rate ≡ Label (timecode z rate)) ↔ (LabelCount l stated rate z × (is_count z ≡ true))
+    (l : List ℕ) (stated : Option ℕ) (rate : ℕ) (z : ℤ) → RateAndFormat stated rate
+    → (read_text l stated rate ≡ Ok (Label (timecode z rate))) ↔ (LabelCount l stated rate z × (is_count z ≡ true))
 
 -- and a footage as its count at the rate together with the film format chosen
 abbrev pub FootageCounted : Type 0
 FootageCounted =
-    (l : List ℕ) (stated : Stated) (rate : ℕ) (format : FilmFormat) (z : ℤ) → RateAndFormat stated rate
-    → (read_text l stated rate ≡ Footage (timecode z rate) format) ↔ (FootageCount l stated format z × (is_count z ≡ true))
+    (l : List ℕ) (stated : Option ℕ) (rate : ℕ) (format : FilmFormat) (z : ℤ) → RateAndFormat stated rate
+    → (read_text l stated rate ≡ Ok (Footage (timecode z rate) format)) ↔ (FootageCount l stated format z × (is_count z ≡ true))
 
 -- a text has a count, and it is outside its bounds
-pub record CountOut (l : List ℕ) (stated : Stated) (rate : ℕ) : Type 0 where
+pub record CountOut (l : List ℕ) (stated : Option ℕ) (rate : ℕ) : Type 0 where
   pub z : ℤ
   pub count : LabelCount l stated rate z ⊎ ((format : FilmFormat) × FootageCount l stated format z)
   pub out : is_count z ≡ false
@@ -204,26 +202,26 @@ pub record CountOut (l : List ℕ) (stated : Stated) (rate : ℕ) : Type 0 where
 -- refusal 5 exactly when the resulting count is outside its bounds
 abbrev pub RefusedFive : Type 0
 RefusedFive =
-    (l : List ℕ) (stated : Stated) (rate : ℕ) → RateAndFormat stated rate
+    (l : List ℕ) (stated : Option ℕ) (rate : ℕ) → RateAndFormat stated rate
     → (number_of (read_text l stated rate) ≡ 5) ↔ CountOut l stated rate
 
 -- whatever the text, the count is within its bounds
 abbrev pub CountBounded : Type 0
-CountBounded = (l : List ℕ) (stated : Stated) (rate : ℕ) → is_count (timecode_of (read_text l stated rate)).count ≡ true
+CountBounded = (l : List ℕ) (stated : Option ℕ) (rate : ℕ) → is_count (timecode_of (read_text l stated rate)).count ≡ true
 
 -- and what is read is at the rate
 abbrev pub AtRate : Type 0
 AtRate =
-    (l : List ℕ) (stated : Stated) (rate : ℕ) (tc : Timecode)
-    → (read_text l stated rate ≡ Label tc → tc.rate ≡ rate)
-    × ((format : FilmFormat) → read_text l stated rate ≡ Footage tc format → tc.rate ≡ rate)
+    (l : List ℕ) (stated : Option ℕ) (rate : ℕ) (tc : Timecode)
+    → (read_text l stated rate ≡ Ok (Label tc) → tc.rate ≡ rate)
+    × ((format : FilmFormat) → read_text l stated rate ≡ Ok (Footage tc format) → tc.rate ≡ rate)
 
 -- so every operation admits it
 abbrev pub ReadValid : Type 0
 ReadValid =
-    (l : List ℕ) (stated : Stated) (rate : ℕ) (tc : Timecode)
-    → (read_text l stated rate ≡ Label tc → Valid tc) × ((format : FilmFormat) → read_text l stated rate ≡ Footage tc format → Valid tc)
+    (l : List ℕ) (stated : Option ℕ) (rate : ℕ) (tc : Timecode)
+    → (read_text l stated rate ≡ Ok (Label tc) → Valid tc) × ((format : FilmFormat) → read_text l stated rate ≡ Ok (Footage tc format) → Valid tc)
 
 -- and a refusal has one of the numbers 1 to 6, or 13 (0: it is read)
 abbrev pub NumbersGiven : Type 0
-NumbersGiven = (l : List ℕ) (stated : Stated) (rate : ℕ) → (number_of (read_text l stated rate) ≤ 6) ⊎ (number_of (read_text l stated rate) ≡ 13)
+NumbersGiven = (l : List ℕ) (stated : Option ℕ) (rate : ℕ) → (number_of (read_text l stated rate) ≤ 6) ⊎ (number_of (read_text l stated rate) ≡ 13)

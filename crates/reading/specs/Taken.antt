@@ -1,18 +1,19 @@
 -- What a text was taken for, as the code hands it on, and the shape that this is (BEHAVIOUR: Text shapes).
 -- Assumes nothing.
-use Rattle.std.specs.Prelude.{[], ◌∷◌}
-use Rattle.labels.specs.Label.{hours_in, minutes_in, seconds_in, frames_in}
+use Rattle.std.specs.Prelude.{Result, Ok, Err}
+use Rattle.answers.specs.declared.Refusal.{Refusal}
 use Rattle.reading.specs.declared.taking.Taken.{Taken}
 use Rattle.reading.specs.declared.taking.Taken.TheVariants as taken
-use Rattle.reading.specs.Shaped.{Shaped, label, footage, refused}
+use Rattle.reading.specs.Shaped.{Shaped, label, footage, refused, label_in, footage_in}
 
--- a label's four fields by name, and as a list again
-abbrev pub taken_of : Shaped → Taken
-taken_of (label minus fields) = taken.Label minus (hours_in fields) (minutes_in fields) (seconds_in fields) (frames_in fields)
-taken_of (footage minus feet frames perf marker) = taken.Footage minus feet frames perf marker
-taken_of (refused e) = taken.Neither e
+-- a label or a footage as it was scanned, and its shape again
+abbrev pub taken_of : Shaped → Result Taken Refusal
+taken_of (label minus fields) = Ok (taken.Label (record { minus = minus; fields = fields }))
+taken_of (footage minus feet frames perf marker) =
+    Ok (taken.Footage (record { minus = minus; feet = feet; frames = frames; perf = perf; marker = marker }))
+taken_of (refused e) = Err e
 
-abbrev pub shaped_in : Taken → Shaped
-shaped_in (taken.Label minus hours minutes seconds frames) = label minus (hours ∷ minutes ∷ seconds ∷ frames ∷ [])
-shaped_in (taken.Footage minus feet frames perf marker) = footage minus feet frames perf marker
-shaped_in (taken.Neither e) = refused e
+abbrev pub shaped_in : Result Taken Refusal → Shaped
+shaped_in (Ok (taken.Label scan)) = label_in scan
+shaped_in (Ok (taken.Footage scan)) = footage_in scan
+shaped_in (Err e) = refused e

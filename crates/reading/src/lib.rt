@@ -6,144 +6,110 @@
 
 ghost use Rattle.std.specs.Prelude.{◌≡◌, true};
 ghost use Rattle.rates.specs.Rates.{is_rate};
-ghost use Rattle.reading.specs.Answer.{number_of, as_label, as_footage};
+ghost use Rattle.reading.specs.Answer.{as_label, as_footage};
 ghost use Rattle.reading.specs.Shaped.{is_stated, format_for, label};
 ghost use Rattle.reading.specs.Taken.{shaped_in};
 ghost use Rattle.reading.specs.Reading.{takes_perf, label_read, footage_read};
 ghost use Rattle.reading.specs.For.{settled_read, position_fault, is_label_of, shaped_for, read_by, read_for, label_for};
 
-use answers::{Counted, Refusal};
-use faults::Found;
-use film::{FilmFormat, Filmed};
+use answers::{Cause, Refusal};
+use faults::Fault;
+use film::FilmFormat;
+use footage_scan::FootageScan;
 use timecodes::{Kind, Timecode};
 
 mod taking;
 
 pub use taking::{Taken, take_label, take_text};
 
-// The film format that is stated, by its number, or that none is.
-#[derive(Clone, Copy)]
-pub enum Stated {
-    Nothing,
-    Format(u64),
-}
-
-// What a text reads as: a label's timecode, a footage's timecode and film format, or why it is neither.
+// What a text reads as: a label's timecode, or a footage's timecode and film format.
 #[derive(Clone, Copy)]
 pub enum Read {
     Label(Timecode),
     Footage(Timecode, FilmFormat),
-    Refused(Refusal),
-}
-
-// The number of an answer; 0: not refused.
-pub fn number(read: Read) -> u8
-    ensures { result ≡ number_of read }
-{
-    match read {
-        Read::Label(_) => 0,
-        Read::Footage(_, _) => 0,
-        Read::Refused(e) => e.number,
-    }
 }
 
 // What was read as a length, made a timecode of a kind: a position is reduced by whole days.
-fn settled(read: Read, kind: Kind) -> Read
+fn settled(read: Result<Read, Refusal>, kind: Kind) -> Result<Read, Refusal>
     ensures { result ≡ settled_read kind read }
 {
-    match read {
-        Read::Label(tc) => Read::Label(timecodes::made(tc.count, tc.rate, kind)),
-        Read::Footage(tc, format) => {
-            Read::Footage(timecodes::made(tc.count, tc.rate, kind), format)
-        }
-        Read::Refused(e) => Read::Refused(e),
+    match read? {
+        Read::Label(tc) => Ok(Read::Label(timecodes::made(tc.count, tc.rate, kind))),
+        Read::Footage(tc, format) => Ok(Read::Footage(
+            timecodes::made(tc.count, tc.rate, kind),
+            format,
+        )),
     }
 }
 
 // A count at a rate as the answer to a label.
-fn as_label(rate: u64, counted: Counted) -> Read
+fn as_label(rate: u64, counted: Result<i64, Refusal>) -> Result<Read, Refusal>
     ensures { result ≡ as_label rate counted }
 {
-    match counted {
-        Counted::Count(count) => Read::Label(timecodes::new(count, rate, Kind::Length)),
-        Counted::Refused(e) => Read::Refused(e),
-    }
+    let count = counted?;
+    Ok(Read::Label(timecodes::new(count, rate, Kind::Length)))
 }
 
 // A count at a rate as the answer to a footage.
-fn as_footage(rate: u64, format: FilmFormat, counted: Counted) -> Read
+fn as_footage(rate: u64, format: FilmFormat, counted: Result<i64, Refusal>) -> Result<Read, Refusal>
     ensures { result ≡ as_footage rate format counted }
 {
-    match counted {
-        Counted::Count(count) => {
-            Read::Footage(timecodes::new(count, rate, Kind::Length), format)
-        }
-        Counted::Refused(e) => Read::Refused(e),
-    }
+    let count = counted?;
+    Ok(Read::Footage(timecodes::new(count, rate, Kind::Length), format))
 }
 
 // Whether what is stated is no number, or that of a film format.
-fn is_stated(stated: Stated) -> bool
+fn is_stated(stated: Option<u64>) -> bool
     ensures { result ≡ is_stated stated }
 {
-    let Stated::Format(n) = stated else {
-        return true;
-    };
-    let filmed = film::format_at(n);
-    let Filmed::Format(_) = filmed else {
-        return false;
-    };
-    true
+    match stated {
+        Some(n) => film::format_at(n).is_ok(),
+        None => true,
+    }
 }
 
 // The film format of a footage: the stated one, or that which the perf field chooses.
-pub fn format_for(stated: Stated, perf: bool) -> FilmFormat
+pub fn format_for(stated: Option<u64>, perf: bool) -> FilmFormat
     ensures { result ≡ format_for stated perf }
 {
-    let Stated::Format(n) = stated else {
-        if perf {
-            return FilmFormat::FF35mm3perf;
+    match stated {
+        Some(n) => film::format_at(n).unwrap_or(FilmFormat::FF35mm4perf),
+        None => {
+            if perf {
+                FilmFormat::FF35mm3perf
+            } else {
+                FilmFormat::FF35mm4perf
+            }
         }
-        return FilmFormat::FF35mm4perf;
-    };
-    let filmed = film::format_at(n);
-    let Filmed::Format(format) = filmed else {
-        return FilmFormat::FF35mm4perf;
-    };
-    format
+    }
 }
 
 // Whether a footage of this format may have the perf field that it has, or has none.
 fn takes_perf(format: FilmFormat, perf: bool) -> bool
     ensures { result ≡ takes_perf format perf }
 {
-    if !perf {
-        return true;
-    }
-    format.allows_perf_field()
+    !perf || format.allows_perf_field()
 }
 
 // The answer to a label's sign and fields. Asks a rate.
-fn read_label(rate: u64, minus: bool, fields: [u64; 4]) -> Read
+fn read_label(rate: u64, minus: bool, fields: [u64; 4]) -> Result<Read, Refusal>
     requires { is_rate rate ≡ true }
     ensures { result ≡ label_read rate minus fields }
 {
     let d = rates::drop_frames_per_minute(rate);
     if labels::is_dropped(fields, d) {
-        return Read::Refused(answers::DROPPED_LABEL);
+        return Err(Cause::DroppedLabel.into());
     }
     as_label(rate, labels::label_count(fields, rate, minus))
 }
 
 // What is at fault in the label of a position: its sign, or else the leftmost field that is not strict.
-pub fn position_fault(rate: u64, minus: bool, fields: [u64; 4]) -> Found
+#[tactic(auto, unfolding(crate::specs::For::position_fault))]
+pub fn position_fault(rate: u64, minus: bool, fields: [u64; 4]) -> Option<Fault>
     ensures { result ≡ position_fault rate minus fields }
 {
     let timebase = rates::row(rate).timebase;
-    faults::leftmost(
-        faults::sign_fault(minus),
-        labels::strict_fault(fields, timebase),
-    )
+    faults::sign_fault(minus).or(labels::strict_fault(fields, timebase))
 }
 
 // Whether a label's sign and fields may be those of this kind: in the label of a position nothing is at fault.
@@ -153,91 +119,69 @@ fn is_label_of(kind: Kind, rate: u64, minus: bool, fields: [u64; 4]) -> bool
     if !kind.is_position() {
         return true;
     }
-    faults::is_none(position_fault(rate, minus, fields))
+    position_fault(rate, minus, fields).is_none()
 }
 
 // The answer to a label's sign and fields, as a timecode of a kind. Asks a rate.
-fn label_for(rate: u64, minus: bool, fields: [u64; 4], kind: Kind) -> Read
+fn label_for(rate: u64, minus: bool, fields: [u64; 4], kind: Kind) -> Result<Read, Refusal>
     requires { is_rate rate ≡ true }
-    ensures { result ≡ shaped_for kind rate Stated.Nothing (label minus fields) }
+    ensures { result ≡ shaped_for kind rate None (label minus fields) }
 {
     if !is_label_of(kind, rate, minus, fields) {
-        return Read::Refused(answers::NOT_STRICT);
+        return Err(Cause::NotStrict.into());
     }
     settled(read_label(rate, minus, fields), kind)
 }
 
-// The answer to a footage's format, sign and fields.
-fn read_footage(
-    rate: u64,
-    format: FilmFormat,
-    minus: bool,
-    feet: u64,
-    frames: u64,
-    perf: bool,
-    marker: u64,
-) -> Read
-    ensures { result ≡ footage_read rate format minus feet frames perf marker }
+// The answer to a footage in a format.
+fn read_footage(rate: u64, format: FilmFormat, scan: FootageScan) -> Result<Read, Refusal>
+    ensures { result ≡ footage_read rate format scan.minus scan.feet scan.frames scan.perf scan.marker }
 {
-    if !takes_perf(format, perf) {
-        return Read::Refused(answers::NO_PERF_FIELD);
+    if !takes_perf(format, scan.perf) {
+        return Err(Cause::NoPerfField.into());
     }
-    if !film::on_film(format, feet, frames, perf, marker) {
-        return Read::Refused(answers::NOT_ON_FILM);
+    if !film::on_film(format, scan.feet, scan.frames, scan.perf, scan.marker) {
+        return Err(Cause::NotOnFilm.into());
     }
-    as_footage(
-        rate,
-        format,
-        film::footage_count(format, minus, feet, frames),
-    )
+    let counted = film::footage_count(format, scan.minus, scan.feet, scan.frames);
+    as_footage(rate, format, counted)
 }
 
 // What a text that was taken by its shape reads as at a rate, a length or a position.
-pub fn read_taken(taken: Taken, stated: Stated, rate: u64, kind: Kind) -> Read
+pub fn read_taken(
+    taken: Result<Taken, Refusal>,
+    stated: Option<u64>,
+    rate: u64,
+    kind: Kind,
+) -> Result<Read, Refusal>
     ensures { result ≡ read_by kind stated rate (shaped_in taken) }
 {
     if !rates::is_rate(rate) {
-        return Read::Refused(answers::NO_SUCH);
+        return Err(Cause::NoSuch.into());
     }
     if !is_stated(stated) {
-        return Read::Refused(answers::NO_SUCH);
+        return Err(Cause::NoSuch.into());
     }
-    match taken {
-        Taken::Label {
-            minus,
-            hours,
-            minutes,
-            seconds,
-            frames,
-        } => label_for(rate, minus, [hours, minutes, seconds, frames], kind),
-        Taken::Footage {
-            minus,
-            feet,
-            frames,
-            perf,
-            marker,
-        } => {
-            let format = format_for(stated, perf);
-            settled(
-                read_footage(rate, format, minus, feet, frames, perf, marker),
-                kind,
-            )
+    match taken? {
+        Taken::Label(scan) => label_for(rate, scan.minus, scan.fields, kind),
+        Taken::Footage(scan) => {
+            let format = format_for(stated, scan.perf);
+            settled(read_footage(rate, format, scan), kind)
         }
-        Taken::Neither(e) => Read::Refused(e),
     }
 }
 
 // What a text reads as at a rate, a length or a position (vtc's `parse_timecode_string` and `parse_feet_and_frames_str`, which read
 // lengths): it is taken by its shape, and that is read.
-pub fn read_text(text: &[u8], stated: Stated, rate: u64, kind: Kind) -> Read
+pub fn read_text(text: &[u8], stated: Option<u64>, rate: u64, kind: Kind) -> Result<Read, Refusal>
     ensures { result ≡ read_for kind text.now stated rate }
 {
     read_taken(take_text(text, stated), stated, rate, kind)
 }
 
 // What a text reads as where only a label may stand: a label as `read_text` reads it; any other text has no shape.
-pub fn read_label_only(text: &[u8], rate: u64, kind: Kind) -> Read
+pub fn read_label_only(text: &[u8], rate: u64, kind: Kind) -> Result<Read, Refusal>
     ensures { result ≡ label_for kind text.now rate }
 {
-    read_taken(take_label(text), Stated::Nothing, rate, kind)
+    read_taken(take_label(text), None, rate, kind)
 }

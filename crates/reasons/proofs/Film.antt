@@ -1,5 +1,6 @@
 -- The field that is shown of a footage that cannot be on the film is the leftmost at fault, and the limit the nearest value that is allowed.
 -- Assumes nothing.
+use Rattle.std.specs.Prelude.{Option, Some, None}
 use Prim.Native.Nat.{ℕ, ◌-◌, ◌%◌, ◌≤◌, ◌<◌}
 use native.Mathlib.Omega.{arith}
 use native.Mathlib.Decide.{dec_lt}
@@ -12,8 +13,6 @@ use lib.IntN.{ℤ, pos, nat_abs}
 use Rattle.digits.specs.Digits.{value_of}
 use Rattle.faults.specs.declared.Field.TheVariants.{Frames, Marker}
 use Rattle.faults.specs.declared.Fault.{Fault}
-use Rattle.faults.specs.declared.Found.{Found}
-use Rattle.faults.specs.declared.Found.TheVariants.{NoFault, At}
 use Rattle.faults.specs.Faults.{fault, exactly, leftmost}
 use Rattle.faults.specs.FaultLaws.{under_at, under-not, exactly-at, nearest-under, nearest-only}
 use Rattle.film.specs.declared.FilmFormat.{FilmFormat}
@@ -22,7 +21,6 @@ use Rattle.film.specs.OnFilm.{leaves_two, frames_in_foot}
 use Rattle.film.specs.Faults.{marker_fault, film_fault}
 use Rattle.film.proofs.OnFilm.{below-occurs, occurs-below}
 use Rattle.footage_scan.specs.Shape.{FootageParts, has_perf}
-use Rattle.reading.specs.declared.Stated.{Stated}
 use Rattle.reading.specs.Shaped.{shape_of}
 use Rattle.reading.specs.Statements.{FilmRefused}
 use Rattle.reading.proofs.Shapes.{shape-footage}
@@ -51,7 +49,7 @@ foot-only format feet x o =
 foot-all : (format : FilmFormat) (feet n : ℕ) → n < frames_in_foot format feet → OfFoot format feet (pos n)
 foot-all format feet n h = record { number = n; is = refl; occurs = below-occurs format feet n h }
 
-module _ (l : List ℕ) (stated : Stated) (rate : ℕ) (x : FilmRefused l stated) where
+module _ (l : List ℕ) (stated : Option ℕ) (rate : ℕ) (x : FilmRefused l stated) where
   abbrev p : FootageParts
   p = x.parts
 
@@ -68,7 +66,7 @@ module _ (l : List ℕ) (stated : Stated) (rate : ℕ) (x : FilmRefused l stated
       ∙ ap (λ (format : FilmFormat). footage_fact 13 format p.minus feet number (has_perf p.perf) (value_of p.perf)) x.in-format.chosen
       ∙ footage-thirteen 13 x.format p.minus feet number (has_perf p.perf) (value_of p.perf) refl
 
-  holds : (f : Fault) → film_fault x.format feet number (has_perf p.perf) (value_of p.perf) ≡ At f → FilmFact x.format p f
+  holds : (f : Fault) → film_fault x.format feet number (has_perf p.perf) (value_of p.perf) ≡ Some f → FilmFact x.format p f
       → FactHolds l stated rate 13 (fact_by 13 rate stated (shape_of stated l))
   holds f e fact =
       subst (FactHolds l stated rate 13) (sym (shown ∙ ap limit_from e))
@@ -80,7 +78,7 @@ module _ (l : List ℕ) (stated : Stated) (rate : ℕ) (x : FilmRefused l stated
   by_frames h =
       let n = frames_in_foot x.format feet in
       holds (fault Frames false (n - 1) number)
-      (ap (λ (u : Found). leftmost u (marker_fault feet (has_perf p.perf) (value_of p.perf))) (under_at Frames n number h))
+      (ap (λ (u : Option Fault). leftmost u (marker_fault feet (has_perf p.perf) (value_of p.perf))) (under_at Frames n number h))
       (frames refl refl
       (nearest-under (OfFoot x.format feet) n number (some-frames x.format feet) h (foot-only x.format feet) (foot-all x.format feet)))
 
@@ -90,8 +88,8 @@ module _ (l : List ℕ) (stated : Stated) (rate : ℕ) (x : FilmRefused l stated
   unfolding film_fault marker_fault
   by-marker h marked other =
       holds (fault Marker false (feet % 3) (value_of p.perf))
-      (ap (λ (u : Found). leftmost u (marker_fault feet (has_perf p.perf) (value_of p.perf))) (under-not Frames (frames_in_foot x.format feet) number h)
-      ∙ ap (λ (t : Bool). cond t (exactly Marker (feet % 3) (value_of p.perf)) NoFault) marked
+      (ap (λ (u : Option Fault). leftmost u (marker_fault feet (has_perf p.perf) (value_of p.perf))) (under-not Frames (frames_in_foot x.format feet) number h)
+      ∙ ap (λ (t : Bool). cond t (exactly Marker (feet % 3) (value_of p.perf)) None) marked
       ∙ exactly-at Marker (feet % 3) (value_of p.perf) (ne_eqb (value_of p.perf) (feet % 3) other))
       (marker refl (below-occurs x.format feet number h) marked refl
       (nearest-only (λ (z : ℤ). z ≡ pos (feet % 3)) (feet % 3) (value_of p.perf) other (λ z a. a) refl))

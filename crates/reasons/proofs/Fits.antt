@@ -1,5 +1,6 @@
 -- The limit and the value that are told of a field fit 64 bits with their sign.
 -- Assumes nothing.
+use Rattle.std.specs.Prelude.{Option, Some, None, Result, Ok, Err}
 use Prim.Native.Nat.{ℕ, ◌-◌, ◌%◌, ◌^◌, ◌≤◌, ◌<◌}
 use native.Mathlib.Omega.{arith}
 use mathlib.Core.Path.{◌≡◌, refl}
@@ -10,8 +11,6 @@ use Rattle.answers.specs.Refusals.{most_count, beyond}
 use Rattle.faults.specs.declared.Field.{Field}
 use Rattle.faults.specs.declared.Field.TheVariants.{Count, Hours, Minutes, Seconds, Frames, Marker}
 use Rattle.faults.specs.declared.Fault.{Fault}
-use Rattle.faults.specs.declared.Found.{Found}
-use Rattle.faults.specs.declared.Found.TheVariants.{NoFault, At}
 use Rattle.faults.specs.Faults.{fault, under, exactly, sign_fault, count_fault, leftmost}
 use Rattle.rates.specs.Rates.{is_rate, rate_row, drop_frames}
 use Rattle.rates.proofs.Sound.{sound}
@@ -26,15 +25,14 @@ use Rattle.labels.specs.AtRate.{frames_or}
 use Rattle.labels.specs.BoundLaws.{number_short}
 use Rattle.labels.specs.Faults.{strict_fault}
 use Rattle.labels.specs.Sections.{label_number}
-use Rattle.scanner.specs.declared.text.Fit.{Fit}
-use Rattle.scanner.specs.declared.text.Fit.TheVariants.{Fits, TooLong, NoShape}
+use Rattle.scanner.specs.declared.text.Misfit.{Misfit}
+use Rattle.scanner.specs.declared.text.Misfit.TheVariants.{TooLong, NoShape}
+use Rattle.label_scan.specs.declared.LabelScan.{LabelScan}
 use Rattle.label_scan.specs.Label.{label_scan}
 use Rattle.footage_scan.specs.declared.FootageScan.{FootageScan}
 use Rattle.footage_scan.specs.Footage.{footage_scan}
 use Rattle.footage_scan.proofs.Statements.{footage_below}
-use Rattle.reading.specs.declared.Stated.{Stated}
-use Rattle.reading.specs.declared.Stated.TheVariants.{Nothing, Format}
-use Rattle.reading.specs.Shaped.{Shaped, label, footage, refused, format_for, by_fit, farthest, footage_shaped, shape_of}
+use Rattle.reading.specs.Shaped.{Shaped, label, footage, refused, format_for, label_or, footage_shaped, shape_of}
 use Rattle.reading.specs.For.{position_fault}
 use Rattle.reasons.specs.declared.Fact.{Fact}
 use Rattle.reasons.specs.declared.Fact.TheVariants as fact
@@ -45,17 +43,17 @@ use Rattle.reasons.proofs.Told.{short-scanned}
 abbrev Small : Fault → Type 0
 Small f = (f.limit < 2 ^ 63) × (f.value < 2 ^ 63)
 
-abbrev SmallIn : Found → Type 0
-SmallIn NoFault = Unit {0}
-SmallIn (At f) = Small f
+abbrev SmallIn : Option Fault → Type 0
+SmallIn None = Unit {0}
+SmallIn (Some f) = Small f
 
-abbrev pub SmallFact : Fact → Type 0
-SmallFact fact.Nothing = Unit {0}
-SmallFact (fact.Limit f) = Small f
-SmallFact (fact.First s) = Unit {0}
+abbrev pub SmallFact : Option Fact → Type 0
+SmallFact None = Unit {0}
+SmallFact (Some (fact.Limit f)) = Small f
+SmallFact (Some (fact.First s)) = Unit {0}
 
 -- ---- what is found
-by-test : (t : Bool) (f : Fault) → Small f → SmallIn (cond t NoFault (At f))
+by-test : (t : Bool) (f : Fault) → Small f → SmallIn (cond t None (Some f))
 by-test true f h = tt
 by-test false f h = h
 
@@ -72,17 +70,17 @@ unfolding marker_fault exactly
 marker-small feet true marker h = by-test (eqb marker (feet % 3)) (fault Marker false (feet % 3) marker) (omega arith, omega arith)
 marker-small feet false marker h = tt
 
-leftmost-small : (left right : Found) → SmallIn left → SmallIn right → SmallIn (leftmost left right)
-leftmost-small NoFault right a b = b
-leftmost-small (At f) right a b = a
+leftmost-small : (left right : Option Fault) → SmallIn left → SmallIn right → SmallIn (leftmost left right)
+leftmost-small None right a b = b
+leftmost-small (Some f) right a b = a
 
 sign_small : (minus : Bool) → SmallIn (sign_fault minus)
 sign_small true = (omega arith, omega arith)
 sign_small false = tt
 
-limit-small : (found : Found) → SmallIn found → SmallFact (limit_from found)
-limit-small NoFault h = tt
-limit-small (At f) h = h
+limit-small : (found : Option Fault) → SmallIn found → SmallFact (limit_from found)
+limit-small None h = tt
+limit-small (Some f) h = h
 
 -- ---- the counts
 -- a label's count is at most its number
@@ -127,26 +125,24 @@ SmallShape (label minus fields) = Short fields
 SmallShape (footage minus feet frames perf marker) = (feet < 1000000000) × (frames < 1000000000) × (marker < 1000000000)
 SmallShape (refused e) = Unit {0}
 
-footage-shape-small : (stopped : ℕ) (s : FootageScan) → (s.feet < 1000000000) × (s.frames < 1000000000) × (s.marker < 1000000000)
-    → SmallShape (footage_shaped stopped s)
-footage-shape-small stopped s b = by s.fit
-  where
-    by : (fit : Fit) → SmallShape (by_fit (footage s.minus s.feet s.frames s.perf s.marker) (farthest stopped) fit)
-    by Fits = b
-    by (TooLong place) = tt
-    by (NoShape stop) = tt
+footage-shape-small : (stopped : ℕ) (text : List ℕ) (scanned : Result FootageScan Misfit) → footage_scan text ≡ scanned
+    → SmallShape (footage_shaped stopped scanned)
+footage-shape-small stopped text (Ok scan) e = footage_below text scan e
+footage-shape-small stopped text (Err (TooLong place)) e = tt
+footage-shape-small stopped text (Err (NoShape stop)) e = tt
 
-shape-small : (stated : Stated) (text : List ℕ) → SmallShape (shape_of stated text)
-shape-small Nothing text = by (label_scan text).fit
+shape-small : (stated : Option ℕ) (text : List ℕ) → SmallShape (shape_of stated text)
+shape-small None text = by (label_scan text) refl
   where
-    by : (fit : Fit) → SmallShape (by_fit (label (label_scan text).minus (label_scan text).fields) (λ stop. footage_shaped stop (footage_scan text)) fit)
-    by Fits = short-scanned text
-    by (TooLong place) = tt
-    by (NoShape stop) = footage-shape-small stop (footage_scan text) (footage_below text)
-shape-small (Format n) text = footage-shape-small 0 (footage_scan text) (footage_below text)
+    by : (scanned : Result LabelScan Misfit) → label_scan text ≡ scanned
+        → SmallShape (label_or (λ stop. footage_shaped stop (footage_scan text)) scanned)
+    by (Ok scan) e = short-scanned text scan e
+    by (Err (TooLong place)) e = tt
+    by (Err (NoShape stop)) e = footage-shape-small stop text (footage_scan text) refl
+shape-small (Some n) text = footage-shape-small 0 text (footage_scan text) refl
 
 -- ---- the fact
-by_number : (t : Bool) (a b : Fact) → SmallFact a → SmallFact b → SmallFact (cond t a b)
+by_number : (t : Bool) (a b : Option Fact) → SmallFact a → SmallFact b → SmallFact (cond t a b)
 by_number true a b p q = p
 by_number false a b p q = q
 
@@ -178,14 +174,14 @@ film-small format feet frames perf marker h k =
 label_small : (number rate : ℕ) (minus : Bool) (fields : List ℕ) → is_rate rate ≡ true → Short fields → SmallFact (label_fact number rate minus fields)
 unfolding label_fact
 label_small number rate minus fields r s =
-    by_number (eqb number 3) (fact.First (first_label (drop_frames rate) minus fields))
+    by_number (eqb number 3) (Some (fact.First (first_label (drop_frames rate) minus fields)))
     (cond (eqb number 5) (limit_from (count_fault minus (frames_or rate fields)))
-    (cond (eqb number 14) (limit_from (position_fault rate minus fields)) fact.Nothing))
+    (cond (eqb number 14) (limit_from (position_fault rate minus fields)) None))
     tt
     (by_number (eqb number 5) (limit_from (count_fault minus (frames_or rate fields)))
-    (cond (eqb number 14) (limit_from (position_fault rate minus fields)) fact.Nothing)
+    (cond (eqb number 14) (limit_from (position_fault rate minus fields)) None)
     (limit-small (count_fault minus (frames_or rate fields)) (count_small minus (frames_or rate fields) (frames_small rate fields s)))
-    (by_number (eqb number 14) (limit_from (position_fault rate minus fields)) fact.Nothing
+    (by_number (eqb number 14) (limit_from (position_fault rate minus fields)) None
     (limit-small (position_fault rate minus fields) (position-small rate minus fields r s)) tt))
 
 footage-small : (number : ℕ) (format : FilmFormat) (minus : Bool) (feet frames : ℕ) (perf : Bool) (marker : ℕ)
@@ -193,12 +189,12 @@ footage-small : (number : ℕ) (format : FilmFormat) (minus : Bool) (feet frames
 unfolding footage_fact
 footage-small number format minus feet frames perf marker b =
     by_number (eqb number 5) (limit_from (count_fault minus (footage_or format feet frames)))
-    (cond (eqb number 13) (limit_from (film_fault format feet frames perf marker)) fact.Nothing)
+    (cond (eqb number 13) (limit_from (film_fault format feet frames perf marker)) None)
     (limit-small (count_fault minus (footage_or format feet frames)) (count_small minus (footage_or format feet frames) (feet-small format feet frames b.0 b.1)))
-    (by_number (eqb number 13) (limit_from (film_fault format feet frames perf marker)) fact.Nothing
+    (by_number (eqb number 13) (limit_from (film_fault format feet frames perf marker)) None
     (limit-small (film_fault format feet frames perf marker) (film-small format feet frames perf marker b.1 b.2)) tt)
 
-pub fact_small : (number rate : ℕ) (stated : Stated) (text : List ℕ) → is_rate rate ≡ true → SmallFact (fact_by number rate stated (shape_of stated text))
+pub fact_small : (number rate : ℕ) (stated : Option ℕ) (text : List ℕ) → is_rate rate ≡ true → SmallFact (fact_by number rate stated (shape_of stated text))
 fact_small number rate stated text r = by (shape_of stated text) (shape-small stated text)
   where
     by : (x : Shaped) → SmallShape x → SmallFact (fact_by number rate stated x)

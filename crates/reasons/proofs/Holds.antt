@@ -1,5 +1,6 @@
 -- The fact behind the reader's number holds of the text, number by number.
 -- Assumes nothing.
+use Rattle.std.specs.Prelude.{Option, None}
 use Prim.Native.Nat.{ℕ, ◌≤◌, ◌<◌}
 use native.Mathlib.Omega.{arith}
 use mathlib.Core.Path.{◌≡◌, refl, sym, ap, ◌∙◌, subst}
@@ -14,7 +15,6 @@ use Rattle.rates.specs.Rates.{is_rate}
 use Rattle.rates.proofs.Sound.{sound}
 use Rattle.timecodes.specs.declared.kinds.Kind.{Kind}
 use Rattle.timecodes.specs.declared.kinds.Kind.TheVariants.{Length, Position}
-use Rattle.reading.specs.declared.Stated.{Stated}
 use Rattle.reading.specs.Answer.{number_of}
 use Rattle.reading.specs.Shaped.{Shaped, label, footage, refused, is_stated, shape_of}
 use Rattle.reading.specs.Reading.{read_text}
@@ -23,7 +23,6 @@ use Rattle.reading.proofs.ByShape.{read_length}
 use Rattle.reading.specs.Statements.{RateAndFormat, CountOut}
 use Rattle.reading.proofs.Statements.{refused-six, refused_three, refused-five, refused_thirteen, numbers_given}
 use Rattle.reading.proofs.Positions.{refused_fourteen, position_else, settled-number, label-shape}
-use Rattle.reasons.specs.declared.Fact.TheVariants.{Nothing}
 use Rattle.reasons.specs.Facts.{fact_by}
 use Rattle.reasons.specs.Holds.{FactHolds, none, dropped}
 use Rattle.reasons.proofs.Facts.{label-three, label_none, footage-none}
@@ -33,12 +32,12 @@ use Rattle.reasons.proofs.Film.{thirteen-holds}
 use Rattle.reasons.proofs.Strict.{fourteen-holds}
 
 -- a number that shows nothing
-pub nothing-by : (n rate : ℕ) (stated : Stated) (x : Shaped) → ¬ (n ≡ 3) → ¬ (n ≡ 5) → ¬ (n ≡ 13) → ¬ (n ≡ 14) → fact_by n rate stated x ≡ Nothing
+pub nothing-by : (n rate : ℕ) (stated : Option ℕ) (x : Shaped) → ¬ (n ≡ 3) → ¬ (n ≡ 5) → ¬ (n ≡ 13) → ¬ (n ≡ 14) → fact_by n rate stated x ≡ None
 nothing-by n rate stated (label minus fields) a b c d = label_none n rate minus fields a b d
 nothing-by n rate stated (footage minus feet frames perf marker) a b c d = footage-none n _ minus feet frames perf marker b c
 nothing-by n rate stated (refused e) a b c d = refl
 
-module _ (l : List ℕ) (stated : Stated) (rate : ℕ) where
+module _ (l : List ℕ) (stated : Option ℕ) (rate : ℕ) where
   -- what is to be shown of a number
   abbrev Wanted : ℕ → Type 0
   Wanted n = FactHolds l stated rate n (fact_by n rate stated (shape_of stated l))

@@ -1,5 +1,6 @@
 -- A text has one fact for a number: any two that hold are equal.
 -- Assumes nothing.
+use Rattle.std.specs.Prelude.{Option, Some}
 use Prim.Native.Nat.{ℕ, ◌≤◌, ◌<◌}
 use native.Mathlib.Omega.{arith}
 use native.Mathlib.Decide.{dec_lt}
@@ -27,7 +28,6 @@ use Rattle.label_scan.proofs.Statements.{one_label_shape}
 use Rattle.footage_scan.specs.Shape.{FootageParts, has_perf}
 use Rattle.footage_scan.proofs.Statements.{one_footage_shape}
 use Rattle.label_writer.specs.declared.TimecodeSections.{TimecodeSections}
-use Rattle.reading.specs.declared.Stated.{Stated}
 use Rattle.reading.specs.Shaped.{format_for}
 use Rattle.reading.specs.Reading.{footage_frames}
 use Rattle.reading.specs.Statements.{LabelText, LabelCount, FootageCount}
@@ -72,7 +72,7 @@ one-first rate minus fields s t p q =
     (sym (one_number timebase (fields_of s) p.strict) ∙ ap (fields_at timebase) number ∙ one_number timebase (fields_of t) q.strict)
 
 -- ---- 5
-module _ (l : List ℕ) (stated : Stated) (rate : ℕ) where
+module _ (l : List ℕ) (stated : Option ℕ) (rate : ℕ) where
   one-label-count : (y z : ℤ) → LabelCount l stated rate y → LabelCount l stated rate z → y ≡ z
   one-label-count y z a b =
       let same = one-text l a.minus b.minus a.fields b.fields a.text b.text in
@@ -111,7 +111,7 @@ one-film format p f g (frames a v n) (marker b o h w m) = absurd (n.not_allowed 
 one-film format p f g (marker a o h v n) (frames b w m) = absurd (m.not_allowed (record { number = value_of p.frames; is = w; occurs = o }))
 one-film format p f g (marker a o h v n) (marker b i k w m) = one_of _ f g (a ∙ sym b) (v ∙ sym w) n m
 
-one-footage-fact : (l : List ℕ) (stated : Stated) (f g : Fault) → FootageFact l stated f → FootageFact l stated g → f ≡ g
+one-footage-fact : (l : List ℕ) (stated : Option ℕ) (f g : Fault) → FootageFact l stated f → FootageFact l stated g → f ≡ g
 one-footage-fact l stated f g a b =
     let same = one_footage_shape l a.parts b.parts a.text.shape b.text.shape in
     let format : a.format ≡ b.format =
@@ -142,7 +142,7 @@ no-fact n h = (apart 3 (omega arith) (λ e. omega (arith, e)) (λ e. omega (arit
     apart : (k : ℕ) → 2 < k → (k ≡ 4 → ⊥) → (k ≡ 6 → ⊥) → n ≡ k → ⊥
     apart k high four six e = ⊎_elim (λ x. omega (arith, x, e, high)) (λ x. ⊎_elim (λ y. four (sym e ∙ y)) (λ y. six (sym e ∙ y)) x) h
 
-pub same-fact : (l : List ℕ) (stated : Stated) (rate n : ℕ) (f g : Fact) → FactHolds l stated rate n f → FactHolds l stated rate n g → f ≡ g
+pub same-fact : (l : List ℕ) (stated : Option ℕ) (rate n : ℕ) (f g : Option Fact) → FactHolds l stated rate n f → FactHolds l stated rate n g → f ≡ g
 same-fact l stated rate n f g (none h) (none k) = refl
 same-fact l stated rate n f g (none h) (dropped t q) = absurd ((no-fact 3 h).0 refl)
 same-fact l stated rate n f g (none h) (out-of-bounds q) = absurd ((no-fact 5 h).1.0 refl)
@@ -154,11 +154,11 @@ same-fact l stated rate n f g (not-on-film p) (none h) = absurd ((no-fact 13 h).
 same-fact l stated rate n f g (not-strict t p) (none h) = absurd ((no-fact 14 h).1.1.1 refl)
 same-fact l stated rate n f g (dropped {minus = a} {fields = x} {s = s} t p) (dropped {minus = b} {fields = y} {s = r} u q) =
     let same = one-text l a b x y t u in
-    ap First (one-first rate b y s r (subst (λ (z : List ℕ). FirstOfMinute rate b z s) same.1 (subst (λ (m : Bool). FirstOfMinute rate m x s) same.0 p)) q)
-same-fact l stated rate n f g (out-of-bounds {f = a} p) (out-of-bounds {f = b} q) = ap Limit (one-count-fact l stated rate a b p q)
-same-fact l stated rate n f g (not-on-film {f = a} p) (not-on-film {f = b} q) = ap Limit (one-footage-fact l stated a b p q)
+    ap (λ x. Some (First x)) (one-first rate b y s r (subst (λ (z : List ℕ). FirstOfMinute rate b z s) same.1 (subst (λ (m : Bool). FirstOfMinute rate m x s) same.0 p)) q)
+same-fact l stated rate n f g (out-of-bounds {f = a} p) (out-of-bounds {f = b} q) = ap (λ x. Some (Limit x)) (one-count-fact l stated rate a b p q)
+same-fact l stated rate n f g (not-on-film {f = a} p) (not-on-film {f = b} q) = ap (λ x. Some (Limit x)) (one-footage-fact l stated a b p q)
 same-fact l stated rate n f g (not-strict {minus = a} {fields = x} {f = v} t p) (not-strict {minus = b} {fields = y} {f = w} u q) =
     let same = one-text l a b x y t u in
     let timebase = (rate_row rate).timebase in
-    ap Limit
+    ap (λ x. Some (Limit x))
     (one-strict timebase b y v w (subst (λ (z : List ℕ). StrictFact timebase b z v) same.1 (subst (λ (m : Bool). StrictFact timebase m x v) same.0 p)) q)

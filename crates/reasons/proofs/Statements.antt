@@ -1,5 +1,6 @@
 -- The statements of specs/Statements.antt.
 -- Assumes nothing.
+use Rattle.std.specs.Prelude.{Option, Result, Ok, Err}
 use Prim.Native.Nat.{ℕ}
 use native.Mathlib.Omega.{arith}
 use mathlib.Core.Path.{◌≡◌, refl, sym, ap, ◌∙◌, subst}
@@ -10,18 +11,13 @@ use Rattle.lent.specs.Line.{fits, splice}
 use Rattle.answers.specs.declared.Refusal.{Refusal}
 use Rattle.answers.specs.Refusals.{no_room}
 use Rattle.timecodes.specs.declared.kinds.Kind.{Kind}
-use Rattle.written.specs.declared.Written.{Written}
-use Rattle.written.specs.declared.Written.TheVariants as written
 use Rattle.written.specs.Written.{Text, answer_to}
 use Rattle.written.proofs.Statements.{length_stands, refused_keeps, no_room_exactly}
-use Rattle.reading.specs.declared.Stated.{Stated}
 use Rattle.reading.specs.declared.Read.{Read}
 use Rattle.reading.specs.Answer.{number_of, place_of}
 use Rattle.reading.specs.For.{read_for}
 use Rattle.reasons.specs.declared.Fact.{Fact}
 use Rattle.reasons.specs.declared.Reason.{Reason}
-use Rattle.reasons.specs.declared.Reasoned.{Reasoned}
-use Rattle.reasons.specs.declared.Reasoned.TheVariants.{Told, Refused}
 use Rattle.reasons.specs.Why.{fact_of, phrase_for, told_as, why_of}
 use Rattle.reasons.specs.Holds.{FactHolds}
 use Rattle.reasons.specs.Statements.{ReadersOwn, FactTold, OneFact, FactFits, PhraseTold, WhyRefused, WhyKeeps}
@@ -34,48 +30,48 @@ use Rattle.reasons.proofs.Fits.{SmallFact, fact_small}
 use Rattle.reasons.proofs.One.{same-fact}
 
 -- what stands in an answer, by its parts
-read_in : Read → Reasoned → Read
-read_in other (Told r) = r.read
-read_in other (Refused e) = other
+read_in : Result Read Refusal → Result Reason Refusal → Result Read Refusal
+read_in other (Ok r) = r.read
+read_in other (Err e) = other
 
-fact_in : Fact → Reasoned → Fact
-fact_in other (Told r) = r.fact
-fact_in other (Refused e) = other
+fact_in : Option Fact → Result Reason Refusal → Option Fact
+fact_in other (Ok r) = r.fact
+fact_in other (Err e) = other
 
-length_in : Reasoned → ℕ
-length_in (Told r) = r.length
-length_in (Refused e) = 0
+length_in : Result Reason Refusal → ℕ
+length_in (Ok r) = r.length
+length_in (Err e) = 0
 
 -- what is told is what the parts say, and the phrase was written
-record Parts (read : Read) (fact : Fact) (w : Written) (r : Reason) : Type 0 where
+record Parts (read : Result Read Refusal) (fact : Option Fact) (w : Result ℕ Refusal) (r : Reason) : Type 0 where
   read_is : r.read ≡ read
   fact_is : r.fact ≡ fact
-  written_is : w ≡ written.Length r.length
+  written_is : w ≡ Ok r.length
 
-parts : (read : Read) (fact : Fact) (w : Written) (r : Reason) → told_as read fact w ≡ Told r → Parts read fact w r
+parts : (read : Result Read Refusal) (fact : Option Fact) (w : Result ℕ Refusal) (r : Reason) → told_as read fact w ≡ Ok r → Parts read fact w r
 unfolding read_in fact_in length_in
-parts read fact (written.Length n) r e =
-    record { read_is = sym (ap (read_in read) e); fact_is = sym (ap (fact_in fact) e); written_is = ap written.Length (ap length_in e) }
-parts read fact (written.Refused x) r e = let z : ◌≡◌ {A = ℕ} 0 1 = cc in absurd (omega arith)
+parts read fact (Ok n) r e =
+    record { read_is = sym (ap (read_in read) e); fact_is = sym (ap (fact_in fact) e); written_is = ap Ok (ap length_in e) }
+parts read fact (Err x) r e = let z : ◌≡◌ {A = ℕ} 0 1 = cc in absurd (omega arith)
 
-module _ (kind : Kind) (l : List ℕ) (stated : Stated) (rate : ℕ) (line : List ℕ) (place : ℕ) where
-  abbrev answer : Written
+module _ (kind : Kind) (l : List ℕ) (stated : Option ℕ) (rate : ℕ) (line : List ℕ) (place : ℕ) where
+  abbrev answer : Result ℕ Refusal
   answer = answer_to line place (Text (phrase_for kind l stated rate))
 
-  told-parts : (r : Reason) → why_of kind l stated rate line place ≡ Told r → Parts (read_for kind l stated rate) (fact_of kind l stated rate) answer r
+  told-parts : (r : Reason) → why_of kind l stated rate line place ≡ Ok r → Parts (read_for kind l stated rate) (fact_of kind l stated rate) answer r
   unfolding why_of
   told-parts r e = parts (read_for kind l stated rate) (fact_of kind l stated rate) answer r e
 
   -- refused as the phrase's writer is
-  refused-by : (w : Written) (e : Refusal) → told_as (read_for kind l stated rate) (fact_of kind l stated rate) w ≡ Refused e → w ≡ written.Refused e
-  refused-by (written.Length n) e h = let z : ◌≡◌ {A = ℕ} 0 1 = cc in absurd (omega arith)
-  refused-by (written.Refused x) e h = let same : x ≡ e = cc in ap written.Refused same
+  refused-by : (w : Result ℕ Refusal) (e : Refusal) → told_as (read_for kind l stated rate) (fact_of kind l stated rate) w ≡ Err e → w ≡ Err e
+  refused-by (Ok n) e h = let z : ◌≡◌ {A = ℕ} 0 1 = cc in absurd (omega arith)
+  refused-by (Err x) e h = let same : x ≡ e = cc in ap Err same
 
-  refused-answer : (e : Refusal) → why_of kind l stated rate line place ≡ Refused e → answer ≡ written.Refused e
+  refused-answer : (e : Refusal) → why_of kind l stated rate line place ≡ Err e → answer ≡ Err e
   unfolding why_of
   refused-answer e h = refused-by answer e h
 
-  answer-refused : (e : Refusal) → answer ≡ written.Refused e → why_of kind l stated rate line place ≡ Refused e
+  answer-refused : (e : Refusal) → answer ≡ Err e → why_of kind l stated rate line place ≡ Err e
   unfolding why_of
   answer-refused e h = ap (told_as (read_for kind l stated rate) (fact_of kind l stated rate)) h
 
@@ -94,7 +90,7 @@ one_fact kind l stated rate line place r f e h =
     same-fact l stated rate (number_of (read_for kind l stated rate)) f r.fact h (fact_told kind l stated rate line place r e)
 
 -- at a rate by what was scanned; else 6 shows nothing
-small-fact : (kind : Kind) (l : List ℕ) (stated : Stated) (rate : ℕ) → SmallFact (fact_of kind l stated rate)
+small-fact : (kind : Kind) (l : List ℕ) (stated : Option ℕ) (rate : ℕ) → SmallFact (fact_of kind l stated rate)
 unfolding fact_of
 small-fact kind l stated rate = by (is_rate rate) refl
   where
@@ -118,11 +114,11 @@ phrase_told kind l stated rate line place r e =
     (s.long ∙ ap length same, s.there ∙ ap (splice line place) same)
 
 -- a text is refused for want of room alone
-only-room : (line : List ℕ) (place : ℕ) (text : List ℕ) (e : Refusal) → answer_to line place (Text text) ≡ written.Refused e → e ≡ no_room
+only-room : (line : List ℕ) (place : ℕ) (text : List ℕ) (e : Refusal) → answer_to line place (Text text) ≡ Err e → e ≡ no_room
 unfolding answer_to
 only-room line place text e k = by (fits line place text) k
   where
-    by : (t : Bool) → cond (not t) (written.Refused no_room) (written.Length (length text)) ≡ written.Refused e → e ≡ no_room
+    by : (t : Bool) → cond (not t) (Err no_room) (Ok (length text)) ≡ Err e → e ≡ no_room
     by true h = let z : ◌≡◌ {A = ℕ} 0 1 = cc in absurd (omega arith)
     by false h = cc
 
@@ -131,10 +127,10 @@ why_refused kind l stated rate line place e = (
   λ h.
       let k = refused-answer kind l stated rate line place e h in
       let is = only-room line place (phrase_for kind l stated rate) e k in
-      (is, (no_room_exactly line place (phrase_for kind l stated rate)).0 (k ∙ ap written.Refused is)),
+      (is, (no_room_exactly line place (phrase_for kind l stated rate)).0 (k ∙ ap Err is)),
   λ h.
       answer-refused kind l stated rate line place e
-      ((no_room_exactly line place (phrase_for kind l stated rate)).1 h.1 ∙ ap written.Refused (sym h.0)),
+      ((no_room_exactly line place (phrase_for kind l stated rate)).1 h.1 ∙ ap Err (sym h.0)),
 )
 
 pub why_keeps : WhyKeeps

@@ -1,6 +1,7 @@
 -- What is shown of a position's label that is not strict is the sign, or else the leftmost field at fault; the limit is the nearest value that is
 -- allowed there.
 -- Assumes nothing.
+use Rattle.std.specs.Prelude.{Option, Some, None}
 use Prim.Native.Nat.{ℕ, zero, suc, ◌-◌, ◌≤◌, ◌<◌}
 use native.Mathlib.Omega.{arith}
 use native.Mathlib.Decide.{dec_lt}
@@ -11,15 +12,11 @@ use lib.IntN.{ℤ, pos, nat_abs}
 use lib.ListN.{length, get_or}
 use Rattle.faults.specs.declared.Field.TheVariants.{Sign, Hours, Minutes, Seconds, Frames}
 use Rattle.faults.specs.declared.Fault.{Fault}
-use Rattle.faults.specs.declared.Found.{Found}
-use Rattle.faults.specs.declared.Found.TheVariants.{At}
 use Rattle.faults.specs.Faults.{fault, under, leftmost}
 use Rattle.faults.specs.FaultLaws.{under_at, under-not, nearest-under}
 use Rattle.rates.specs.Rates.{rate_row}
 use Rattle.labels.specs.Label.{hours_in, minutes_in, seconds_in, frames_in, Strict}
 use Rattle.labels.specs.Faults.{strict_fault}
-use Rattle.reading.specs.declared.Stated.{Stated}
-use Rattle.reading.specs.declared.Stated.TheVariants.{Nothing}
 use Rattle.reading.specs.Shaped.{shape_of}
 use Rattle.reading.specs.For.{position_fault}
 use Rattle.reading.specs.Positions.{NotStrictText}
@@ -100,9 +97,9 @@ under-3 timebase fields h m s (suc (suc zero)) k = s
 under-3 timebase fields h m s (suc (suc (suc j))) k = absurd (omega arith)
 
 -- a fault that is found, and what it says
-pub record FoundFact (found : Found) (timebase : ℕ) (minus : Bool) (fields : List ℕ) : Type 0 where
+pub record FoundFact (found : Option Fault) (timebase : ℕ) (minus : Bool) (fields : List ℕ) : Type 0 where
   pub the : Fault
-  pub is : found ≡ At the
+  pub is : found ≡ Some the
   pub fact : StrictFact timebase minus fields the
 
 module _ (timebase : ℕ) (fields : List ℕ) (some : 0 < timebase) where
@@ -118,7 +115,7 @@ module _ (timebase : ℕ) (fields : List ℕ) (some : 0 < timebase) where
   abbrev f : ℕ
   f = frames_in fields
 
-  abbrev Is : Found → Type 0
+  abbrev Is : Option Fault → Type 0
   Is found = FoundFact found timebase false fields
 
   at-frames : h < 24 → m < 60 → s < 60 → timebase ≤ f → Is (under Frames timebase f)
@@ -129,38 +126,38 @@ module _ (timebase : ℕ) (fields : List ℕ) (some : 0 < timebase) where
   at-seconds a b then = by (dec_lt s 60)
     where
       by : Dec (s < 60) → Is (leftmost (under Seconds 60 s) (under Frames timebase f))
-      by (yes c) = subst (λ (u : Found). Is (leftmost u (under Frames timebase f))) (sym (under-not Seconds 60 s c)) (then c)
+      by (yes c) = subst (λ (u : Option Fault). Is (leftmost u (under Frames timebase f))) (sym (under-not Seconds 60 s c)) (then c)
       by (no c) = record {
         the = _;
-        is = ap (λ (u : Found). leftmost u (under Frames timebase f)) (under_at Seconds 60 s (omega arith));
+        is = ap (λ (u : Option Fault). leftmost u (under Frames timebase f)) (under_at Seconds 60 s (omega arith));
         fact = field-fact timebase some fields 2 (omega arith) (omega arith) (under-2 timebase fields a b);
       }
 
-  abbrev from-seconds : Found
+  abbrev from-seconds : Option Fault
   from-seconds = leftmost (under Seconds 60 s) (under Frames timebase f)
 
   at-minutes : h < 24 → (m < 60 → Is from-seconds) → Is (leftmost (under Minutes 60 m) from-seconds)
   at-minutes a then = by (dec_lt m 60)
     where
       by : Dec (m < 60) → Is (leftmost (under Minutes 60 m) from-seconds)
-      by (yes b) = subst (λ (u : Found). Is (leftmost u from-seconds)) (sym (under-not Minutes 60 m b)) (then b)
+      by (yes b) = subst (λ (u : Option Fault). Is (leftmost u from-seconds)) (sym (under-not Minutes 60 m b)) (then b)
       by (no b) = record {
         the = _;
-        is = ap (λ (u : Found). leftmost u from-seconds) (under_at Minutes 60 m (omega arith));
+        is = ap (λ (u : Option Fault). leftmost u from-seconds) (under_at Minutes 60 m (omega arith));
         fact = field-fact timebase some fields 1 (omega arith) (omega arith) (under-1 timebase fields a);
       }
 
-  abbrev from-minutes : Found
+  abbrev from-minutes : Option Fault
   from-minutes = leftmost (under Minutes 60 m) from-seconds
 
   at-hours : (h < 24 → Is from-minutes) → Is (leftmost (under Hours 24 h) from-minutes)
   at-hours then = by (dec_lt h 24)
     where
       by : Dec (h < 24) → Is (leftmost (under Hours 24 h) from-minutes)
-      by (yes a) = subst (λ (u : Found). Is (leftmost u from-minutes)) (sym (under-not Hours 24 h a)) (then a)
+      by (yes a) = subst (λ (u : Option Fault). Is (leftmost u from-minutes)) (sym (under-not Hours 24 h a)) (then a)
       by (no a) = record {
         the = _;
-        is = ap (λ (u : Found). leftmost u from-minutes) (under_at Hours 24 h (omega arith));
+        is = ap (λ (u : Option Fault). leftmost u from-minutes) (under_at Hours 24 h (omega arith));
         fact = field-fact timebase some fields 0 (omega arith) (omega arith) (λ j k. absurd (omega arith));
       }
 
@@ -183,7 +180,7 @@ found-by rate fields some true four never = record { the = fault Sign false 0 0;
 found-by rate fields some false four never = strict-found (rate_row rate).timebase fields some four (never refl)
 
 -- ---- of a text
-pub fourteen-holds : (l : List ℕ) (stated : Stated) (rate : ℕ) → stated ≡ Nothing → 0 < (rate_row rate).timebase → NotStrictText l rate → FactHolds l stated rate 14 (fact_by 14 rate stated (shape_of stated l))
+pub fourteen-holds : (l : List ℕ) (stated : Option ℕ) (rate : ℕ) → stated ≡ None → 0 < (rate_row rate).timebase → NotStrictText l rate → FactHolds l stated rate 14 (fact_by 14 rate stated (shape_of stated l))
 fourteen-holds l stated rate unstated some x = by x.minus refl
   where
     shown : fact_by 14 rate stated (shape_of stated l) ≡ limit_from (position_fault rate x.minus x.fields)

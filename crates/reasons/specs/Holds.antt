@@ -1,7 +1,7 @@
 -- What the fact behind a number says of the text (BEHAVIOUR: Why): the field or count that it speaks of, that this is not allowed, the nearest
 -- value that is, and that nothing to its left is at fault.
 -- Assumes nothing.
-use Rattle.std.specs.Prelude.{ℕ, zero, suc, ◌+◌, ◌*◌, ◌%◌, ◌≤◌, ◌<◌, ◌≡◌, ◌⊎◌, Bool, true, false, List, [], ◌∷◌, ℤ, pos, get_or}
+use Rattle.std.specs.Prelude.{ℕ, zero, suc, ◌+◌, ◌*◌, ◌%◌, ◌≤◌, ◌<◌, ◌≡◌, ◌⊎◌, Bool, true, false, List, [], ◌∷◌, ℤ, pos, get_or, Option, Some, None}
 use Rattle.digits.specs.Digits.{value_of}
 use Rattle.answers.specs.Refusals.{is_count}
 use Rattle.faults.specs.declared.Field.{Field}
@@ -16,10 +16,9 @@ use Rattle.labels.specs.Label.{hours_in, minutes_in, dropped_in, Strict}
 use Rattle.labels.specs.Sections.{label_number}
 use Rattle.footage_scan.specs.Shape.{FootageParts, has_perf}
 use Rattle.label_writer.specs.declared.TimecodeSections.{TimecodeSections}
-use Rattle.reading.specs.declared.Stated.{Stated}
 use Rattle.reading.specs.Statements.{LabelText, FootageText, InFormat, LabelCount, FootageCount}
 use Rattle.reasons.specs.declared.Fact.{Fact}
-use Rattle.reasons.specs.declared.Fact.TheVariants.{Nothing, Limit, First}
+use Rattle.reasons.specs.declared.Fact.TheVariants.{Limit, First}
 
 -- ---- 3
 -- the four fields of sections
@@ -43,11 +42,11 @@ pub record FirstOfMinute (rate : ℕ) (minus : Bool) (fields : List ℕ) (s : Ti
 
 -- ---- 5
 -- the exact count that a text has, before any reduction: a label's, or a footage's in its film format
-abbrev pub CountOf : (l : List ℕ) → Stated → (rate : ℕ) → ℤ → Type 0
+abbrev pub CountOf : (l : List ℕ) → Option ℕ → (rate : ℕ) → ℤ → Type 0
 CountOf l stated rate z = LabelCount l stated rate z ⊎ ((format : FilmFormat) × FootageCount l stated format z)
 
 -- it is that count which is shown, it is out of bounds, and the limit is the nearest count within them
-pub record CountFact (l : List ℕ) (stated : Stated) (rate : ℕ) (f : Fault) : Type 0 where
+pub record CountFact (l : List ℕ) (stated : Option ℕ) (rate : ℕ) (f : Fault) : Type 0 where
   pub of_count : f.field ≡ Count
   pub count : CountOf l stated rate (faults.value_of f)
   pub nearest : NearestAllowed (λ z. is_count z ≡ true) (limit_of f) (faults.value_of f)
@@ -70,7 +69,7 @@ pub data FilmFact (format : FilmFormat) (p : FootageParts) (f : Fault) : Type 0 
       → faults.value_of f ≡ pos (value_of p.perf)
       → NearestAllowed (λ x. x ≡ pos (value_of p.feet % 3)) (limit_of f) (faults.value_of f) → FilmFact format p f
 
-pub record FootageFact (l : List ℕ) (stated : Stated) (f : Fault) : Type 0 where
+pub record FootageFact (l : List ℕ) (stated : Option ℕ) (f : Fault) : Type 0 where
   pub parts : FootageParts
   pub text : FootageText l parts
   pub format : FilmFormat
@@ -101,16 +100,16 @@ pub data StrictFact (timebase : ℕ) (minus : Bool) (fields : List ℕ) (f : Fau
       → StrictFact timebase minus fields f
 
 -- ---- by number
-pub data FactHolds (l : List ℕ) (stated : Stated) (rate : ℕ) : (number : ℕ) → Fact → Type 0 where
+pub data FactHolds (l : List ℕ) (stated : Option ℕ) (rate : ℕ) : (number : ℕ) → Option Fact → Type 0 where
   -- 0, accepted; and 1, 2, 4 and 6
-  none : {n : ℕ} → (n ≤ 2) ⊎ ((n ≡ 4) ⊎ (n ≡ 6)) → FactHolds l stated rate n Nothing
+  none : {n : ℕ} → (n ≤ 2) ⊎ ((n ≡ 4) ⊎ (n ≡ 6)) → FactHolds l stated rate n None
   -- 3: the first allowed label of the text's minute
   dropped : {minus : Bool} {fields : List ℕ} {s : TimecodeSections}
-      → LabelText l minus fields → FirstOfMinute rate minus fields s → FactHolds l stated rate 3 (First s)
+      → LabelText l minus fields → FirstOfMinute rate minus fields s → FactHolds l stated rate 3 (Some (First s))
   -- 5: the count
-  out-of-bounds : {f : Fault} → CountFact l stated rate f → FactHolds l stated rate 5 (Limit f)
+  out-of-bounds : {f : Fault} → CountFact l stated rate f → FactHolds l stated rate 5 (Some (Limit f))
   -- 13: a field of a footage
-  not-on-film : {f : Fault} → FootageFact l stated f → FactHolds l stated rate 13 (Limit f)
+  not-on-film : {f : Fault} → FootageFact l stated f → FactHolds l stated rate 13 (Some (Limit f))
   -- 14: the sign of a label, or a field
   not-strict : {minus : Bool} {fields : List ℕ} {f : Fault}
-      → LabelText l minus fields → StrictFact (rate_row rate).timebase minus fields f → FactHolds l stated rate 14 (Limit f)
+      → LabelText l minus fields → StrictFact (rate_row rate).timebase minus fields f → FactHolds l stated rate 14 (Some (Limit f))

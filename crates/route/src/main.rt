@@ -1,18 +1,20 @@
 // Tells which shards of a reel a query must ask (docs/ROUTING.md): the directory of the shards is a file, each line of standard input a
-// query. What the lines are and what is told is routing's, which shards are asked the router's; here are the arguments, the buffers, the
-// reads and the writes.
+// query. What the lines are and what is told is routing's, which shards are asked the router's; here are the arguments and the buffers, and
+// inputs' reads and writes.
 #![tactic(auto)]
 
-use file::Loads;
-use routing::{Flaw, Loading};
+use file::{Halt, Lines};
+use inputs::UntilUnread;
+use queries::Reel;
+use routing::Flaw;
 use std::env::{Env, FillError};
 use std::io::Read;
 use std::rt::Files;
 use std::{fs, io};
+use streams::Sheet;
 
 mod file;
 mod queries;
-mod sheet;
 
 // How to ask, to standard error.
 fn put_usage(err: &impl Print) -> io::Result<()> {
@@ -30,66 +32,35 @@ fn put_unread(err: &impl Print, path: &[u8]) -> io::Result<()> {
 
 // A bad line of the file, by its number, to standard error.
 fn put_bad(err: &impl Print, line: u64, flaw: Flaw) -> io::Result<()> {
-    let mut out = [0u8; 4096];
-    let used = routing::tell_flaw(&mut out, 0, line, flaw);
-    if used <= out.len() {
-        err.write_all(&out[0..used])?;
-    }
-    Ok(())
+    let mut sheet = Sheet::<4096>::new();
+    routing::tell_flaw(&mut sheet, line, flaw);
+    inputs::write_out(err, &mut sheet)
 }
 
-// The queries, asked of the directory that was loaded. (That it has more shards than the lists cannot be.)
+// The queries, asked of the directory that was loaded, where it has a rate and a reel.
 fn answer(
-    rt: &impl Print,
-    input: &mut impl Read,
-    state: Loading,
-    firsts: &[u64],
-    ends: &[u64],
-) -> io::Result<()> {
-    let n = state.shards;
-    if firsts.len() < n {
-        return Ok(());
-    }
-    if ends.len() < n {
-        return Ok(());
-    }
-    let d = router::tested(state.rate, &firsts[0..n], &ends[0..n]);
-    queries::answer_all(rt, input, d, state.reel)
-}
-
-// The directory, where no line of it is bad and it has a rate and a reel.
-fn answer_whole(
     rt: &impl Print,
     err: &impl Print,
     input: &mut impl Read,
-    l: Loads,
+    lines: &Lines,
 ) -> io::Result<()> {
-    let state = l.state;
-    let flaw = l.flaw;
-    let firsts = l.firsts;
-    let ends = l.ends;
-    if l.bad {
-        return put_bad(err, l.lines, flaw);
-    }
-    if !state.headed {
+    let Some(head) = lines.state.head else {
         return err.write_all(b"no line with rate and reel\n");
-    }
-    answer(rt, input, state, &firsts, &ends)
+    };
+    let reel = Reel {
+        number: head.reel,
+        shards: lines.directory(head.rate),
+    };
+    queries::answer_all(rt, input, &reel)
 }
 
-// The lines of the file, where it can be opened and read. A path is text: one that is not UTF-8 names no file that can be opened.
-fn loaded(rt: &impl Files, path: &[u8]) -> Option<Loads> {
+// The lines of the file. A path is text: one that is not UTF-8 names no file that can be opened.
+fn loaded(rt: &impl Files, path: &[u8]) -> Result<Lines, Halt> {
     let Ok(text) = str::from_utf8(path) else {
-        return None;
+        return Err(Halt::Unread);
     };
-    let Ok(mut file) = fs::open(rt, text) else {
-        return None;
-    };
-    let l = file::load_all(&mut file);
-    if l.unread {
-        return None;
-    }
-    Some(l)
+    let mut file = fs::open(rt, text)?;
+    file::load_all(&mut file)
 }
 
 // The file, opened and read.
@@ -100,65 +71,31 @@ fn answer_file(
     path: &[u8],
 ) -> io::Result<()> {
     match loaded(rt, path) {
-        None => put_unread(err, path),
-        Some(l) => answer_whole(rt, err, input, l),
+        Ok(lines) => answer(rt, err, input, &lines),
+        Err(Halt::Unread) => put_unread(err, path),
+        Err(Halt::Bad(line, flaw)) => put_bad(err, line, flaw),
     }
-}
-
-// Is this an option, of which there are none?
-fn is_option(word: &[u8]) -> bool {
-    if 0 < word.len() {
-        return word[0] == b'-';
-    }
-    true
-}
-
-// The one argument.
-fn answer_word(
-    rt: &(impl Files + Print),
-    err: &impl Print,
-    input: &mut impl Read,
-    word: &[u8],
-) -> io::Result<()> {
-    if is_option(word) {
-        return put_usage(err);
-    }
-    answer_file(rt, err, input, word)
 }
 
 // Is there such an argument, whatever its length? (That of 0 is the program's name.)
 fn has_arg(rt: &impl Env, i: usize) -> bool {
-    let mut word = [0u8; 1];
-    match rt.arg(i, &mut word) {
-        Ok(_) => true,
-        Err(FillError::TooLong) => true,
-        Err(FillError::NotPresent) => false,
-    }
+    !matches!(rt.arg(i, &mut [0; 1]), Err(FillError::NotPresent))
 }
 
-// The queries of standard input, where there is one argument.
+// The queries of standard input, where there is one argument and it is no option, of which there are none.
 fn run(rt: &(impl Env + Files + Print), err: &impl Print, input: &mut impl Read) -> io::Result<()> {
-    if !has_arg(rt, 1) {
+    let mut word = [0; 4096];
+    let Ok(n) = rt.arg(1, &mut word) else {
         return put_usage(err);
-    }
-    if has_arg(rt, 2) {
-        return put_usage(err);
-    }
-    let mut word = [0u8; 4096];
-    match rt.arg(1, &mut word) {
-        Ok(n) => answer_word(rt, err, input, &word[..n]),
-        Err(_) => put_usage(err),
-    }
-}
-
-// A reader that has gone wants no more answers: that is no failure.
-fn unless_gone(done: io::Result<()>) -> io::Result<()> {
-    match done {
-        Err(e) if e.kind() == io::ErrorKind::BrokenPipe => Ok(()),
-        other => other,
+    };
+    match &word[..n] {
+        [] | [b'-', ..] => put_usage(err),
+        _ if has_arg(rt, 2) => put_usage(err),
+        path => answer_file(rt, err, input, path),
     }
 }
 
 fn main(rt: HostRuntime) -> io::Result<()> {
-    unless_gone(run(&rt, &rt.stderr(), &mut rt.stdin()))
+    let mut input = UntilUnread { input: rt.stdin() };
+    inputs::unless_gone(run(&rt, &rt.stderr(), &mut input))
 }

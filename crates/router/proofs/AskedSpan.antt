@@ -1,9 +1,9 @@
 -- A shard is asked just where it has a frame in common with the range: the first that is asked, the last, and the answer (BEHAVIOUR: Router).
 -- Assumes nothing.
+use Rattle.router.specs.Found.{shards}
 use Rattle.std.specs.Prelude.{ℕ, zero, suc, ◌-◌, ◌≤◌, ◌<◌, max, ◌≡◌, refl, List, [], ◌∷◌, Bool, true, false, cond, eqb, length, get_or}
 use Rattle.std.proofs.Common.{ap, ◌∙◌, arith, ltb-true, eqb-true}
 use Rattle.std.proofs.lemmas.Bool.{false≢true, eqb-false}
-use Rattle.router.specs.declared.Routed.TheVariants.{Shards}
 use Rattle.router.specs.Route.{Common, is_asked, first_asked, after_asked, asked_span}
 use Rattle.router.specs.AskedLaws.{Asked, Last}
 
@@ -93,12 +93,12 @@ after_is start end (f ∷ firsts) (e ∷ ends) p h =
 
 -- ---- the answer, by which shards are asked
 pub span_none : (start end : ℕ) (firsts ends : List ℕ) → length firsts ≡ length ends
-    → ((i : ℕ) → i < length firsts → Asked start end firsts ends i → ⊥) → asked_span start end firsts ends ≡ Shards 0 0
+    → ((i : ℕ) → i < length firsts → Asked start end firsts ends i → ⊥) → asked_span start end firsts ends ≡ shards 0 0
 unfolding asked_span
 span_none start end firsts ends p never = by (eqb (after_asked start end firsts ends) 0) refl
   where
     by : (t : Bool) → eqb (after_asked start end firsts ends) 0 ≡ t
-        → cond t (Shards 0 0) (Shards (first_asked start end firsts ends) (after_asked start end firsts ends)) ≡ Shards 0 0
+        → cond t (shards 0 0) (shards (first_asked start end firsts ends) (after_asked start end firsts ends)) ≡ shards 0 0
     by true e = refl
     by false e =
         let n : ¬ (after_asked start end firsts ends ≡ 0) = eqb-false (after_asked start end firsts ends) 0 e in
@@ -109,7 +109,7 @@ span_none start end firsts ends p never = by (eqb (after_asked start end firsts 
 pub span-is : (start end : ℕ) (firsts ends : List ℕ) (lo hi : ℕ) → length firsts ≡ length ends → lo < hi → hi ≤ length firsts
     → ((i : ℕ) → lo ≤ i → i < hi → Asked start end firsts ends i)
     → ((i : ℕ) → i < length firsts → Asked start end firsts ends i → (lo ≤ i) × (i < hi))
-    → asked_span start end firsts ends ≡ Shards lo hi
+    → asked_span start end firsts ends ≡ shards lo hi
 unfolding asked_span
 span-is start end firsts ends lo hi p s h all only =
     let below = first_below start end firsts ends lo p (omega arith) (all lo (omega arith) s) in
@@ -122,6 +122,6 @@ span-is start end firsts ends lo hi p s h all only =
     by (eqb (after_asked start end firsts ends) 0) refl one two
   where
     by : (t : Bool) → eqb (after_asked start end firsts ends) 0 ≡ t → first_asked start end firsts ends ≡ lo → after_asked start end firsts ends ≡ hi
-        → cond t (Shards 0 0) (Shards (first_asked start end firsts ends) (after_asked start end firsts ends)) ≡ Shards lo hi
+        → cond t (shards 0 0) (shards (first_asked start end firsts ends) (after_asked start end firsts ends)) ≡ shards lo hi
     by true e one two = let z = eqb-true (after_asked start end firsts ends) 0 e in absurd (omega (arith, z, two))
-    by false e one two = ap (λ (n : ℕ). Shards n (after_asked start end firsts ends)) one ∙ ap (Shards lo) two
+    by false e one two = ap (λ (n : ℕ). shards n (after_asked start end firsts ends)) one ∙ ap (shards lo) two

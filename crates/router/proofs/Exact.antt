@@ -1,6 +1,7 @@
 -- The shards that are asked are exactly those that have a frame in common with the range, and only one answer says so.
 -- Assumes nothing.
-use Prim.Native.Nat.{ℕ, ◌+◌, ◌-◌, ◌≤◌, ◌<◌, max, min}
+use Rattle.router.specs.Found.{shards}
+use Prim.Native.Nat.{ℕ, ◌≤◌, ◌<◌, max, min}
 use native.Mathlib.Omega.{arith}
 use mathlib.Core.Path.{◌≡◌, refl, sym, ap, ◌∙◌, subst}
 use mathlib.Core.List.{List}
@@ -8,13 +9,12 @@ use mathlib.Core.Bool.{Bool, true, false}
 use borrow.Author.Tests.{ltb-true, ltb-false, leb-true, leb-false}
 use lib.Dec.{leb, ltb}
 use lib.ListN.{length, get_or}
-use Rattle.router.specs.declared.Routed.TheVariants.{Shards}
 use Rattle.router.specs.Directory.{Rules}
 use Rattle.router.specs.Route.{Common, asked_span, first_of, after_of}
 use Rattle.router.specs.AskedLaws.{Asked, common-asked}
 use Rattle.router.proofs.AskedSpan.{asked-common, span_none, span-is}
 use Rattle.router.proofs.HalvedSpan.{lo, hi, high, from-lo, under-hi, between}
-use Rattle.router.specs.Statements.{Between, Exactly, Together}
+use Rattle.router.specs.Statements.{Exactly, Together}
 
 module _ (day : ℕ) (firsts ends : List ℕ) (start end : ℕ) (r : Rules day firsts ends) where
   -- none is asked
@@ -40,7 +40,7 @@ module _ (day : ℕ) (firsts ends : List ℕ) (start end : ℕ) (r : Rules day f
   pub record Answered : Type 0 where
     pub first : ℕ
     pub after : ℕ
-    pub is : asked_span start end firsts ends ≡ Shards first after
+    pub is : asked_span start end firsts ends ≡ shards first after
     pub exactly : Exactly firsts ends start end first after
 
   pub answered : Answered
@@ -68,27 +68,27 @@ module _ (day : ℕ) (firsts ends : List ℕ) (start end : ℕ) (r : Rules day f
           omega (arith, from-lo day start end firsts ends r i h a, under-hi day start end firsts ends r i h a, ltb-false (lo day start end firsts ends r) (hi day start end firsts ends r) f))
 
   -- and no other answer is
-  pub span-exactly : (p q : ℕ) → asked_span start end firsts ends ≡ Shards p q → Exactly firsts ends start end p q
+  pub span-exactly : (p q : ℕ) → asked_span start end firsts ends ≡ shards p q → Exactly firsts ends start end p q
   span-exactly p q h =
       let a = answered in
       let e = sym a.is ∙ h in
       subst (λ (k : ℕ). Exactly firsts ends start end p k) (ap after_of e)
       (subst (λ (k : ℕ). Exactly firsts ends start end k a.after) (ap first_of e) a.exactly)
 
-  pub exactly-one : (p q : ℕ) → Exactly firsts ends start end p q → asked_span start end firsts ends ≡ Shards p q
+  pub exactly-one : (p q : ℕ) → Exactly firsts ends start end p q → asked_span start end firsts ends ≡ shards p q
   exactly-one p q x = by (ltb p q) refl
     where
       one : (i : ℕ) → i < length firsts → Asked start end firsts ends i → (p ≤ i) × (i < q)
       one i h a = (x.asked i h).1 (asked-common start end firsts ends i a)
 
-      by : (t : Bool) → ltb p q ≡ t → asked_span start end firsts ends ≡ Shards p q
+      by : (t : Bool) → ltb p q ≡ t → asked_span start end firsts ends ≡ shards p q
       by true e =
           span-is start end firsts ends p q r.paired (ltb-true p q e) x.inside
           (λ i h k. let c = (x.asked i (omega (arith, k, x.inside))).0 (h, k) in common-asked start end firsts ends i c.0 c.1) one
       by false e =
           let z = x.none (ltb-false p q e) in
           span_none start end firsts ends r.paired (λ i h a. let b = one i h a in omega (arith, b.0, b.1, z.0, z.1))
-          ∙ ap (λ (k : ℕ). Shards k 0) (sym z.0) ∙ ap (Shards p) (sym z.1)
+          ∙ ap (λ (k : ℕ). shards k 0) (sym z.0) ∙ ap (shards p) (sym z.1)
 
 -- ---- the asked shards stand together
 together-by : (day : ℕ) (firsts ends : List ℕ) (start end i k j : ℕ) → Rules day firsts ends → i ≤ k → k ≤ j → j < length firsts

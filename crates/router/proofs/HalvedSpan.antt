@@ -1,14 +1,14 @@
 -- The shards that halving finds are those that walking finds (BEHAVIOUR: Router).
 -- Assumes nothing.
-use Rattle.std.specs.Prelude.{ℕ, ◌+◌, ◌≤◌, ◌<◌, max, min, ◌≡◌, List, Bool, length, get_or}
+use Rattle.answers.specs.declared.Refusal.{Refusal}
+use Rattle.router.specs.declared.query.Frames.{Frames}
+use Rattle.router.specs.Found.{shards}
+use Rattle.std.specs.Prelude.{ℕ, ◌+◌, ◌≤◌, ◌<◌, max, min, ◌≡◌, List, Bool, length, get_or, Err, Ok, Result}
 use Rattle.std.proofs.Math.Path.{refl, sym}
 use Rattle.std.proofs.Common.{arith}
 use Rattle.std.proofs.Math.Bool.{true, false, cond}
 use borrow.Author.Tests.{lt-ltb, ltb-true, ltb-false, leb-true, leb-false}
 use Rattle.std.proofs.Math.Dec.{leb, ltb}
-use Rattle.router.specs.declared.Routed.TheVariants.{Shards}
-use Rattle.router.specs.declared.query.Ranged.{Ranged}
-use Rattle.router.specs.declared.query.Ranged.TheVariants.{Frames, Refused}
 use Rattle.router.specs.Directory.{Rules}
 use Rattle.router.specs.Route.{asked_span, asked_in}
 use Rattle.router.specs.Halving.{halved, halved_span, found_in}
@@ -64,7 +64,7 @@ module _ (day start end : ℕ) (firsts ends : List ℕ) (r : Rules day firsts en
   halves_walk = by (leb end start) (ltb lo hi) refl refl
     where
       by : (s t : Bool) → leb end start ≡ s → ltb lo hi ≡ t
-          → cond s (Shards 0 0) (cond t (Shards lo hi) (Shards 0 0)) ≡ asked_span start end firsts ends
+          → cond s (shards 0 0) (cond t (shards lo hi) (shards 0 0)) ≡ asked_span start end firsts ends
       by true t e f =
           sym (span_none start end firsts ends r.paired (λ i h a.
           let m = ltb-true (max (get_or firsts i 0) start) (min (get_or ends i 0) end) a in omega (arith, m, leb-true end start e)))
@@ -74,6 +74,6 @@ module _ (day start end : ℕ) (firsts ends : List ℕ) (r : Rules day firsts en
           sym (span_none start end firsts ends r.paired (λ i h a. omega (arith, from-lo i h a, under-hi i h a, ltb-false lo hi f)))
 
 -- so of any range
-pub found-asked : (day : ℕ) (firsts ends : List ℕ) → Rules day firsts ends → (x : Ranged) → found_in firsts ends x ≡ asked_in firsts ends x
-found-asked day firsts ends r (Frames start end) = halves_walk day start end firsts ends r
-found-asked day firsts ends r (Refused e) = refl
+pub found-asked : (day : ℕ) (firsts ends : List ℕ) → Rules day firsts ends → (x : Result Frames Refusal) → found_in firsts ends x ≡ asked_in firsts ends x
+found-asked day firsts ends r (Ok frames) = halves_walk day frames.start frames.end firsts ends r
+found-asked day firsts ends r (Err e) = refl

@@ -1,9 +1,11 @@
 -- Every question has one of six outcomes, and its outcome says why: a refusal in its order, or the shards of a query.
 -- Assumes nothing.
-use Prim.Native.Nat.{ℕ, ◌+◌, ◌≤◌, ◌<◌}
+use Rattle.router.specs.declared.Shards.{Shards}
+use Rattle.std.specs.Prelude.{None, Err, Result}
+use Prim.Native.Nat.{ℕ, ◌+◌}
 use native.Mathlib.Omega.{arith}
 use mathlib.Core.Path.{◌≡◌, refl, sym, ap, ◌∙◌, subst}
-use mathlib.Core.Logic.{◌⊎◌, inl, inr, ⊎_elim}
+use mathlib.Core.Logic.{⊎_elim}
 use mathlib.Core.List.{List}
 use mathlib.Core.Bool.{Bool, true, false, false≢true}
 use borrow.Author.Tests.{ltb-true, ltb-false}
@@ -14,16 +16,10 @@ use Rattle.answers.specs.Refusals.{no_such, broken_directory, out_of_bounds, pas
 use Rattle.rates.specs.Rates.{is_rate}
 use Rattle.rates.specs.Day.{day_frames}
 use Rattle.timecodes.specs.declared.kinds.Kind.TheVariants.{Position}
-use Rattle.timecodes.specs.Timecode.{position}
-use Rattle.reading.specs.declared.Stated.TheVariants.{Nothing}
-use Rattle.reading.specs.declared.Read.TheVariants as read
 use Rattle.reading.specs.For.{label_for}
 use Rattle.reading.specs.Positions.{DayText}
 use Rattle.reading.specs.LabelOnly.{LabelsOwn}
 use Rattle.reading.proofs.LabelOnly.{label_position, label_or_own}
-use Rattle.router.specs.declared.Routed.{Routed}
-use Rattle.router.specs.declared.Routed.TheVariants.{Shards, Refused}
-use Rattle.router.specs.declared.query.Ranged.TheVariants as ranged
 use Rattle.router.specs.Directory.{Rules, is_directory}
 use Rattle.router.specs.Query.{is_length, range_from, range_at, range_of}
 use Rattle.router.specs.Route.{asked_span, asked_in, route_of}
@@ -33,11 +29,11 @@ use Rattle.router.specs.Statements.{Good, LengthOf, BadLength, Asks, PastDay, Qu
 
 -- ---- the range, by the label and the length
 module _ (rate : ℕ) (r : is_rate rate ≡ true) (z : ℤ) (text : List ℕ) where
-  pub range-label : (e : Refusal) → label_for Position text rate ≡ read.Refused e → range_of rate z text ≡ ranged.Refused e
+  pub range-label : (e : Refusal) → label_for Position text rate ≡ Err e → range_of rate z text ≡ Err e
   unfolding range_of
   range-label e h = ap (range_from rate z) h
 
-  pub range-start : (start : ℕ) → DayText text Nothing rate start → range_of rate z text ≡ range_at rate z (pos start)
+  pub range-start : (start : ℕ) → DayText text None rate start → range_of rate z text ≡ range_at rate z (pos start)
   unfolding range_of
   range-start start d = ap (range_from rate z) ((label_position text rate start r).1 d)
 
@@ -57,11 +53,11 @@ length-held z n k = ap is_length k.0 ∙ length-in n k.1
 
 -- ---- what each condition gives
 module _ (rate : ℕ) (firsts ends : List ℕ) (z : ℤ) (text : List ℕ) where
-  pub route-no-rate : is_rate rate ≡ false → route_of rate firsts ends z text ≡ Refused no_such
+  pub route-no-rate : is_rate rate ≡ false → route_of rate firsts ends z text ≡ Err no_such
   unfolding route_of
   route-no-rate e = simp e
 
-  pub route-broken : is_rate rate ≡ true → is_directory (day_frames rate) firsts ends ≡ false → route_of rate firsts ends z text ≡ Refused broken_directory
+  pub route-broken : is_rate rate ≡ true → is_directory (day_frames rate) firsts ends ≡ false → route_of rate firsts ends z text ≡ Err broken_directory
   unfolding route_of
   route-broken r e = simp (r, e)
 
@@ -69,16 +65,16 @@ module _ (rate : ℕ) (firsts ends : List ℕ) (z : ℤ) (text : List ℕ) where
   unfolding route_of
   route-good g = simp (g.rated, rules-pass (day_frames rate) firsts ends g.rules)
 
-  pub route-label : Good rate firsts ends → (e : Refusal) → label_for Position text rate ≡ read.Refused e → route_of rate firsts ends z text ≡ Refused e
+  pub route-label : Good rate firsts ends → (e : Refusal) → label_for Position text rate ≡ Err e → route_of rate firsts ends z text ≡ Err e
   route-label g e h = route-good g ∙ ap (asked_in firsts ends) (range-label rate g.rated z text e h)
 
-  pub route-length : BadLength rate firsts ends z text → route_of rate firsts ends z text ≡ Refused out_of_bounds
+  pub route-length : BadLength rate firsts ends z text → route_of rate firsts ends z text ≡ Err out_of_bounds
   route-length b =
       let g = b.good in
       route-good g
       ∙ ap (asked_in firsts ends) (range-start rate g.rated z text b.start b.label ∙ range-out rate z (pos b.start) (length-out z b.outside))
 
-  pub route-past : PastDay rate firsts ends z text → route_of rate firsts ends z text ≡ Refused past_day
+  pub route-past : PastDay rate firsts ends z text → route_of rate firsts ends z text ≡ Err past_day
   route-past p =
       let a = p.asks in
       let g = a.good in
@@ -100,16 +96,16 @@ module _ (rate : ℕ) (firsts ends : List ℕ) (z : ℤ) (text : List ℕ) where
       ∙ ap (λ (k : ℕ). asked_span start (start + k) firsts ends) m
 
 -- ---- the outcome
-pub data Outcome (rate : ℕ) (firsts ends : List ℕ) (z : ℤ) (text : List ℕ) : Routed → Type 0 where
-  no_rate : is_rate rate ≡ false → Outcome rate firsts ends z text (Refused no_such)
-  broken : is_rate rate ≡ true → (¬ Rules (day_frames rate) firsts ends) → Outcome rate firsts ends z text (Refused broken_directory)
-  own : Good rate firsts ends → (e : Refusal) → LabelsOwn e → label_for Position text rate ≡ read.Refused e → Outcome rate firsts ends z text (Refused e)
-  bad_length : BadLength rate firsts ends z text → Outcome rate firsts ends z text (Refused out_of_bounds)
-  past : PastDay rate firsts ends z text → Outcome rate firsts ends z text (Refused past_day)
+pub data Outcome (rate : ℕ) (firsts ends : List ℕ) (z : ℤ) (text : List ℕ) : Result Shards Refusal → Type 0 where
+  no_rate : is_rate rate ≡ false → Outcome rate firsts ends z text (Err no_such)
+  broken : is_rate rate ≡ true → (¬ Rules (day_frames rate) firsts ends) → Outcome rate firsts ends z text (Err broken_directory)
+  own : Good rate firsts ends → (e : Refusal) → LabelsOwn e → label_for Position text rate ≡ Err e → Outcome rate firsts ends z text (Err e)
+  bad_length : BadLength rate firsts ends z text → Outcome rate firsts ends z text (Err out_of_bounds)
+  past : PastDay rate firsts ends z text → Outcome rate firsts ends z text (Err past_day)
   asked : (start n : ℕ) → Query rate firsts ends z text start n → Outcome rate firsts ends z text (asked_span start (start + n) firsts ends)
 
 module _ (rate : ℕ) (firsts ends : List ℕ) (z : ℤ) (text : List ℕ) where
-  abbrev Of : Routed → Type 0
+  abbrev Of : Result Shards Refusal → Type 0
   Of r = Outcome rate firsts ends z text r
 
   by-day : (start n : ℕ) → Asks rate firsts ends z text start n → (t : Bool) → ltb (day_frames rate) (start + n) ≡ t → Of (route_of rate firsts ends z text)
@@ -120,7 +116,7 @@ module _ (rate : ℕ) (firsts ends : List ℕ) (z : ℤ) (text : List ℕ) where
       let q : Query rate firsts ends z text start n = record { asks = a; within = ltb-false (day_frames rate) (start + n) e } in
       subst Of (sym (route-query rate firsts ends z text start n q)) (asked start n q)
 
-  by_length : Good rate firsts ends → (start : ℕ) → DayText text Nothing rate start → (t : Bool) → is_length z ≡ t → Of (route_of rate firsts ends z text)
+  by_length : Good rate firsts ends → (start : ℕ) → DayText text None rate start → (t : Bool) → is_length z ≡ t → Of (route_of rate firsts ends z text)
   by_length g start d true e =
       let k = length-told z e in
       by-day start k.0 (record { good = g; label = d; of_length = k.1 }) (ltb (day_frames rate) (start + k.0)) refl

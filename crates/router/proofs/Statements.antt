@@ -1,5 +1,9 @@
 -- The statements of specs/Statements.antt.
 -- Assumes nothing.
+use Rattle.router.specs.declared.query.Frames.{Frames}
+use Rattle.router.specs.Found.{shards, frames}
+use Rattle.router.specs.declared.Shards.{Shards}
+use Rattle.std.specs.Prelude.{None, Result, Ok, Err}
 use Prim.Native.Nat.{ℕ, ◌+◌, ◌-◌, ◌≤◌, ◌<◌}
 use native.Mathlib.Omega.{arith}
 use mathlib.Core.Path.{◌≡◌, refl, sym, ap, ap₂, ◌∙◌, subst}
@@ -11,24 +15,18 @@ use borrow.Author.Tests.{ltb-true, ltb-false}
 use lib.IntN.{ℤ, pos, nat_abs}
 use lib.ListN.{length, take}
 use Rattle.answers.specs.declared.Refusal.{Refusal}
-use Rattle.answers.specs.declared.Verdict.{Verdict}
-use Rattle.answers.specs.declared.Verdict.TheVariants as verdict
-use Rattle.answers.specs.Refusals.{refusal, no_such}
+use Rattle.answers.specs.Causes.{refusal_number}
+use Rattle.answers.specs.Causes.{refusal}
+use Rattle.answers.specs.Refusals.{no_such}
 use Rattle.answers.specs.Order.{judged}
 use Rattle.answers.specs.OrderLaws.{judged-refused, judged-clear, unless-clear, not_in}
 use Rattle.rates.specs.Rates.{is_rate}
 use Rattle.rates.specs.Day.{day_frames}
 use Rattle.timecodes.specs.declared.kinds.Kind.TheVariants.{Position}
-use Rattle.reading.specs.declared.Stated.TheVariants.{Nothing}
-use Rattle.reading.specs.declared.Read.TheVariants as read
 use Rattle.reading.specs.For.{label_for}
 use Rattle.reading.specs.Positions.{DayText}
 use Rattle.reading.specs.LabelOnly.{LabelsOwn}
 use Rattle.reading.proofs.LabelOnly.{label_no_rate, label_position, label_or_own}
-use Rattle.router.specs.declared.Routed.{Routed}
-use Rattle.router.specs.declared.Routed.TheVariants.{Shards, Refused}
-use Rattle.router.specs.declared.query.Ranged.{Ranged}
-use Rattle.router.specs.declared.query.Ranged.TheVariants as ranged
 use Rattle.router.specs.Directory.{Rules, is_directory, directory_when}
 use Rattle.router.specs.Query.{is_length, range_from, range_of}
 use Rattle.router.specs.Route.{first_asked, after_asked, asked_span, asked_in, route_of, number_of}
@@ -53,30 +51,30 @@ span-number : (start end : ℕ) (firsts ends : List ℕ) → number_of (asked_sp
 unfolding asked_span
 span-number start end firsts ends = by (eqb (after_asked start end firsts ends) 0)
   where
-    by : (t : Bool) → number_of (cond t (Shards 0 0) (Shards (first_asked start end firsts ends) (after_asked start end firsts ends))) ≡ 0
+    by : (t : Bool) → number_of (cond t (shards 0 0) (shards (first_asked start end firsts ends) (after_asked start end firsts ends))) ≡ 0
     by true = refl
     by false = refl
 
-abbrev kind_of : Routed → ℕ
-kind_of (Shards first after) = 0
-kind_of (Refused e) = 1
+abbrev kind_of : Result Shards Refusal → ℕ
+kind_of (Ok shards) = 0
+kind_of (Err e) = 1
 
 span-kind : (start end : ℕ) (firsts ends : List ℕ) → kind_of (asked_span start end firsts ends) ≡ 0
 unfolding asked_span
 span-kind start end firsts ends = by (eqb (after_asked start end firsts ends) 0)
   where
-    by : (t : Bool) → kind_of (cond t (Shards 0 0) (Shards (first_asked start end firsts ends) (after_asked start end firsts ends))) ≡ 0
+    by : (t : Bool) → kind_of (cond t (shards 0 0) (shards (first_asked start end firsts ends) (after_asked start end firsts ends))) ≡ 0
     by true = refl
     by false = refl
 
 -- the label's own are 1, 2, 14 and 3
-own-not : (e : Refusal) (n : ℕ) → LabelsOwn e → e.number ≡ n → 3 < n → ¬ (n ≡ 14) → ⊥
+own-not : (e : Refusal) (n : ℕ) → LabelsOwn e → refusal_number e ≡ n → 3 < n → ¬ (n ≡ 14) → ⊥
 own-not e n (inl a) k h m = omega (arith, a, k, h)
 own-not e n (inr (inl a)) k h m = omega (arith, a, k, h)
 own-not e n (inr (inr (inl a))) k h m = m (sym k ∙ a)
 own-not e n (inr (inr (inr a))) k h m = omega (arith, a, k, h)
 
-own-some : (e : Refusal) → LabelsOwn e → 0 < e.number
+own-some : (e : Refusal) → LabelsOwn e → 0 < (refusal_number e)
 own-some e (inl a) = omega (arith, a)
 own-some e (inr (inl a)) = omega (arith, a)
 own-some e (inr (inr (inl a))) = omega (arith, a)
@@ -84,10 +82,10 @@ own-some e (inr (inr (inr a))) = omega (arith, a)
 
 -- ---- what an outcome tells
 module _ (rate : ℕ) (firsts ends : List ℕ) (z : ℤ) (text : List ℕ) where
-  abbrev Of : Routed → Type 0
+  abbrev Of : Result Shards Refusal → Type 0
   Of r = Outcome rate firsts ends z text r
 
-  six : (r : Routed) → Of r → number_of r ≡ 6 → is_rate rate ≡ false
+  six : (r : Result Shards Refusal) → Of r → number_of r ≡ 6 → is_rate rate ≡ false
   six r (no_rate h) k = h
   six r (broken h b) k = absurd (omega (arith, k))
   six r (own g e o h) k = absurd (own-not e 6 o k (omega arith) (λ m. omega (arith, m)))
@@ -95,7 +93,7 @@ module _ (rate : ℕ) (firsts ends : List ℕ) (z : ℤ) (text : List ℕ) where
   six r (past p) k = absurd (omega (arith, k))
   six r (asked start n q) k = let m = sym (span-number start (start + n) firsts ends) ∙ k in absurd (omega (arith, m))
 
-  sixteen : (r : Routed) → Of r → number_of r ≡ 16 → (is_rate rate ≡ true) × (¬ Rules (day_frames rate) firsts ends)
+  sixteen : (r : Result Shards Refusal) → Of r → number_of r ≡ 16 → (is_rate rate ≡ true) × (¬ Rules (day_frames rate) firsts ends)
   sixteen r (no_rate h) k = absurd (omega (arith, k))
   sixteen r (broken h b) k = (h, b)
   sixteen r (own g e o h) k = absurd (own-not e 16 o k (omega arith) (λ m. omega (arith, m)))
@@ -103,7 +101,7 @@ module _ (rate : ℕ) (firsts ends : List ℕ) (z : ℤ) (text : List ℕ) where
   sixteen r (past p) k = absurd (omega (arith, k))
   sixteen r (asked start n q) k = let m = sym (span-number start (start + n) firsts ends) ∙ k in absurd (omega (arith, m))
 
-  five : (r : Routed) → Of r → number_of r ≡ 5 → BadLength rate firsts ends z text
+  five : (r : Result Shards Refusal) → Of r → number_of r ≡ 5 → BadLength rate firsts ends z text
   five r (no_rate h) k = absurd (omega (arith, k))
   five r (broken h b) k = absurd (omega (arith, k))
   five r (own g e o h) k = absurd (own-not e 5 o k (omega arith) (λ m. omega (arith, m)))
@@ -111,7 +109,7 @@ module _ (rate : ℕ) (firsts ends : List ℕ) (z : ℤ) (text : List ℕ) where
   five r (past p) k = absurd (omega (arith, k))
   five r (asked start n q) k = let m = sym (span-number start (start + n) firsts ends) ∙ k in absurd (omega (arith, m))
 
-  seventeen : (r : Routed) → Of r → number_of r ≡ 17 → PastDay rate firsts ends z text
+  seventeen : (r : Result Shards Refusal) → Of r → number_of r ≡ 17 → PastDay rate firsts ends z text
   seventeen r (no_rate h) k = absurd (omega (arith, k))
   seventeen r (broken h b) k = absurd (omega (arith, k))
   seventeen r (own g e o h) k = absurd (own-not e 17 o k (omega arith) (λ m. omega (arith, m)))
@@ -120,35 +118,35 @@ module _ (rate : ℕ) (firsts ends : List ℕ) (z : ℤ) (text : List ℕ) where
   seventeen r (asked start n q) k = let m = sym (span-number start (start + n) firsts ends) ∙ k in absurd (omega (arith, m))
 
   -- the refusal that a label has
-  abbrev refusal-in : Refusal → Routed → Refusal
-  refusal-in other (Shards first after) = other
-  refusal-in other (Refused e) = e
+  abbrev refusal-in : Refusal → Result Shards Refusal → Refusal
+  refusal-in other (Ok shards) = other
+  refusal-in other (Err e) = e
 
-  by-label : (r : Routed) → Of r → (e : Refusal) → LabelsOwn e → r ≡ Refused e → Good rate firsts ends × (label_for Position text rate ≡ read.Refused e)
+  by-label : (r : Result Shards Refusal) → Of r → (e : Refusal) → LabelsOwn e → r ≡ Err e → Good rate firsts ends × (label_for Position text rate ≡ Err e)
   by-label r (no_rate h) e o k = absurd (own-not e 6 o (sym (ap number_of k)) (omega arith) (λ m. omega (arith, m)))
   by-label r (broken h b) e o k = absurd (own-not e 16 o (sym (ap number_of k)) (omega arith) (λ m. omega (arith, m)))
-  by-label r (own g f p h) e o k = (g, h ∙ ap read.Refused (ap (refusal-in f) k))
+  by-label r (own g f p h) e o k = (g, h ∙ ap Err (ap (refusal-in f) k))
   by-label r (bad_length b) e o k = absurd (own-not e 5 o (sym (ap number_of k)) (omega arith) (λ m. omega (arith, m)))
   by-label r (past p) e o k = absurd (own-not e 17 o (sym (ap number_of k)) (omega arith) (λ m. omega (arith, m)))
   by-label r (asked start n q) e o k =
       let m = sym (span-number start (start + n) firsts ends) ∙ ap number_of k in absurd (omega (arith, m, own-some e o))
 
   -- the query of shards
-  pub record Queried (r : Routed) : Type 0 where
+  pub record Queried (r : Result Shards Refusal) : Type 0 where
     pub start : ℕ
     pub n : ℕ
     pub query : Query rate firsts ends z text start n
     pub is : asked_span start (start + n) firsts ends ≡ r
 
-  shards : (r : Routed) → Of r → number_of r ≡ 0 → Queried r
-  shards r (no_rate h) k = absurd (omega (arith, k))
-  shards r (broken h b) k = absurd (omega (arith, k))
-  shards r (own g e o h) k = absurd (omega (arith, k, own-some e o))
-  shards r (bad_length b) k = absurd (omega (arith, k))
-  shards r (past p) k = absurd (omega (arith, k))
-  shards r (asked start n q) k = record { start = start; n = n; query = q; is = refl }
+  shards-of : (r : Result Shards Refusal) → Of r → number_of r ≡ 0 → Queried r
+  shards-of r (no_rate h) k = absurd (omega (arith, k))
+  shards-of r (broken h b) k = absurd (omega (arith, k))
+  shards-of r (own g e o h) k = absurd (omega (arith, k, own-some e o))
+  shards-of r (bad_length b) k = absurd (omega (arith, k))
+  shards-of r (past p) k = absurd (omega (arith, k))
+  shards-of r (asked start n q) k = record { start = start; n = n; query = q; is = refl }
 
-  numbers : (r : Routed) → Of r → (e : Refusal) → r ≡ Refused e
+  numbers : (r : Result Shards Refusal) → Of r → (e : Refusal) → r ≡ Err e
       → LabelsOwn e ⊎ ((e ≡ refusal 6) ⊎ ((e ≡ refusal 16) ⊎ ((e ≡ refusal 5) ⊎ (e ≡ refusal 17))))
   numbers r (no_rate h) e k = inr (inl (sym (ap (refusal-in e) k)))
   numbers r (broken h b) e k = inr (inr (inl (sym (ap (refusal-in e) k))))
@@ -158,7 +156,7 @@ module _ (rate : ℕ) (firsts ends : List ℕ) (z : ℤ) (text : List ℕ) where
   numbers r (asked start n q) e k = let m = sym (span-kind start (start + n) firsts ends) ∙ ap kind_of k in absurd (omega (arith, m))
 
   -- what the shards of a query are
-  exact-for : (start n first after : ℕ) → Query rate firsts ends z text start n → route_of rate firsts ends z text ≡ Shards first after
+  exact-for : (start n first after : ℕ) → Query rate firsts ends z text start n → route_of rate firsts ends z text ≡ shards first after
       → Exactly firsts ends start (start + n) first after
   exact-for start n first after q e =
       span-exactly (day_frames rate) firsts ends start (start + n) q.asks.good.rules first after
@@ -166,26 +164,26 @@ module _ (rate : ℕ) (firsts ends : List ℕ) (z : ℤ) (text : List ℕ) where
 
 -- ---- the test of a directory
 -- by its two tests
-data Tested (rate : ℕ) (firsts ends : List ℕ) : Verdict → Type 0 where
-  none_such : is_rate rate ≡ false → Tested rate firsts ends (verdict.Refused (refusal 6))
-  breaks : is_rate rate ≡ true → (¬ Rules (day_frames rate) firsts ends) → Tested rate firsts ends (verdict.Refused (refusal 16))
-  keeps : Good rate firsts ends → Tested rate firsts ends verdict.Passed
+data Tested (rate : ℕ) (firsts ends : List ℕ) : Result (Unit {0}) Refusal → Type 0 where
+  none_such : is_rate rate ≡ false → Tested rate firsts ends (Err (refusal 6))
+  breaks : is_rate rate ≡ true → (¬ Rules (day_frames rate) firsts ends) → Tested rate firsts ends (Err (refusal 16))
+  keeps : Good rate firsts ends → Tested rate firsts ends (Ok tt)
 
-abbrev verdict_number : Verdict → ℕ
-verdict_number verdict.Passed = 0
-verdict_number (verdict.Refused e) = e.number
+abbrev verdict_number : Result (Unit {0}) Refusal → ℕ
+verdict_number (Ok tt) = 0
+verdict_number (Err e) = refusal_number e
 
 module _ (rate : ℕ) (firsts ends : List ℕ) where
-  abbrev given : Verdict
+  abbrev given : Result (Unit {0}) Refusal
   given = judged (directory_when rate firsts ends)
 
-  given-six : is_rate rate ≡ false → given ≡ verdict.Refused (refusal 6)
+  given-six : is_rate rate ≡ false → given ≡ Err (refusal 6)
   given-six e = simp e
 
-  given-sixteen : is_rate rate ≡ true → is_directory (day_frames rate) firsts ends ≡ false → given ≡ verdict.Refused (refusal 16)
+  given-sixteen : is_rate rate ≡ true → is_directory (day_frames rate) firsts ends ≡ false → given ≡ Err (refusal 16)
   given-sixteen r e = simp (r, e)
 
-  given-passed : is_rate rate ≡ true → is_directory (day_frames rate) firsts ends ≡ true → given ≡ verdict.Passed
+  given-passed : is_rate rate ≡ true → is_directory (day_frames rate) firsts ends ≡ true → given ≡ (Ok tt)
   given-passed r e = simp (r, e)
 
   by-test : is_rate rate ≡ true → (t : Bool) → is_directory (day_frames rate) firsts ends ≡ t → Tested rate firsts ends given
@@ -198,17 +196,17 @@ module _ (rate : ℕ) (firsts ends : List ℕ) where
   by-rate true r = by-test r (is_directory (day_frames rate) firsts ends) refl
   by-rate false r = subst (Tested rate firsts ends) (sym (given-six r)) (none_such r)
 
-  told-passed : (v : Verdict) → Tested rate firsts ends v → verdict_number v ≡ 0 → Good rate firsts ends
+  told-passed : (v : Result (Unit {0}) Refusal) → Tested rate firsts ends v → verdict_number v ≡ 0 → Good rate firsts ends
   told-passed v (none_such h) k = absurd (omega (arith, k))
   told-passed v (breaks h b) k = absurd (omega (arith, k))
   told-passed v (keeps g) k = g
 
-  told-six : (v : Verdict) → Tested rate firsts ends v → verdict_number v ≡ 6 → is_rate rate ≡ false
+  told-six : (v : Result (Unit {0}) Refusal) → Tested rate firsts ends v → verdict_number v ≡ 6 → is_rate rate ≡ false
   told-six v (none_such h) k = h
   told-six v (breaks h b) k = absurd (omega (arith, k))
   told-six v (keeps g) k = absurd (omega (arith, k))
 
-  told-sixteen : (v : Verdict) → Tested rate firsts ends v → verdict_number v ≡ 16 → (is_rate rate ≡ true) × (¬ Rules (day_frames rate) firsts ends)
+  told-sixteen : (v : Result (Unit {0}) Refusal) → Tested rate firsts ends v → verdict_number v ≡ 16 → (is_rate rate ≡ true) × (¬ Rules (day_frames rate) firsts ends)
   told-sixteen v (none_such h) k = absurd (omega (arith, k))
   told-sixteen v (breaks h b) k = (h, b)
   told-sixteen v (keeps g) k = absurd (omega (arith, k))
@@ -275,7 +273,7 @@ numbers_given rate firsts ends z text e k = numbers rate firsts ends z text _ (o
 pub route_exactly : RouteExactly
 route_exactly rate firsts ends z text first after = (
   λ e.
-      let s = shards rate firsts ends z text _ (outcome rate firsts ends z text) (ap number_of e) in (
+      let s = shards-of rate firsts ends z text _ (outcome rate firsts ends z text) (ap number_of e) in (
         s.start,
         (
           s.n,
@@ -314,23 +312,23 @@ end_frame rate firsts ends z text start n first after q e i h =
     )
 
 -- ---- the range
-abbrev start_in : Ranged → ℕ
-start_in (ranged.Frames start end) = start
-start_in (ranged.Refused e) = 0
+abbrev start_in : Result Frames Refusal → ℕ
+start_in (Ok frames) = frames.start
+start_in (Err e) = 0
 
-abbrev end_in : Ranged → ℕ
-end_in (ranged.Frames start end) = end
-end_in (ranged.Refused e) = 0
+abbrev end_in : Result Frames Refusal → ℕ
+end_in (Ok frames) = frames.end
+end_in (Err e) = 0
 
-abbrev is_range : Ranged → ℕ
-is_range (ranged.Frames start end) = 1
-is_range (ranged.Refused e) = 0
+abbrev is_range : Result Frames Refusal → ℕ
+is_range (Ok frames) = 1
+is_range (Err e) = 0
 
 abbrev Ranges : (rate : ℕ) (z : ℤ) (text : List ℕ) (start end : ℕ) → Type 0
-Ranges rate z text start end = DayText text Nothing rate start × ((n : ℕ) × (LengthOf z n × ((end ≡ start + n) × (end ≤ day_frames rate))))
+Ranges rate z text start end = DayText text None rate start × ((n : ℕ) × (LengthOf z n × ((end ≡ start + n) × (end ≤ day_frames rate))))
 
-module _ (rate : ℕ) (z : ℤ) (text : List ℕ) (start end : ℕ) (r : is_rate rate ≡ true) (e : range_of rate z text ≡ ranged.Frames start end) where
-  range-by-day : (k n : ℕ) → DayText text Nothing rate k → LengthOf z n → (t : Bool) → ltb (day_frames rate) (k + n) ≡ t → Ranges rate z text start end
+module _ (rate : ℕ) (z : ℤ) (text : List ℕ) (start end : ℕ) (r : is_rate rate ≡ true) (e : range_of rate z text ≡ frames start end) where
+  range-by-day : (k n : ℕ) → DayText text None rate k → LengthOf z n → (t : Bool) → ltb (day_frames rate) (k + n) ≡ t → Ranges rate z text start end
   range-by-day k n d l true f =
       let m : nat_abs z ≡ n = ap nat_abs l.0 in
       let h = range-start rate r z text k d ∙ range-past rate z (pos k) (length-held z n l) (omega (arith, m, ltb-true (day_frames rate) (k + n) f)) in
@@ -342,9 +340,9 @@ module _ (rate : ℕ) (z : ℤ) (text : List ℕ) (start end : ℕ) (r : is_rate
       let h = range-start rate r z text k d ∙ range-in rate z (pos k) (length-held z n l) (omega (arith, m, u)) in
       let a : k ≡ start = sym (ap start_in h) ∙ ap start_in e in
       let b : k + nat_abs z ≡ end = sym (ap end_in h) ∙ ap end_in e in
-      (subst (λ (j : ℕ). DayText text Nothing rate j) a d, (n, (l, (omega (arith, a, b, m), omega (arith, b, m, u)))))
+      (subst (λ (j : ℕ). DayText text None rate j) a d, (n, (l, (omega (arith, a, b, m), omega (arith, b, m, u)))))
 
-  range-by-length : (k : ℕ) → DayText text Nothing rate k → (t : Bool) → is_length z ≡ t → Ranges rate z text start end
+  range-by-length : (k : ℕ) → DayText text None rate k → (t : Bool) → is_length z ≡ t → Ranges rate z text start end
   range-by-length k d true f = let l = length-told z f in range-by-day k l.0 d l.1 (ltb (day_frames rate) (k + l.0)) refl
   range-by-length k d false f =
       let h = range-start rate r z text k d ∙ range-out rate z (pos k) f in
@@ -368,7 +366,7 @@ range_is rate z text start end r = (
       let b : start + nat_abs z ≡ end = omega (arith, m, x.1.1.1.0) in
       range-start rate r z text start x.0
       ∙ range-in rate z (pos start) (length-held z n l) (omega (arith, b, x.1.1.1.1))
-      ∙ ap (ranged.Frames start) b,
+      ∙ ap (frames start) b,
 )
 
 -- ---- what a range is refused
@@ -382,23 +380,23 @@ no-shards day = record {
   within = λ i h. absurd (omega arith);
 }
 
-abbrev range_refusal : Refusal → Ranged → Refusal
-range_refusal other (ranged.Frames start end) = other
-range_refusal other (ranged.Refused e) = e
+abbrev range_refusal : Refusal → Result Frames Refusal → Refusal
+range_refusal other (Ok frames) = other
+range_refusal other (Err e) = e
 
 -- through a directory without shards a range is refused what it is refused
-asked-refused : (e : Refusal) (x : Ranged) → asked_in [] [] x ≡ Refused e → x ≡ ranged.Refused e
-asked-refused e (ranged.Frames start end) k = let m = sym (span-kind start end [] []) ∙ ap kind_of k in absurd (omega (arith, m))
-asked-refused e (ranged.Refused f) k = let same : f ≡ e = cc in ap ranged.Refused same
+asked-refused : (e : Refusal) (x : Result Frames Refusal) → asked_in [] [] x ≡ Err e → x ≡ Err e
+asked-refused e (Ok frames) k = let m = sym (span-kind frames.start frames.end [] []) ∙ ap kind_of k in absurd (omega (arith, m))
+asked-refused e (Err f) k = let same : f ≡ e = cc in ap Err same
 
-range-no-rate : (rate : ℕ) (z : ℤ) (text : List ℕ) → is_rate rate ≡ false → range_of rate z text ≡ ranged.Refused no_such
+range-no-rate : (rate : ℕ) (z : ℤ) (text : List ℕ) → is_rate rate ≡ false → range_of rate z text ≡ Err no_such
 unfolding range_of
 range-no-rate rate z text r = ap (range_from rate z) (label_no_rate Position text rate r)
 
 pub range_refused : RangeRefused
 range_refused rate z text e = by (is_rate rate) refl
   where
-    by : (t : Bool) → is_rate rate ≡ t → (range_of rate z text ≡ ranged.Refused e) ↔ (route_of rate [] [] z text ≡ Refused e)
+    by : (t : Bool) → is_rate rate ≡ t → (range_of rate z text ≡ Err e) ↔ (route_of rate [] [] z text ≡ Err e)
     by true r =
         let good : Good rate [] [] = record { rated = r; rules = no-shards (day_frames rate) } in
         let same = route-good rate [] [] z text good in
@@ -406,7 +404,7 @@ range_refused rate z text e = by (is_rate rate) refl
     by false r =
         let a = range-no-rate rate z text r in
         let b = route-no-rate rate [] [] z text r in
-        (λ h. b ∙ ap Refused (ap (range_refusal e) (sym a ∙ h)), λ h. a ∙ ap ranged.Refused (ap (refusal-in rate [] [] z text e) (sym b ∙ h)))
+        (λ h. b ∙ ap Err (ap (range_refusal e) (sym a ∙ h)), λ h. a ∙ ap Err (ap (refusal-in rate [] [] z text e) (sym b ∙ h)))
 
 -- ---- how they are found
 pub halves_walk : HalvesWalk
@@ -420,8 +418,8 @@ pub tested_once : TestedOnce
 unfolding routed_in directory_of route_of
 tested_once rate firsts ends z text = by (judged (directory_when rate firsts ends)) refl
   where
-    by : (v : Verdict) → judged (directory_when rate firsts ends) ≡ v → routed_by (directory_of rate firsts ends) z text v ≡ route_of rate firsts ends z text
-    by verdict.Passed e =
+    by : (v : Result (Unit {0}) Refusal) → judged (directory_when rate firsts ends) ≡ v → routed_by (directory_of rate firsts ends) z text v ≡ route_of rate firsts ends z text
+    by (Ok tt) e =
         let clear = judged-clear (directory_when rate firsts ends) e in
         let rules = rules-told (day_frames rate) firsts ends (not_in _ clear.1.0) in
         let a = kept_back firsts rules.few in
@@ -429,8 +427,8 @@ tested_once rate firsts ends z text = by (judged (directory_when rate firsts end
         ap (λ (k : ℕ). take k (kept_of ends)) rules.paired ∙ kept_back ends (omega (arith, rules.few, rules.paired)) in
         ap₂ (λ x y. found_in x y (range_of rate z text)) a b
         ∙ halving.found-asked (day_frames rate) firsts ends rules (range_of rate z text)
-        ∙ sym (unless-clear Refused (directory_when rate firsts ends) (asked_in firsts ends (range_of rate z text)) clear)
-    by (verdict.Refused e) h = sym (judged-refused (directory_when rate firsts ends) e h Refused (asked_in firsts ends (range_of rate z text)))
+        ∙ sym (unless-clear Err (directory_when rate firsts ends) (asked_in firsts ends (range_of rate z text)) clear)
+    by (Err e) h = sym (judged-refused (directory_when rate firsts ends) e h Err (asked_in firsts ends (range_of rate z text)))
 
 pub verdict_kept : VerdictKept
 unfolding directory_of

@@ -1,10 +1,10 @@
 -- The search by halving (BEHAVIOUR: Router), in any list; that it gives what walking gives is said in Statements.antt.
 -- Assumes nothing.
-use Rattle.std.specs.Prelude.{ℕ, zero, suc, ◌+◌, ◌-◌, ◌/◌, List, cond, leb, ltb, length, get_or}
-use Rattle.router.specs.declared.Routed.{Routed}
-use Rattle.router.specs.declared.Routed.TheVariants.{Shards, Refused}
-use Rattle.router.specs.declared.query.Ranged.{Ranged}
-use Rattle.router.specs.declared.query.Ranged.TheVariants as ranged
+use Rattle.router.specs.declared.query.Frames.{Frames}
+use Rattle.router.specs.Found.{shards}
+use Rattle.answers.specs.declared.Refusal.{Refusal}
+use Rattle.router.specs.declared.Shards.{Shards}
+use Rattle.std.specs.Prelude.{ℕ, zero, suc, ◌+◌, ◌-◌, ◌/◌, List, cond, leb, ltb, length, get_or, Err, Result, Ok}
 
 -- the middle of a part
 abbrev pub middle : (lo hi : ℕ) → ℕ
@@ -20,11 +20,11 @@ unfoldable pub halved : (v : ℕ) → List ℕ → ℕ
 halved v l = halved_from (length l) v l 0 (length l)
 
 -- the shards behind those that end by the start, and before those that begin at the end or later
-unfoldable pub halved_span : (start end : ℕ) (firsts ends : List ℕ) → Routed
+unfoldable pub halved_span : (start end : ℕ) (firsts ends : List ℕ) → Result Shards Refusal
 halved_span start end firsts ends =
-    cond (leb end start) (Shards 0 0)
-    (cond (ltb (halved (start + 1) ends) (halved end firsts)) (Shards (halved (start + 1) ends) (halved end firsts)) (Shards 0 0))
+    cond (leb end start) (shards 0 0)
+    (cond (ltb (halved (start + 1) ends) (halved end firsts)) (shards (halved (start + 1) ends) (halved end firsts)) (shards 0 0))
 
-abbrev pub found_in : (firsts ends : List ℕ) → Ranged → Routed
-found_in firsts ends (ranged.Frames start end) = halved_span start end firsts ends
-found_in firsts ends (ranged.Refused e) = Refused e
+abbrev pub found_in : (firsts ends : List ℕ) → Result Frames Refusal → Result Shards Refusal
+found_in firsts ends (Ok frames) = halved_span frames.start frames.end firsts ends
+found_in firsts ends (Err e) = Err e

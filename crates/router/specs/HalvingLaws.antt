@@ -2,12 +2,11 @@
 -- Assumes nothing.
 use Rattle.std.specs.Prelude.{ℕ, zero, suc, ◌+◌, ◌-◌, ◌≤◌, ◌<◌, ◌≡◌, List, Bool, length, get_or}
 use Rattle.std.proofs.Math.Path.{refl, sym}
-use Rattle.std.proofs.Common.{ap, ◌∙◌, arith}
+use Rattle.std.proofs.Common.{◌∙◌, arith}
 use Rattle.std.proofs.Math.Bool.{true, false, cond}
-use borrow.Author.Tests.{lt-ltb, le-ltb, le-leb, lt-leb, ltb-true, ltb-false}
+use borrow.Author.Tests.{lt-ltb, le-ltb, ltb-true, ltb-false}
 use Rattle.std.proofs.Math.Dec.{ltb}
-use Rattle.router.specs.declared.Routed.TheVariants.{Shards}
-use Rattle.router.specs.Halving.{middle, halved_from, halved, halved_span}
+use Rattle.router.specs.Halving.{middle, halved_from, halved}
 use Rattle.router.specs.RuleLaws.{Rising}
 
 -- ---- the loop: a turn, and the end
@@ -79,20 +78,3 @@ pub halved-parts : (v : ℕ) (l : List ℕ) → Rising l → Parted v l (halved 
 unfolding halved
 halved-parts v l r =
     parted-from (length l) v l 0 (length l) r (omega arith) (omega arith) (omega arith) (λ i k. absurd (omega arith)) (λ i k m. absurd (omega arith))
-
--- ---- as the code finds them
-pub met-empty : (start end : ℕ) (firsts ends : List ℕ) → end ≤ start → Shards 0 0 ≡ halved_span start end firsts ends
-unfolding halved_span
-met-empty start end firsts ends h = sym (rw (le-leb end start h))
-
-module _ (start end v p q : ℕ) (firsts ends : List ℕ) (h : start < end) (one : v ≡ start + 1) (e : p ≡ halved v ends) (f : q ≡ halved end firsts) where
-  lo-is : p ≡ halved (start + 1) ends
-  lo-is = e ∙ ap (λ (n : ℕ). halved n ends) one
-
-  pub met_some : p < q → Shards p q ≡ halved_span start end firsts ends
-  unfolding halved_span
-  met_some k = rw (lt-leb end start h, ← lo-is, ← f, lt-ltb p q k)
-
-  pub met-none : q ≤ p → Shards 0 0 ≡ halved_span start end firsts ends
-  unfolding halved_span
-  met-none k = rw (lt-leb end start h, ← lo-is, ← f, le-ltb p q k)

@@ -1,4 +1,5 @@
 pub mod Directory
+pub mod Found
 pub mod Query
 pub mod Route
 pub mod Halving

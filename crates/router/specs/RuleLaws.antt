@@ -1,7 +1,7 @@
 -- What the test of a directory tells (BEHAVIOUR: Router): its rules, both ways, and that firsts and ends rise.
 -- Assumes nothing.
-use Rattle.std.specs.Prelude.{ℕ, zero, suc, ◌+◌, ◌≤◌, ◌<◌, ◌≡◌, refl, List, [], ◌∷◌, Bool, true, false, cond, ◌&&◌, ltb, leb, length, get_or, drop}
-use Rattle.std.proofs.Common.{sym, ap, ◌∙◌, arith, add-one, lt-ltb, le-ltb, le-leb, ltb-true, ltb-false, leb-true, leb-false, drop_of_length-le, drop-cons}
+use Rattle.std.specs.Prelude.{ℕ, zero, suc, ◌≤◌, ◌<◌, ◌≡◌, refl, List, [], ◌∷◌, Bool, true, false, cond, ltb, leb, length, get_or}
+use Rattle.std.proofs.Common.{ap, arith, le-ltb, le-leb, ltb-true, ltb-false, leb-true, leb-false}
 use Rattle.std.proofs.Math.Bool.{and-eq-true_iff}
 use Rattle.std.proofs.lemmas.Bool.{lt-leb}
 use Rattle.router.specs.Directory.{Rules, in_order, is_directory}
@@ -126,45 +126,10 @@ module _ (day : ℕ) (firsts ends : List ℕ) (r : Rules day firsts ends) where
           omega (arith, r.some j p, r.apart i j (ltb-true i j e) p)
       by false e = let s : i ≡ j = omega (arith, ltb-false i j e) in omega (arith, ap (λ (n : ℕ). get_or ends n 0) s)
 
--- ---- the test as a loop makes it
+-- ---- as many firsts as ends, or the test fails
 pub uneven : (day low : ℕ) (firsts ends : List ℕ) → (length firsts ≡ length ends → ⊥) → false ≡ in_order day low firsts ends
 uneven day low firsts ends h = by (in_order day low firsts ends) refl
   where
     by : (t : Bool) → in_order day low firsts ends ≡ t → false ≡ t
     by true e = absurd (h (ordered day low firsts ends e).paired)
     by false e = refl
-
-order-at : (day low : ℕ) (firsts ends : List ℕ) (i : ℕ) → i < length firsts → length firsts ≡ length ends
-    → in_order day low (drop i firsts) (drop i ends)
-    ≡ cond (ltb (get_or firsts i 0) low) false
-    (cond (leb (get_or ends i 0) (get_or firsts i 0)) false
-    (cond (ltb day (get_or ends i 0)) false (in_order day (get_or ends i 0) (drop (i + 1) firsts) (drop (i + 1) ends))))
-unfolding in_order
-order-at day low firsts ends i h k =
-    let p : drop i firsts ≡ get_or firsts i 0 ∷ drop (i + 1) firsts = rw (add-one i) (drop-cons firsts i 0 h) in
-    let q : drop i ends ≡ get_or ends i 0 ∷ drop (i + 1) ends = rw (add-one i) (drop-cons ends i 0 (omega arith)) in
-    rw (p, q)
-
--- a shard fails in one of three ways, or the rest decides
-module _ (day low : ℕ) (firsts ends : List ℕ) (i : ℕ) (h : i < length firsts) (k : length firsts ≡ length ends) where
-  pub order-low : get_or firsts i 0 < low → false ≡ in_order day low (drop i firsts) (drop i ends)
-  order-low a = sym (order-at day low firsts ends i h k ∙ rw (lt-ltb (get_or firsts i 0) low a))
-
-  pub order-empty : low ≤ get_or firsts i 0 → get_or ends i 0 ≤ get_or firsts i 0 → false ≡ in_order day low (drop i firsts) (drop i ends)
-  order-empty a b = sym (order-at day low firsts ends i h k ∙ rw (le-ltb (get_or firsts i 0) low a, le-leb (get_or ends i 0) (get_or firsts i 0) b))
-
-  pub order-past : low ≤ get_or firsts i 0 → get_or firsts i 0 < get_or ends i 0 → day < get_or ends i 0 → false ≡ in_order day low (drop i firsts) (drop i ends)
-  order-past a b c =
-      sym (order-at day low firsts ends i h k
-      ∙ rw (le-ltb (get_or firsts i 0) low a, lt-leb (get_or ends i 0) (get_or firsts i 0) b, lt-ltb day (get_or ends i 0) c))
-
-  pub order-on : low ≤ get_or firsts i 0 → get_or firsts i 0 < get_or ends i 0 → get_or ends i 0 ≤ day
-      → in_order day low (drop i firsts) (drop i ends) ≡ in_order day (get_or ends i 0) (drop (i + 1) firsts) (drop (i + 1) ends)
-  order-on a b c =
-      order-at day low firsts ends i h k
-      ∙ rw (le-ltb (get_or firsts i 0) low a, lt-leb (get_or ends i 0) (get_or firsts i 0) b, le-ltb day (get_or ends i 0) c)
-
-pub order-end : (day low : ℕ) (firsts ends : List ℕ) (i : ℕ) → length firsts ≤ i → length firsts ≡ length ends
-    → in_order day low (drop i firsts) (drop i ends) ≡ true
-unfolding in_order
-order-end day low firsts ends i h k = rw (drop_of_length-le firsts {i = i} h, drop_of_length-le ends {i = i} (omega arith))

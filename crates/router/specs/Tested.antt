@@ -1,12 +1,10 @@
 -- A directory that is tested once and asked many times (BEHAVIOUR: Router).
 -- Assumes nothing.
-use Rattle.std.specs.Prelude.{ℕ, min, List, ℤ, length, take, replicate}
+use Rattle.router.specs.declared.Shards.{Shards}
+use Rattle.answers.specs.declared.Refusal.{Refusal}
+use Rattle.std.specs.Prelude.{ℕ, min, List, ℤ, length, take, replicate, Result, Ok, Err}
 use Rattle.std.proofs.Math.Seq.{paste}
-use Rattle.answers.specs.declared.Verdict.{Verdict}
-use Rattle.answers.specs.declared.Verdict.TheVariants as answers
 use Rattle.answers.specs.Order.{judged}
-use Rattle.router.specs.declared.Routed.{Routed}
-use Rattle.router.specs.declared.Routed.TheVariants.{Refused}
 use Rattle.router.specs.declared.many.Directory.{Directory}
 use Rattle.router.specs.Directory.{directory_when}
 use Rattle.router.specs.Query.{range_of}
@@ -31,13 +29,13 @@ directory_of rate firsts ends = record {
 }
 
 -- what its test gave
-abbrev pub verdict_of : Directory → Verdict
+abbrev pub verdict_of : Directory → Result (Unit {0}) Refusal
 verdict_of d = d.verdict
 
 -- behind what its test gave, the search in what is kept
-abbrev pub routed_by : Directory → (length : ℤ) (text : List ℕ) → Verdict → Routed
-routed_by d length text answers.Passed = found_in (take d.shards d.firsts) (take d.shards d.ends) (range_of d.rate length text)
-routed_by d length text (answers.Refused e) = Refused e
+abbrev pub routed_by : Directory → (length : ℤ) (text : List ℕ) → Result (Unit {0}) Refusal → Result Shards Refusal
+routed_by d length text (Ok tt) = found_in (take d.shards d.firsts) (take d.shards d.ends) (range_of d.rate length text)
+routed_by d length text (Err e) = Err e
 
-unfoldable pub routed_in : Directory → (length : ℤ) (text : List ℕ) → Routed
+unfoldable pub routed_in : Directory → (length : ℤ) (text : List ℕ) → Result Shards Refusal
 routed_in d length text = routed_by d length text (verdict_of d)

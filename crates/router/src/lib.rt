@@ -8,7 +8,7 @@ ghost use Rattle.router.specs.Query.{range_of};
 ghost use Rattle.router.specs.Route.{route_of};
 ghost use Rattle.router.specs.Halving.{found_in};
 
-use answers::{Refusal, Verdict};
+use answers::Refusal;
 
 mod many;
 mod query;
@@ -16,32 +16,40 @@ mod rules;
 mod search;
 
 pub use many::{Directory, route_tested, tested, verdict};
-pub use query::{Ranged, query_range};
+pub use query::{Frames, query_range};
 pub use rules::check_directory;
 
-// The first shard to ask and the one after the last; or why there is no answer.
+// The first shard to ask and the one after the last, both 0 where there is none.
 #[derive(Clone, Copy)]
-pub enum Routed {
-    Shards { first: usize, after: usize },
-    Refused(Refusal),
+pub struct Shards {
+    pub first: usize,
+    pub after: usize,
 }
 
 // The shards that a query asks, found by halving: those of any two lists of firsts and ends, whatever they hold.
-pub(crate) fn found(rate: u64, firsts: &[u64], ends: &[u64], length: i64, text: &[u8]) -> Routed
+pub(crate) fn found(
+    rate: u64,
+    firsts: &[u64],
+    ends: &[u64],
+    length: i64,
+    text: &[u8],
+) -> Result<Shards, Refusal>
     ensures { result ≡ found_in firsts.now ends.now (range_of rate length text.now) }
 {
-    match query::query_range(rate, length, text) {
-        Ranged::Frames { start, end } => search::met(firsts, ends, start, end),
-        Ranged::Refused(e) => Routed::Refused(e),
-    }
+    let frames = query::query_range(rate, length, text)?;
+    Ok(search::met(firsts, ends, frames))
 }
 
 // The shards of a directory that a query asks.
-pub fn route(rate: u64, firsts: &[u64], ends: &[u64], length: i64, text: &[u8]) -> Routed
+pub fn route(
+    rate: u64,
+    firsts: &[u64],
+    ends: &[u64],
+    length: i64,
+    text: &[u8],
+) -> Result<Shards, Refusal>
     ensures { result ≡ route_of rate firsts.now ends.now length text.now }
 {
-    match rules::check_directory(rate, firsts, ends) {
-        Verdict::Passed => found(rate, firsts, ends, length, text),
-        Verdict::Refused(e) => Routed::Refused(e),
-    }
+    rules::check_directory(rate, firsts, ends)?;
+    found(rate, firsts, ends, length, text)
 }

@@ -1,19 +1,19 @@
 // Which shards of rising lists of firsts and ends meet a range of frames, by halving.
-ghost use Rattle.std.specs.Prelude.{◌≡◌};
+ghost use Rattle.std.specs.Prelude.{◌≡◌, Ok};
 ghost use Rattle.router.specs.Halving.{halved, halved_span};
 
-use crate::Routed;
+use crate::Shards;
+use crate::query::Frames;
 
 // How many numbers of a rising list are below v: the part where they end is halved until nothing is left of it.
 fn halve(xs: &[u64], v: u64) -> usize
     ensures { result ≡ halved v xs.now }
 {
-    let mut lo: usize = 0;
-    let mut hi: usize = xs.len();
+    let mut lo = 0;
+    let mut hi = xs.len();
     while lo < hi {
         let mid = lo + (hi - lo) / 2;
-        let x = xs[mid];
-        if x < v {
+        if xs[mid] < v {
             lo = mid + 1;
         } else {
             hi = mid;
@@ -22,17 +22,20 @@ fn halve(xs: &[u64], v: u64) -> usize
     lo
 }
 
-// The shards that meet the frames from `start` up to `end`: behind those that end by the start, before those that begin at the end or later.
-pub(crate) fn met(firsts: &[u64], ends: &[u64], start: u64, end: u64) -> Routed
-    ensures { result ≡ halved_span start end firsts.now ends.now }
+// The shards that meet a range of frames: behind those that end by its start, before those that begin at its end or later.
+#[tactic(auto, unfolding(crate::specs::Halving::halved_span))]
+pub(crate) fn met(firsts: &[u64], ends: &[u64], frames: Frames) -> Shards
+    ensures { Ok result ≡ halved_span frames.start frames.end firsts.now ends.now }
 {
-    if end <= start {
-        return Routed::Shards { first: 0, after: 0 };
+    let none = Shards { first: 0, after: 0 };
+    if frames.end <= frames.start {
+        return none;
     }
-    let first = halve(ends, start + 1);
-    let after = halve(firsts, end);
+    let first = halve(ends, frames.start + 1);
+    let after = halve(firsts, frames.end);
     if first < after {
-        return Routed::Shards { first, after };
+        Shards { first, after }
+    } else {
+        none
     }
-    Routed::Shards { first: 0, after: 0 }
 }

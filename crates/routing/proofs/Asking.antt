@@ -1,5 +1,6 @@
--- A query by the code's tests, and that it is read exactly as the grammar has it.
+-- A query is read exactly as the grammar has it.
 -- Assumes nothing.
+use Rattle.std.specs.Prelude.{Option, Some, None}
 use Prim.Native.Nat.{ℕ, ◌+◌, ◌≤◌}
 use mathlib.Core.Path.{◌≡◌, refl, sym, ap, subst, ◌∙◌}
 use mathlib.Core.List.{List, [], ◌∷◌, ◌++◌}
@@ -10,27 +11,13 @@ use lib.ListN.{length, drop}
 use borrow.Author.Tests.{eqb-true}
 use Rattle.digits.specs.Digits.{is_byte, first_is}
 use Rattle.asking.specs.declared.values.Word.{Word}
-use Rattle.asking.specs.declared.values.Word.TheVariants.{Number, Nothing}
-use Rattle.asking.specs.Numbers.{signed_at}
+use Rattle.asking.specs.Numbers.{some_word, signed_at}
 use Rattle.asking.proofs.NumberLaws.{stands-within}
 use Rattle.asking.proofs.Numerals.{signed-taken, signed-left, signed-told}
-use Rattle.routing.specs.declared.queries.Query.TheVariants.{Asked, NotUnderstood}
-use Rattle.routing.specs.Queries.{asked_at, asked_by, query_of}
+use Rattle.routing.specs.declared.queries.Query.{Query}
+use Rattle.routing.specs.Queries.{Asked, NotUnderstood, asked_at, asked_by, query_of}
 use Rattle.routing.specs.Grammar.{Asks, asks}
 use Rattle.routing.specs.Statements.{Understood, QueryUnderstood}
-
-module _ (length : ℤ) (next : ℕ) (l : List ℕ) where
-  pub asked-some : first_is (is_byte 32) l ≡ true → Asked length (next + 1) ≡ asked_at length next l
-  unfolding asked_at
-  asked-some e = rw e
-
-  pub asked-none : first_is (is_byte 32) l ≡ false → NotUnderstood ≡ asked_at length next l
-  unfolding asked_at
-  asked-none e = rw e
-
-pub query-by : (line : List ℕ) (w : Word) → w ≡ signed_at 0 line → asked_by line w ≡ query_of line
-unfolding query_of
-query-by line w e = rw e
 
 -- ---- as the grammar has it
 understood : {line : List ℕ} {z : ℤ} {t : List ℕ} → Asks line z t → Understood line z t
@@ -43,9 +30,17 @@ understood {line} {z} {t} (asks {d} n) =
       rest = signed-left line (0 + length d) (32 ∷ []) t left;
     }
 
+abbrev length-in : ℤ → Option Query → ℤ
+length-in z (Some query) = query.length
+length-in z None = z
+
+abbrev label-in : ℕ → Option Query → ℕ
+label-in at (Some query) = query.label
+label-in at None = at
+
 record Told (line : List ℕ) (z : ℤ) (at : ℕ) : Type 0 where
   next : ℕ
-  number : signed_at 0 line ≡ Number z next
+  number : signed_at 0 line ≡ some_word z next
   space : first_is (is_byte 32) (drop next line) ≡ true
   at_is : at ≡ next + 1
 
@@ -53,13 +48,13 @@ told : (line : List ℕ) (z : ℤ) (at : ℕ) → query_of line ≡ Asked z at �
 unfolding query_of asked_at
 told line z at e = by (signed_at 0 line) refl e
   where
-    by : (w : Word) → signed_at 0 line ≡ w → asked_by line w ≡ Asked z at → Told line z at
-    by (Number y next) p f = go (first_is (is_byte 32) (drop next line)) refl f
+    by : (w : Option Word) → signed_at 0 line ≡ w → asked_by line w ≡ Asked z at → Told line z at
+    by (Some word) p f = go (first_is (is_byte 32) (drop word.next line)) refl f
       where
-        go : (t : Bool) → first_is (is_byte 32) (drop next line) ≡ t → cond t (Asked y (next + 1)) NotUnderstood ≡ Asked z at → Told line z at
-        go true q g = let v : y ≡ z = cc in record { next = next; number = p ∙ ap (λ x. Number x next) v; space = q; at_is = cc }
+        go : (t : Bool) → first_is (is_byte 32) (drop word.next line) ≡ t → cond t (Asked word.number (word.next + 1)) NotUnderstood ≡ Asked z at → Told line z at
+        go true q g = let v : word.number ≡ z = ap (length-in z) g in record { next = word.next; number = p ∙ ap (λ x. some_word x word.next) v; space = q; at_is = sym (ap (label-in at) g) }
         go false q g = let x : ◌≡◌ {A = ℕ} 0 1 = cc in absurd (omega arith)
-    by Nothing p f = let x : ◌≡◌ {A = ℕ} 0 1 = cc in absurd (omega arith)
+    by None p f = let x : ◌≡◌ {A = ℕ} 0 1 = cc in absurd (omega arith)
 
 stands-front : (b : ℕ) (l : List ℕ) → first_is (is_byte b) l ≡ true → l ≡ b ∷ drop 1 l
 stands-front b [] e = let z : ◌≡◌ {A = ℕ} 0 1 = cc in absurd (omega arith)

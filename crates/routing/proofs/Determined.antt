@@ -1,5 +1,9 @@
 -- Each public function's contract allows one outcome: two that meet its equations are equal.
 -- Assumes nothing.
+use Prim.Native.Nat.{ℕ}
+use denote.Param.{number}
+use mir.Syntax.{w64}
+use mir.Val.{Fits}
 use mathlib.Core.Path.{sym, ap, ◌∙◌}
 use Rattle.outcomes.specs.Outcome.{Determined}
 use Rattle.routing.specs.contracts.entries.entry_of as entry_of
@@ -24,11 +28,11 @@ new-determined κs a asked x y p q = ap (λ z. (z, x.1)) (p ∙ sym q)
 pub load-determined : Determined load.ended load-reads.Asked load-reads.Learnt
 load-determined κs a asked x y p q = ap (λ z. (z, x.1)) (p ∙ sym q)
 
-pub tell-flaw-determined : Determined tell-flaw.ended tell-flaw-reads.Asked tell-flaw-reads.Learnt
-tell-flaw-determined κs a asked x y p q = ap (λ z. (z, x.1)) (p.0 ∙ sym q.0) ∙ ap (λ z. (y.0, (z, x.1.1))) (p.1 ∙ sym q.1)
+pub tell-flaw-determined : (N : ℕ) (fits : Fits w64 N) → Determined (tell-flaw.ended (number N)) (tell-flaw-reads.Asked N fits) (tell-flaw-reads.Learnt N fits)
+tell-flaw-determined N fits κs a asked x y p q = ap (λ z. (x.0, (z, x.1.1))) (p ∙ sym q)
 
 pub query-of-determined : Determined query-of.ended query-of-reads.Asked query-of-reads.Learnt
 query-of-determined κs a asked x y p q = ap (λ z. (z, x.1)) (p ∙ sym q)
 
-pub answer-determined : Determined answer.ended answer-reads.Asked answer-reads.Learnt
-answer-determined κs a asked x y p q = ap (λ z. (z, x.1)) (p.0 ∙ sym q.0) ∙ ap (λ z. (y.0, (z, x.1.1))) (p.1 ∙ sym q.1)
+pub answer-determined : (N : ℕ) (fits : Fits w64 N) → Determined (answer.ended (number N)) (answer-reads.Asked N fits) (answer-reads.Learnt N fits)
+answer-determined N fits κs a asked x y p q = ap (λ z. (x.0, (z, x.1.1))) (p ∙ sym q)

@@ -1,27 +1,25 @@
 -- A file is loaded exactly when its lines spell a directory that keeps the router's rules.
 -- Assumes nothing.
+use Rattle.std.specs.Prelude.{Result}
 use Prim.Native.Nat.{ℕ, suc, ◌+◌, ◌≤◌, ◌<◌}
 use mathlib.Core.Path.{◌≡◌, refl, sym, ap, subst, ◌∙◌}
 use mathlib.Core.List.{List, [], ◌∷◌}
-use mathlib.Core.Bool.{Bool, true, false, cond, not, and-eq-true_iff}
+use mathlib.Core.Bool.{Bool, true, false, and-eq-true_iff}
 use native.Mathlib.Omega.{arith}
 use lib.Dec.{leb}
-use lib.ListN.{length, get_or}
+use lib.ListN.{length}
 use borrow.Author.Tests.{le-leb, lt-leb, le-ltb}
-use Rattle.answers.specs.Order.{judged}
-use Rattle.answers.specs.declared.Verdict.TheVariants.{Passed}
 use Rattle.rates.specs.Rates.{is_rate}
 use Rattle.rates.specs.Day.{day_frames}
 use Rattle.streams.specs.Gathering.{Kept}
-use Rattle.router.specs.Directory.{Rules, in_order, is_directory, directory_when}
+use Rattle.router.specs.Directory.{Rules, in_order, is_directory}
 use Rattle.router.specs.RuleLaws.{Ordered, rules-told, rules-pass}
 use Rattle.router.specs.Tested.{directory_of}
 use Rattle.routing.specs.declared.loading.Loading.{Loading}
-use Rattle.routing.specs.declared.loading.Flaw.TheVariants.{TooLong}
+use Rattle.routing.specs.declared.loading.Flaw.{Flaw}
 use Rattle.routing.specs.declared.loading.Loaded.{Loaded}
-use Rattle.routing.specs.declared.loading.Loaded.TheVariants.{Skipped, Head, Shard, Bad}
-use Rattle.routing.specs.Grammar.{SaysNothing, SaysTwo, SpellsShards, no_shard, empty_line, shard_line, Spells, front_line, head_line}
-use Rattle.routing.specs.Loading.{no_line, with_head, with_shard, loaded_by, load_of, Directory, whole, broken, with_one, behind_one, loaded_from, loaded_of}
+use Rattle.routing.specs.Grammar.{SaysNothing, SpellsShards, no_shard, empty_line, shard_line, Spells, front_line, head_line}
+use Rattle.routing.specs.Loading.{Skipped, Headed, Shard, is_headed, rate_in, reel_in, no_line, with_head, with_shard, loaded_by, load_of, Directory, whole, broken, with_one, behind_one, loaded_from}
 use Rattle.routing.specs.Statements.{Loads, Right, FileLoaded, LoadedPasses}
 use Rattle.routing.proofs.Spelt.{line_skipped}
 use Rattle.routing.proofs.Taking.{Told, head, shard, skipped, bad, told, line-over, head_loaded, shard_loaded}
@@ -48,11 +46,11 @@ onward first end (broken n f) t firsts ends e = absurd (not-whole n e)
 -- ---- what it tells that shards were loaded
 record Shards (s : Loading) (lines : List Kept) (t : Loading) (firsts ends : List ℕ) : Type 0 where
   spells : SpellsShards lines firsts ends
-  order : in_order (day_frames s.rate) s.last firsts ends ≡ true
+  order : in_order (day_frames (rate_in s)) s.last firsts ends ≡ true
   few : s.shards + length firsts ≤ 256
-  headed : t.headed ≡ true
-  rate_is : t.rate ≡ s.rate
-  reel_is : t.reel ≡ s.reel
+  headed : is_headed t ≡ true
+  rate_is : rate_in t ≡ rate_in s
+  reel_is : reel_in t ≡ reel_in s
   count : t.shards ≡ s.shards + length firsts
 
 -- a line that is kept whole
@@ -71,7 +69,7 @@ ordered-more : (day low first end : ℕ) (firsts ends : List ℕ) → low ≤ fi
 unfolding in_order
 ordered-more day low first end firsts ends a b c r = rw (le-ltb first low a, lt-leb end first b, le-ltb day end c) r
 
-shards : (before : ℕ) (s : Loading) (lines : List Kept) (t : Loading) (firsts ends : List ℕ) → s.headed ≡ true → s.shards ≤ 256
+shards : (before : ℕ) (s : Loading) (lines : List Kept) (t : Loading) (firsts ends : List ℕ) → is_headed s ≡ true → s.shards ≤ 256
     → loaded_from before s lines ≡ whole t firsts ends → Shards s lines t firsts ends
 unfolding loaded_from in_order
 shards before s [] t [] [] h m e =
@@ -80,9 +78,9 @@ shards before s [] t [] [] h m e =
       spells = no_shard;
       order = refl;
       few = omega (arith, m);
-      headed = ap (λ (z : Loading). z.headed) (sym v) ∙ h;
-      rate_is = ap (λ (z : Loading). z.rate) (sym v);
-      reel_is = ap (λ (z : Loading). z.reel) (sym v);
+      headed = ap (λ (z : Loading). is_headed z) (sym v) ∙ h;
+      rate_is = ap (λ (z : Loading). rate_in z) (sym v);
+      reel_is = ap (λ (z : Loading). reel_in z) (sym v);
       count = omega (arith, ap (λ (z : Loading). z.shards) v);
     }
 shards before s [] t [] (b ∷ ends) h m e = let z : ◌≡◌ {A = ℕ} 0 1 = cc in absurd (omega arith)
@@ -91,9 +89,9 @@ shards before s (k ∷ lines) t firsts ends h m e =
     let q = line_of before s k (λ u. loaded_from (before + 1) u lines) t firsts ends e in
     by (λ u. shards (before + 1) u lines) (told s k.bytes) q.0 q.1
   where
-    by : ((u : Loading) (t : Loading) (firsts ends : List ℕ) → u.headed ≡ true → u.shards ≤ 256
+    by : ((u : Loading) (t : Loading) (firsts ends : List ℕ) → is_headed u ≡ true → u.shards ≤ 256
         → loaded_from (before + 1) u lines ≡ whole t firsts ends → Shards u lines t firsts ends)
-        → {r : Loaded} → Told s k.bytes r → k.over ≡ false
+        → {r : Result Loaded Flaw} → Told s k.bytes r → k.over ≡ false
         → behind_one before s (λ u. loaded_from (before + 1) u lines) r ≡ whole t firsts ends → Shards s (k ∷ lines) t firsts ends
     by rec (head n f p q) o e = absurd (never (sym h ∙ f))
     by rec (skipped n) o e =
@@ -106,9 +104,9 @@ shards before s (k ∷ lines) t firsts ends h m e =
         record {
           spells = subst (λ z. SpellsShards (k ∷ lines) z ends) (sym w.firsts_are)
               (subst (λ z. SpellsShards (k ∷ lines) (first ∷ w.firsts') z) (sym w.ends_are) (shard_line o n r.spells));
-          order = ap (λ z. in_order (day_frames s.rate) s.last z ends) w.firsts_are
-              ∙ ap (in_order (day_frames s.rate) s.last (first ∷ w.firsts')) w.ends_are
-              ∙ ordered-more (day_frames s.rate) s.last first end w.firsts' w.ends' p.after p.some p.within r.order;
+          order = ap (λ z. in_order (day_frames (rate_in s)) s.last z ends) w.firsts_are
+              ∙ ap (in_order (day_frames (rate_in s)) s.last (first ∷ w.firsts')) w.ends_are
+              ∙ ordered-more (day_frames (rate_in s)) s.last first end w.firsts' w.ends' p.after p.some p.within r.order;
           few = omega (arith, r.few, long);
           headed = r.headed;
           rate_is = r.rate_is;
@@ -119,34 +117,34 @@ shards before s (k ∷ lines) t firsts ends h m e =
 
 -- ---- and that rate and reel were
 record Loaded' (lines : List Kept) (t : Loading) (firsts ends : List ℕ) : Type 0 where
-  spells : Spells lines t.rate t.reel firsts ends
-  rated : is_rate t.rate ≡ true
-  most : t.reel ≤ 4294967295
-  rules : Rules (day_frames t.rate) firsts ends
+  spells : Spells lines (rate_in t) (reel_in t) firsts ends
+  rated : is_rate (rate_in t) ≡ true
+  most : (reel_in t) ≤ 4294967295
+  rules : Rules (day_frames (rate_in t)) firsts ends
 
 rules-of : (day : ℕ) (firsts ends : List ℕ) → length firsts ≤ 256 → in_order day 0 firsts ends ≡ true → Rules day firsts ends
 unfolding is_directory
 rules-of day firsts ends h e =
     rules-told day firsts ends ((and-eq-true_iff (leb (length firsts) 256) (in_order day 0 firsts ends)).1 (le-leb (length firsts) 256 h, e))
 
-file : (before : ℕ) (s : Loading) (lines : List Kept) (t : Loading) (firsts ends : List ℕ) → s.headed ≡ false → t.headed ≡ true
+file : (before : ℕ) (s : Loading) (lines : List Kept) (t : Loading) (firsts ends : List ℕ) → is_headed s ≡ false → is_headed t ≡ true
     → loaded_from before s lines ≡ whole t firsts ends → Loaded' lines t firsts ends
 unfolding loaded_from
 file before s [] t firsts ends h g e =
-    let v : s ≡ t = cc in absurd (never (sym g ∙ ap (λ (z : Loading). z.headed) (sym v) ∙ h))
+    let v : s ≡ t = cc in absurd (never (sym g ∙ ap (λ (z : Loading). is_headed z) (sym v) ∙ h))
 file before s (k ∷ lines) t firsts ends h g e =
     let q = line_of before s k (λ u. loaded_from (before + 1) u lines) t firsts ends e in
     by (λ x. file (before + 1) s lines t firsts ends h g x) (told s k.bytes) q.0 q.1
   where
     by : (loaded_from (before + 1) s lines ≡ whole t firsts ends → Loaded' lines t firsts ends)
-        → {r : Loaded} → Told s k.bytes r → k.over ≡ false
+        → {r : Result Loaded Flaw} → Told s k.bytes r → k.over ≡ false
         → behind_one before s (λ u. loaded_from (before + 1) u lines) r ≡ whole t firsts ends → Loaded' (k ∷ lines) t firsts ends
     by rec (head {rate = rate} {reel = reel} n f p q) o e =
         let r = shards (before + 1) (with_head rate reel) lines t firsts ends refl (omega arith) e in
-        let a : t.rate ≡ rate = r.rate_is in
-        let b : t.reel ≡ reel = r.reel_is in
+        let a : (rate_in t) ≡ rate = r.rate_is in
+        let b : (reel_in t) ≡ reel = r.reel_is in
         record {
-          spells = subst (λ z. Spells (k ∷ lines) z t.reel firsts ends) (sym a)
+          spells = subst (λ z. Spells (k ∷ lines) z (reel_in t) firsts ends) (sym a)
               (subst (λ z. Spells (k ∷ lines) rate z firsts ends) (sym b) (head_line o n r.spells));
           rated = ap is_rate a ∙ p;
           most = omega (arith, b, q);
@@ -162,7 +160,7 @@ right : (lines : List Kept) (rate reel : ℕ) (firsts ends : List ℕ) → Loads
 right lines rate reel firsts ends l =
     let r = file 0 no_line lines l.state firsts ends refl l.headed l.is in
     record {
-      spells = subst (λ z. Spells lines z reel firsts ends) l.rate_is (subst (λ z. Spells lines l.state.rate z firsts ends) l.reel_is r.spells);
+      spells = subst (λ z. Spells lines z reel firsts ends) l.rate_is (subst (λ z. Spells lines (rate_in l.state) z firsts ends) l.reel_is r.spells);
       rated = ap is_rate (sym l.rate_is) ∙ r.rated;
       most = omega (arith, l.reel_is, r.most);
       rules = subst (λ z. Rules (day_frames z) firsts ends) l.rate_is r.rules;
@@ -172,17 +170,17 @@ right lines rate reel firsts ends l =
 record Done (before : ℕ) (s : Loading) (lines : List Kept) (firsts ends : List ℕ) : Type 0 where
   state : Loading
   is : loaded_from before s lines ≡ whole state firsts ends
-  headed : state.headed ≡ true
-  rate_is : state.rate ≡ s.rate
-  reel_is : state.reel ≡ s.reel
+  headed : is_headed state ≡ true
+  rate_is : rate_in state ≡ rate_in s
+  reel_is : reel_in state ≡ reel_in s
   count : state.shards ≡ s.shards + length firsts
 
 nothing-load : (s : Loading) (k : Kept) → k.over ≡ false → SaysNothing k.bytes → load_of s k.bytes k.over ≡ Skipped
 unfolding load_of
 nothing-load s k o n = rw o (ap (loaded_by s) ((line_skipped k.bytes).0 n))
 
-done : (before : ℕ) (s : Loading) (lines : List Kept) (firsts ends : List ℕ) → s.headed ≡ true → s.shards + length firsts ≤ 256
-    → SpellsShards lines firsts ends → Ordered (day_frames s.rate) s.last firsts ends → Done before s lines firsts ends
+done : (before : ℕ) (s : Loading) (lines : List Kept) (firsts ends : List ℕ) → is_headed s ≡ true → s.shards + length firsts ≤ 256
+    → SpellsShards lines firsts ends → Ordered (day_frames (rate_in s)) s.last firsts ends → Done before s lines firsts ends
 unfolding loaded_from
 done before s lines firsts ends h m no_shard r =
     record { state = s; is = refl; headed = h; rate_is = refl; reel_is = refl; count = omega arith }
@@ -208,7 +206,7 @@ done before s lines firsts ends h m (shard_line {k = k} {lines = others} {first 
       within = r.within 0 (omega arith);
       is = refl;
     }) in
-    let rest : Ordered (day_frames s.rate) end fs es = record {
+    let rest : Ordered (day_frames (rate_in s)) end fs es = record {
       paired = omega (arith, r.paired);
       above = λ i q. r.apart 0 (suc i) (omega arith) (omega arith);
       some = λ i q. r.some (suc i) (omega arith);
@@ -228,12 +226,12 @@ done before s lines firsts ends h m (shard_line {k = k} {lines = others} {first 
 record Whole (before : ℕ) (s : Loading) (lines : List Kept) (rate reel : ℕ) (firsts ends : List ℕ) : Type 0 where
   state : Loading
   is : loaded_from before s lines ≡ whole state firsts ends
-  headed : state.headed ≡ true
-  rate_is : state.rate ≡ rate
-  reel_is : state.reel ≡ reel
+  headed : is_headed state ≡ true
+  rate_is : rate_in state ≡ rate
+  reel_is : reel_in state ≡ reel
   count : state.shards ≡ length firsts
 
-all : (before : ℕ) (s : Loading) (lines : List Kept) (rate reel : ℕ) (firsts ends : List ℕ) → s.headed ≡ false → is_rate rate ≡ true → reel ≤ 4294967295
+all : (before : ℕ) (s : Loading) (lines : List Kept) (rate reel : ℕ) (firsts ends : List ℕ) → is_headed s ≡ false → is_rate rate ≡ true → reel ≤ 4294967295
     → Rules (day_frames rate) firsts ends → Spells lines rate reel firsts ends → Whole before s lines rate reel firsts ends
 unfolding loaded_from
 all before s lines rate reel firsts ends h p q r (front_line {k = k} {lines = others} o n w) =
@@ -247,7 +245,7 @@ all before s lines rate reel firsts ends h p q r (front_line {k = k} {lines = ot
       count = d.count;
     }
 all before s lines rate reel firsts ends h p q r (head_line {k = k} {lines = others} o n w) =
-    let load : load_of s k.bytes k.over ≡ Head (with_head rate reel) =
+    let load : load_of s k.bytes k.over ≡ Headed (with_head rate reel) =
     ap (load_of s k.bytes) o
     ∙ (head_loaded s k.bytes (with_head rate reel)).0
     (record { rate = rate; reel = reel; says = n; none = h; rated = p; most = q; is = refl }) in

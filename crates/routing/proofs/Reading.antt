@@ -9,31 +9,20 @@ use native.Mathlib.Numerals.{add-one}
 use lib.Dec.{eqb, ltb}
 use lib.ListN.{length, drop, get_or, drop_of_length-le}
 use lib.Seq.{drop-cons, drop-drop}
-use borrow.Author.Tests.{eq-eqb, ne_eqb, eqb-true}
-use Rattle.numbers.specs.Sign.{signed, up_from}
-use Rattle.digits.specs.Digits.{is_byte, is_digit, value_of, first_is, digit_first, span, leading}
+use borrow.Author.Tests.{eqb-true}
+use Rattle.std.specs.Prelude.{Option, Some, None, Result, Ok, Err}
+use lib.IntN.{nat_abs}
+use Rattle.numbers.specs.Sign.{signed}
+use Rattle.digits.specs.Digits.{is_byte, value_of, first_is, digit_first, span, leading}
 use Rattle.digits.proofs.Runs.{span-no}
 use Rattle.asking.specs.declared.values.Word.{Word}
-use Rattle.asking.specs.declared.values.Word.TheVariants as asking
-use Rattle.asking.specs.Numbers.{signed_at, digits_at, signed_word}
-use Rattle.routing.specs.declared.entries.Entry.{Entry}
-use Rattle.routing.specs.declared.entries.Entry.TheVariants.{Skipped, Numbers, Bad}
-use Rattle.routing.specs.declared.entries.Found.{Found}
-use Rattle.routing.specs.declared.entries.Found.TheVariants.{Number, Nothing}
-use Rattle.routing.specs.Entries.{is_blank, past_blanks, is_over, is_number, found_at, ended_by, second_in, entry_in, entry_of}
+use Rattle.asking.specs.Numbers.{some_word, signed_at, digits_at, signed_word}
+use Rattle.routing.specs.declared.entries.Numeral.{Numeral}
+use Rattle.routing.specs.declared.loading.Flaw.{Flaw}
+use Rattle.routing.specs.declared.loading.Flaw.TheVariants.{NotTwoNumbers}
+use Rattle.routing.specs.Entries.{Skipped, Numbers, Bad, Number, Nothing, is_blank, past_blanks, is_over, is_number, found_at, ended_by, second_in, entry_in, entry_of}
 
--- ---- blanks
-module _ (b : ℕ) where
-  pub blank-space : b ≡ 32 → true ≡ is_blank b
-  blank-space e = rw e
-
-  pub blank-tab : (b ≡ 32 → ⊥) → b ≡ 9 → true ≡ is_blank b
-  blank-tab n e = rw e
-
-  pub blank-return : (b ≡ 32 → ⊥) → (b ≡ 9 → ⊥) → eqb b 13 ≡ is_blank b
-  blank-return n m = rw (ne_eqb b 32 n, ne_eqb b 9 m)
-
--- the loop of `past_blanks`
+-- ---- the loop of `past_blanks`
 module _ (line : List ℕ) (i : ℕ) where
   module _ (h : i < length line) where
     pub blanks-turn : is_blank (get_or line i 0) ≡ true → past_blanks (drop i line) ≡ past_blanks (drop (i + 1) line)
@@ -44,23 +33,23 @@ module _ (line : List ℕ) (i : ℕ) where
     unfolding past_blanks
     blanks-stop e = rw (drop-cons line i 0 h, e)
 
-    -- is the line over?
-    pub over-here : eqb (get_or line i 0) 35 ≡ is_over (drop i line)
-    over-here = rw (drop-cons line i 0 h)
-
-  module _ (h : length line ≤ i) where
-    pub blanks-end : drop i line ≡ past_blanks (drop i line)
-    unfolding past_blanks
-    blanks-end = rw (drop_of_length-le line {i = i} h)
-
-    pub over-past : true ≡ is_over (drop i line)
-    over-past = rw (drop_of_length-le line {i = i} h)
+  pub blanks-end : length line ≤ i → drop (length line) line ≡ past_blanks (drop i line)
+  unfolding past_blanks
+  blanks-end h = rw (drop_of_length-le line {i = i} h, drop_of_length-le line {i = length line} (omega arith))
 
 -- ---- a number
 -- what is found, of a number with a sign
-abbrev pub found_by : Word → Found
-found_by (asking.Number z next) = Number (up_from z) next
-found_by asking.Nothing = Nothing
+abbrev pub found_by : Option Word → Result Numeral Flaw
+found_by (Some word) = Number (nat_abs word.number) word.next
+found_by None = Nothing
+
+abbrev value-in : Result Numeral Flaw → ℕ
+value-in (Ok number) = number.value
+value-in (Err flaw) = 0
+
+abbrev next-in : Result Numeral Flaw → ℕ
+next-in (Ok number) = number.next
+next-in (Err flaw) = 0
 
 module _ (at : ℕ) (l : List ℕ) where
   pub found-minus : first_is (is_byte 45) l ≡ true → Nothing ≡ found_at at l
@@ -76,11 +65,18 @@ module _ (at : ℕ) (l : List ℕ) where
   found_plain e = rw e (by (eqb (span l) 0) (ltb (value_of (leading l)) 9223372036854775808))
     where
       by : (x y : Bool)
-          → found_by (cond x asking.Nothing (cond y (asking.Number (signed false (value_of (leading l))) (at + span l)) asking.Nothing))
+          → found_by (cond x None (cond y (some_word (signed false (value_of (leading l))) (at + span l)) None))
           ≡ cond (not x && y) (Number (value_of (leading l)) (at + span l)) Nothing
       by true y = refl
       by false true = refl
       by false false = refl
+
+  pub found-none : signed_at at l ≡ None → Nothing ≡ found_at at l
+  found-none e = by (first_is (is_byte 45) l) refl
+    where
+      by : (t : Bool) → first_is (is_byte 45) l ≡ t → Nothing ≡ found_at at l
+      by true p = found-minus p
+      by false p = ap found_by (sym e) ∙ found_plain p
 
   -- what a number that is found tells
   pub record Got (n next : ℕ) : Type 0 where
@@ -93,16 +89,16 @@ module _ (at : ℕ) (l : List ℕ) where
   got n next e = by (is_number l) refl e
     where
       by : (t : Bool) → is_number l ≡ t → cond t (Number (value_of (leading l)) (at + span l)) Nothing ≡ Number n next → Got n next
-      by true p f = record { number = p; value = cc; past = cc }
+      by true p f = record { number = p; value = ap value-in (sym f); past = ap next-in (sym f) }
       by false p f = let z : ◌≡◌ {A = ℕ} 0 1 = cc in absurd (omega arith)
 
-  pub got-none : found_at at l ≡ Nothing → is_number l ≡ false
+  pub got-none : (flaw : Flaw) → found_at at l ≡ Err flaw → (is_number l ≡ false) × (flaw ≡ NotTwoNumbers)
   unfolding found_at
-  got-none e = by (is_number l) refl e
+  got-none flaw e = by (is_number l) refl e
     where
-      by : (t : Bool) → is_number l ≡ t → cond t (Number (value_of (leading l)) (at + span l)) Nothing ≡ Nothing → is_number l ≡ false
+      by : (t : Bool) → is_number l ≡ t → cond t (Number (value_of (leading l)) (at + span l)) Nothing ≡ Err flaw → (is_number l ≡ false) × (flaw ≡ NotTwoNumbers)
       by true p f = let z : ◌≡◌ {A = ℕ} 0 1 = cc in absurd (omega arith)
-      by false p f = p
+      by false p f = (p, cc)
 
 -- ---- behind two numbers
 module _ (first second : ℕ) (l : List ℕ) where
@@ -128,9 +124,9 @@ module _ (line : List ℕ) (p : ℕ) (l : List ℕ) (e : drop p line ≡ l) wher
         let v : n ≡ value_of (leading l) = g.value ∙ ap (λ z. value_of (leading z)) e in
         rw (t, v, left_behind n next g)
 
-    pub second_none : found_at p (drop p line) ≡ Nothing → Bad ≡ second_in first l
+    pub second_none : (flaw : Flaw) → found_at p (drop p line) ≡ Err flaw → Err flaw ≡ second_in first l
     unfolding second_in
-    second_none f = rw (ap is_number (sym e) ∙ got-none p (drop p line) f)
+    second_none flaw f = let g = got-none p (drop p line) flaw f in rw (g.1, ap is_number (sym e) ∙ g.0)
 
   pub entry-over : is_over (drop p line) ≡ true → Skipped ≡ entry_in l
   unfolding entry_in
@@ -145,9 +141,10 @@ module _ (line : List ℕ) (p : ℕ) (l : List ℕ) (e : drop p line ≡ l) wher
         let v : n ≡ value_of (leading l) = g.value ∙ ap (λ z. value_of (leading z)) e in
         rw (ap is_over (sym e) ∙ h, t, v, left_behind n next g)
 
-    pub entry-none : found_at p (drop p line) ≡ Nothing → Bad ≡ entry_in l
+    pub entry-none : (flaw : Flaw) → found_at p (drop p line) ≡ Err flaw → Err flaw ≡ entry_in l
     unfolding entry_in
-    entry-none f = rw (ap is_over (sym e) ∙ h, ap is_number (sym e) ∙ got-none p (drop p line) f)
+    entry-none flaw f =
+        let g = got-none p (drop p line) flaw f in rw (g.1, ap is_over (sym e) ∙ h, ap is_number (sym e) ∙ g.0)
 
 pub entry-is : (line : List ℕ) → entry_in (past_blanks line) ≡ entry_of line
 unfolding entry_of

@@ -1,19 +1,21 @@
 -- A line of a directory file is read exactly as the grammar has it.
 -- Assumes nothing.
-use Prim.Native.Nat.{ℕ, ◌+◌, ◌<◌}
+use Rattle.std.specs.Prelude.{Option, Some, None, Result, Ok, Err}
+use Prim.Native.Nat.{ℕ}
 use mathlib.Core.Path.{◌≡◌, refl, sym, ap, subst, ◌∙◌}
 use mathlib.Core.List.{List, [], ◌∷◌, ◌++◌}
-use mathlib.Core.Bool.{Bool, true, false, cond, not, ◌&&◌, ◌||◌, and-eq-true_iff}
+use mathlib.Core.Bool.{Bool, true, false, cond, not, ◌||◌, and-eq-true_iff}
 use native.Mathlib.Omega.{arith}
 use lib.Dec.{eqb, ltb}
 use lib.ListN.{length, drop}
-use borrow.Author.Tests.{eqb-true, eqb-false, ne_eqb, lt-ltb, ltb-true}
-use Rattle.digits.specs.Digits.{is_digit, IsField, value_of, first_is, digit_first, span, leading}
-use Rattle.digits.proofs.Values.{digit-bounds, all_head}
+use borrow.Author.Tests.{eqb-true, ne_eqb, lt-ltb, ltb-true}
+use Rattle.digits.specs.Digits.{is_digit, value_of, digit_first, span, leading}
+use Rattle.digits.proofs.Values.{digit-bounds}
 use Rattle.digits.proofs.Runs.{span_run, leading-run, after_run, span-no, span-stops, leading-rest, leading-field, field-first}
-use Rattle.routing.specs.declared.entries.Entry.{Entry}
-use Rattle.routing.specs.declared.entries.Entry.TheVariants.{Skipped, Numbers, Bad}
-use Rattle.routing.specs.Entries.{is_blank, past_blanks, is_over, is_number, ended_by, second_in, entry_in, entry_of}
+use Rattle.routing.specs.declared.entries.Pair.{Pair}
+use Rattle.routing.specs.declared.loading.Flaw.{Flaw}
+use Rattle.routing.specs.declared.loading.Flaw.TheVariants.{NotTwoNumbers}
+use Rattle.routing.specs.Entries.{Skipped, Numbers, Bad, is_blank, past_blanks, is_over, is_number, ended_by, second_in, entry_in, entry_of}
 use Rattle.routing.specs.Grammar.{Blank, space, tab, carriage_return, Blanks, none, more, Over, nothing, comment, Numeral, numeral, SaysNothing, says_nothing, SaysTwo, says_two}
 use Rattle.routing.specs.Statements.{LineSkipped, LineTaken}
 
@@ -171,6 +173,16 @@ two (says_two {a} {d} {b} {e} {c} {t} {blank} {m} {n} ka nd kb kbs ne kc o) =
     let last : past_blanks (c ++ t) ≡ t = past t kc ∙ over.1 in
     rw (past (d ++ behind) ka, stays.0, stays.1, one.number, one.value, one.rest, between, next.number, next.value, next.rest, last, over.0)
 
+abbrev first-in : Result (Option Pair) Flaw → ℕ
+first-in (Ok (Some pair)) = pair.first
+first-in (Ok None) = 0
+first-in (Err flaw) = 0
+
+abbrev second-in : Result (Option Pair) Flaw → ℕ
+second-in (Ok (Some pair)) = pair.second
+second-in (Ok None) = 0
+second-in (Err flaw) = 0
+
 -- what it tells that two numbers were read
 record Second (first : ℕ) (l : List ℕ) (m n : ℕ) : Type 0 where
   number : is_number l ≡ true
@@ -184,7 +196,7 @@ second-told first l m n e = by (is_number l) (is_over (past_blanks (drop (span l
   where
     by : (x y : Bool) → is_number l ≡ x → is_over (past_blanks (drop (span l) l)) ≡ y
         → cond x (cond y (Numbers first (value_of (leading l))) Bad) Bad ≡ Numbers m n → Second first l m n
-    by true true p q f = record { number = p; over = q; first-is = cc; second_is = cc }
+    by true true p q f = record { number = p; over = q; first-is = ap first-in (sym f); second_is = ap second-in (sym f) }
     by true false p q f = let z : ◌≡◌ {A = ℕ} 0 1 = cc in absurd (omega arith)
     by false y p q f = let z : ◌≡◌ {A = ℕ} 0 1 = cc in absurd (omega arith)
 
@@ -236,3 +248,30 @@ two-only line m n f =
 
 pub line_taken : LineTaken
 line_taken line m n = (two, two-only line m n)
+
+-- ---- a line that is neither
+abbrev flaw-in : Result (Option Pair) Flaw → Flaw
+flaw-in (Ok x) = NotTwoNumbers
+flaw-in (Err flaw) = flaw
+
+second-flaw : (first : ℕ) (l : List ℕ) → flaw-in (second_in first l) ≡ NotTwoNumbers
+unfolding second_in ended_by
+second-flaw first l = by (is_number l) (is_over (past_blanks (drop (span l) l)))
+  where
+    by : (x y : Bool) → flaw-in (cond x (cond y (Numbers first (value_of (leading l))) Bad) Bad) ≡ NotTwoNumbers
+    by true true = refl
+    by true false = refl
+    by false y = refl
+
+entry-flaw : (l : List ℕ) → flaw-in (entry_in l) ≡ NotTwoNumbers
+unfolding entry_in
+entry-flaw l = by (is_over l) (is_number l)
+  where
+    by : (x y : Bool) → flaw-in (cond x Skipped (cond y (second_in (value_of (leading l)) (past_blanks (drop (span l) l))) Bad)) ≡ NotTwoNumbers
+    by true y = refl
+    by false true = second-flaw (value_of (leading l)) (past_blanks (drop (span l) l))
+    by false false = refl
+
+pub line-flaw : (line : List ℕ) (flaw : Flaw) → entry_of line ≡ Err flaw → flaw ≡ NotTwoNumbers
+unfolding entry_of
+line-flaw line flaw e = ap flaw-in (sym e) ∙ entry-flaw (past_blanks line)

@@ -1,14 +1,17 @@
 -- What is read and told, as the statements say it.
 -- Assumes nothing.
-use Prim.Native.Nat.{ℕ, suc, ◌+◌, ◌-◌, ◌^◌, ◌≤◌, ◌<◌}
-use mathlib.Core.Path.{◌≡◌, refl, sym, ap, subst, ◌∙◌}
+use Rattle.router.specs.Found.{shards}
+use Rattle.std.specs.Prelude.{Some, None, Err, Ok, Option, Result}
+use Rattle.router.specs.declared.Shards.{Shards}
+use Rattle.answers.specs.Causes.{refusal_number}
+use Prim.Native.Nat.{ℕ, ◌+◌, ◌-◌, ◌^◌, ◌≤◌, ◌<◌}
+use mathlib.Core.Path.{◌≡◌, refl, ap, ◌∙◌}
 use mathlib.Core.List.{List, [], ◌∷◌, ◌++◌}
 use mathlib.Core.Bool.{Bool, true, false, cond}
 use native.Mathlib.Omega.{arith}
 use lib.Dec.{leb, eqb}
 use lib.IntN.{ℤ}
 use lib.ListN.{length, drop, length-append}
-use borrow.Author.Tests.{le-leb, lt-leb, eq-eqb, ne_eqb}
 use Rattle.laws.specs.Spelt.{spelt}
 use Rattle.asking.specs.Numbers.{signed_at, digits_at, signed_word}
 use Rattle.digits.specs.Digits.{span, value_from, decimal, digits_of, width, width_by}
@@ -18,20 +21,17 @@ use Rattle.written.specs.Parts.{signed_text}
 use Rattle.phrases.specs.Phrases.{phrases, phrase_of}
 use Rattle.phrases.proofs.Room.{phrase-most}
 use Rattle.streams.specs.Parting.{together}
-use Rattle.streams.proofs.Pieces.{pieces-stand, together-append}
-use Rattle.router.specs.declared.Routed.{Routed}
-use Rattle.router.specs.declared.Routed.TheVariants.{Shards, Refused}
+use Rattle.streams.proofs.Pieces.{pieces-stand}
 use Rattle.router.specs.Route.{route_of}
 use Rattle.router.specs.Tested.{directory_of, routed_in}
 use Rattle.router.proofs.Statements.{tested_once}
 use Rattle.routing.specs.declared.queries.Query.{Query}
-use Rattle.routing.specs.declared.queries.Query.TheVariants.{Asked, NotUnderstood}
 use Rattle.routing.specs.Grammar.{Asks}
 use Rattle.routing.specs.Entries.{past_blanks, found_at, ended_by, second_in, entry_in, entry_of}
 use Rattle.routing.specs.Loading.{with_one, behind_one, loaded_from}
 use Rattle.routing.specs.Queries.{asked_at, query_of}
 use Rattle.routing.specs.Flaws.{flaw_pieces}
-use Rattle.routing.specs.Told.{one_pieces, some_pieces, which_pieces, found_pieces, reason_pieces, routed_pieces, other_pieces, asked_pieces, answer_pieces}
+use Rattle.routing.specs.Told.{one_pieces, some_pieces, which_pieces, found_pieces, reason_pieces, routed_pieces, asked_pieces, answer_pieces}
 use Rattle.routing.specs.Statements.{LineSkipped, LineTaken, HeadLoaded, ShardLoaded, NothingLoaded, StatesAre, LineBad, LinesInTurn, FileLoaded, LoadedPasses, QueryUnderstood, AnswerStands, FlawStands, answer_text, SomeTold, OneTold, NoneTold, RefusedTold, OtherTold, LongTold, AnswerShort, AnswersRead, FlawsRead, EntriesRead, QueriesRead}
 use Rattle.routing.proofs.Spelt as lines
 use Rattle.routing.proofs.Taking as taking
@@ -91,7 +91,7 @@ pub flaw_stands : FlawStands
 flaw_stands s line flaw = pieces-stand s (flaw_pieces line flaw)
 
 -- ---- what is told of a query
-told : (rate : ℕ) (firsts ends : List ℕ) (reel : ℕ) (line : List ℕ) (z : ℤ) (label : List ℕ) (r : Routed) → Asks line z label
+told : (rate : ℕ) (firsts ends : List ℕ) (reel : ℕ) (line : List ℕ) (z : ℤ) (label : List ℕ) (r : Result Shards Refusal) → Asks line z label
     → route_of rate firsts ends z label ≡ r → answer_text rate firsts ends reel line ≡ together (routed_pieces reel r)
 unfolding answer_pieces
 told rate firsts ends reel line z label r a e =
@@ -110,32 +110,33 @@ found-text reel first after which e = rw e
 pub some_told : SomeTold
 unfolding together
 some_told rate firsts ends reel line z label first after a e h =
-    told rate firsts ends reel line z label (Shards first after) a e
+    told rate firsts ends reel line z label (shards first after) a e
     ∙ found-text reel first after (some_pieces first (after - 1)) (which-some first after (omega arith) (after - 1) (λ y. omega (arith, y)) refl)
 
 pub one_told : OneTold
 unfolding together
 one_told rate firsts ends reel line z label first a e =
-    told rate firsts ends reel line z label (Shards first (first + 1)) a e
+    told rate firsts ends reel line z label (shards first (first + 1)) a e
     ∙ found-text reel first (first + 1) (one_pieces first) (which-one first (first + 1) (omega arith) (omega arith))
 
 pub none_told : NoneTold
 unfolding together
 none_told rate firsts ends reel line z label first after a e h =
-    told rate firsts ends reel line z label (Shards first after) a e ∙ found-text reel first after (spelt "no shard" ∷ []) (which-none first after h)
+    told rate firsts ends reel line z label (shards first after) a e ∙ found-text reel first after (spelt "no shard" ∷ []) (which-none first after h)
 
 pub refused_told : RefusedTold
 unfolding together reason_pieces
-refused_told rate firsts ends reel line z label x a e = told rate firsts ends reel line z label (Refused x) a e
+refused_told rate firsts ends reel line z label x a e = told rate firsts ends reel line z label (Err x) a e
 
 pub other_told : OtherTold
 unfolding together answer_pieces
 other_told rate firsts ends reel line n = by (query_of line) refl
   where
-    by : (q : Query) → query_of line ≡ q
+    by : (q : Option Query) → query_of line ≡ q
         → together (asked_pieces (directory_of rate firsts ends) reel line q) ≡ spelt "not understood: a query is LENGTH LABEL" ++ (10 ∷ [])
-    by (Asked z at) e = absurd (n z (drop at line) ((asking.query_understood line z (drop at line)).1 (record { at = at; asked = e; rest = refl })))
-    by NotUnderstood e = refl
+    by (Some q) e =
+        absurd (n q.length (drop q.label line) ((asking.query_understood line q.length (drop q.label line)).1 (record { at = q.label; asked = e; rest = refl })))
+    by None e = refl
 
 pub long_told : LongTold
 unfolding together answer_pieces
@@ -164,9 +165,9 @@ module _ (reel : ℕ) (h : reel < 2 ^ 64) where
 
 pub answer_short : AnswerShort
 unfolding together reason_pieces
-answer_short reel (Shards first after) h w = found-most reel h first after w.0 w.1
-answer_short reel (Refused e) h w =
-    simp length-append (omega (arith, number-most e.number w.0, number-most e.place w.1, phrase-most e.number))
+answer_short reel (Ok shards) h w = found-most reel h shards.first shards.after w.0 w.1
+answer_short reel (Err e) h w =
+    simp length-append (omega (arith, number-most (refusal_number e) w.0, number-most e.place w.1, phrase-most (refusal_number e)))
 
 -- ---- by computation
 pub answers_read : AnswersRead

@@ -1,6 +1,11 @@
 -- What holds of what the program `route` reads and tells (docs/ROUTING.md). Proofs: proofs/Statements.antt.
 -- Assumes nothing.
-use Rattle.std.specs.Prelude.{ℕ, ◌+◌, ◌-◌, ◌^◌, ◌≤◌, ◌<◌, ◌≡◌, ◌↔◌, Bool, true, false, List, [], ◌∷◌, ◌++◌, ℤ, pos, negsuc, length, drop}
+use Rattle.router.specs.Found.{shards}
+use Rattle.router.specs.declared.Shards.{Shards}
+use Rattle.answers.specs.Causes.{refusal}
+use Rattle.answers.specs.Refusals.{at_place}
+use Rattle.answers.specs.Causes.{refusal_number}
+use Rattle.std.specs.Prelude.{ℕ, ◌+◌, ◌-◌, ◌^◌, ◌≤◌, ◌<◌, ◌≡◌, ◌↔◌, Bool, true, false, List, [], ◌∷◌, ◌++◌, ℤ, pos, negsuc, length, drop, Some, None, Ok, Err, Result}
 use Rattle.laws.specs.Spelt.{spelt}
 use Rattle.rates.specs.Rates.{is_rate}
 use Rattle.rates.specs.Day.{day_frames}
@@ -11,23 +16,19 @@ use Rattle.streams.specs.Parting.{together}
 use Rattle.streams.specs.Sheet.{Sheet, text_on}
 use Rattle.streams.specs.Pieces.{all_on}
 use Rattle.answers.specs.declared.Refusal.{Refusal}
-use Rattle.answers.specs.declared.Verdict.TheVariants.{Passed}
 use Rattle.router.specs.declared.many.Directory.{Directory}
-use Rattle.router.specs.declared.Routed.{Routed}
-use Rattle.router.specs.declared.Routed.TheVariants.{Shards, Refused}
 use Rattle.router.specs.Route.{route_of}
 use Rattle.router.specs.Directory.{Rules}
 use Rattle.router.specs.Tested.{directory_of}
-use Rattle.routing.specs.declared.entries.Entry.TheVariants as entry
 use Rattle.routing.specs.declared.loading.Loading.{Loading}
-use Rattle.routing.specs.declared.loading.Loaded.TheVariants as loaded
 use Rattle.routing.specs.declared.loading.Flaw.{Flaw}
 use Rattle.routing.specs.declared.loading.Flaw.TheVariants.{TooLong, NotTwoNumbers, NoSuchRate, NoSuchReel, ManyShards, EmptyShard, EarlyShard, PastDay}
-use Rattle.routing.specs.declared.queries.Query.TheVariants.{Asked, NotUnderstood}
+use Rattle.routing.specs.Entries as entry
 use Rattle.routing.specs.Entries.{entry_of}
 use Rattle.routing.specs.Grammar.{SaysNothing, SaysTwo, Spells, Asks}
-use Rattle.routing.specs.Loading.{no_line, with_head, with_shard, load_of, whole, broken, loaded_from, loaded_of}
-use Rattle.routing.specs.Queries.{query_of}
+use Rattle.routing.specs.Loading as loaded
+use Rattle.routing.specs.Loading.{is_headed, rate_in, reel_in, no_line, with_head, with_shard, load_of, whole, broken, loaded_from, loaded_of}
+use Rattle.routing.specs.Queries.{Asked, NotUnderstood, query_of}
 use Rattle.routing.specs.Flaws.{flaw_pieces}
 use Rattle.routing.specs.Told.{routed_pieces, answer_pieces}
 
@@ -46,7 +47,7 @@ pub record IsHead (s : Loading) (line : List ℕ) (t : Loading) : Type 0 where
   pub rate : ℕ
   pub reel : ℕ
   pub says : SaysTwo line rate reel
-  pub none : s.headed ≡ false
+  pub none : is_headed s ≡ false
   pub rated : is_rate rate ≡ true
   pub most : reel ≤ 4294967295
   pub is : t ≡ with_head rate reel
@@ -55,16 +56,16 @@ pub record IsHead (s : Loading) (line : List ℕ) (t : Loading) : Type 0 where
 -- later, and does not end past the day
 pub record IsShard (s : Loading) (line : List ℕ) (first end : ℕ) (t : Loading) : Type 0 where
   pub says : SaysTwo line first end
-  pub headed : s.headed ≡ true
+  pub headed : is_headed s ≡ true
   pub few : s.shards < 256
   pub some : first < end
   pub after : s.last ≤ first
-  pub within : end ≤ day_frames s.rate
+  pub within : end ≤ day_frames (rate_in s)
   pub is : t ≡ with_shard s end
 
 -- a line is taken as rate and reel exactly when all that is right of it
 abbrev pub HeadLoaded : Type 0
-HeadLoaded = (s : Loading) (line : List ℕ) (t : Loading) → IsHead s line t ↔ (load_of s line false ≡ loaded.Head t)
+HeadLoaded = (s : Loading) (line : List ℕ) (t : Loading) → IsHead s line t ↔ (load_of s line false ≡ loaded.Headed t)
 
 -- and as a shard exactly when all that is right of it
 abbrev pub ShardLoaded : Type 0
@@ -78,24 +79,24 @@ NothingLoaded = (s : Loading) (line : List ℕ) (over : Bool) → ((over ≡ fal
 
 -- what has come, in plain fields: before any line, behind rate and reel, and behind a shard
 pub record StatesAre : Type 0 where
-  pub none : no_line ≡ record { headed = false; rate = 0; reel = 0; shards = 0; last = 0 }
-  pub head : (rate reel : ℕ) → with_head rate reel ≡ record { headed = true; rate = rate; reel = reel; shards = 0; last = 0 }
+  pub none : no_line ≡ record { head = None; shards = 0; last = 0 }
+  pub head : (rate reel : ℕ) → with_head rate reel ≡ record { head = Some (record { rate = rate; reel = reel }); shards = 0; last = 0 }
   pub shard : (s : Loading) (end : ℕ)
-      → with_shard s end ≡ record { headed = s.headed; rate = s.rate; reel = s.reel; shards = s.shards + 1; last = end }
+      → with_shard s end ≡ record { head = s.head; shards = s.shards + 1; last = end }
 
 -- what is wrong with a line, in the order in which it is looked for: it is too long; it is neither nothing nor two numbers; of rate and reel
 -- there is no such rate, or no such reel; of a shard 256 have come, it is empty, it begins before the one before it ends, it ends past the day
 pub data Wrong (s : Loading) (line : List ℕ) : (over : Bool) → Flaw → Type 0 where
   too_long : Wrong s line true TooLong
   not_two : (SaysNothing line → ⊥) → ((m n : ℕ) → SaysTwo line m n → ⊥) → Wrong s line false NotTwoNumbers
-  no_rate : (rate reel : ℕ) → SaysTwo line rate reel → s.headed ≡ false → is_rate rate ≡ false → Wrong s line false NoSuchRate
-  no_reel : (rate reel : ℕ) → SaysTwo line rate reel → s.headed ≡ false → is_rate rate ≡ true → 4294967295 < reel → Wrong s line false NoSuchReel
-  many : (first end : ℕ) → SaysTwo line first end → s.headed ≡ true → 256 ≤ s.shards → Wrong s line false ManyShards
-  empty : (first end : ℕ) → SaysTwo line first end → s.headed ≡ true → s.shards < 256 → end ≤ first → Wrong s line false EmptyShard
-  early : (first end : ℕ) → SaysTwo line first end → s.headed ≡ true → s.shards < 256 → first < end → first < s.last
+  no_rate : (rate reel : ℕ) → SaysTwo line rate reel → is_headed s ≡ false → is_rate rate ≡ false → Wrong s line false NoSuchRate
+  no_reel : (rate reel : ℕ) → SaysTwo line rate reel → is_headed s ≡ false → is_rate rate ≡ true → 4294967295 < reel → Wrong s line false NoSuchReel
+  many : (first end : ℕ) → SaysTwo line first end → is_headed s ≡ true → 256 ≤ s.shards → Wrong s line false ManyShards
+  empty : (first end : ℕ) → SaysTwo line first end → is_headed s ≡ true → s.shards < 256 → end ≤ first → Wrong s line false EmptyShard
+  early : (first end : ℕ) → SaysTwo line first end → is_headed s ≡ true → s.shards < 256 → first < end → first < s.last
       → Wrong s line false EarlyShard
-  past : (first end : ℕ) → SaysTwo line first end → s.headed ≡ true → s.shards < 256 → first < end → s.last ≤ first
-      → day_frames s.rate < end → Wrong s line false PastDay
+  past : (first end : ℕ) → SaysTwo line first end → is_headed s ≡ true → s.shards < 256 → first < end → s.last ≤ first
+      → day_frames (rate_in s) < end → Wrong s line false PastDay
 
 -- a line is bad exactly when that is wrong with it
 abbrev pub LineBad : Type 0
@@ -107,7 +108,7 @@ pub record LinesInTurn : Type 0 where
   pub over : (n : ℕ) (s : Loading) → loaded_from n s [] ≡ whole s [] []
   pub skipped : (n : ℕ) (s : Loading) (k : Kept) (lines : List Kept) → load_of s k.bytes k.over ≡ loaded.Skipped
       → loaded_from n s (k ∷ lines) ≡ loaded_from (n + 1) s lines
-  pub head : (n : ℕ) (s t : Loading) (k : Kept) (lines : List Kept) → load_of s k.bytes k.over ≡ loaded.Head t
+  pub head : (n : ℕ) (s t : Loading) (k : Kept) (lines : List Kept) → load_of s k.bytes k.over ≡ loaded.Headed t
       → loaded_from n s (k ∷ lines) ≡ loaded_from (n + 1) t lines
   pub shard : (n : ℕ) (s t u : Loading) (k : Kept) (lines : List Kept) (first end : ℕ) (firsts ends : List ℕ)
       → load_of s k.bytes k.over ≡ loaded.Shard first end t → loaded_from (n + 1) t lines ≡ whole u firsts ends
@@ -122,9 +123,9 @@ pub record LinesInTurn : Type 0 where
 pub record Loads (lines : List Kept) (rate reel : ℕ) (firsts ends : List ℕ) : Type 0 where
   pub state : Loading
   pub is : loaded_of lines ≡ whole state firsts ends
-  pub headed : state.headed ≡ true
-  pub rate_is : state.rate ≡ rate
-  pub reel_is : state.reel ≡ reel
+  pub headed : is_headed state ≡ true
+  pub rate_is : rate_in state ≡ rate
+  pub reel_is : reel_in state ≡ reel
   pub count : state.shards ≡ length firsts
 
 -- what is right of a file: its lines spell a directory, there is such a rate and such a reel, and the router's rules are kept
@@ -143,7 +144,7 @@ FileLoaded =
 abbrev pub LoadedPasses : Type 0
 LoadedPasses =
     (lines : List Kept) (rate reel : ℕ) (firsts ends : List ℕ) → Loads lines rate reel firsts ends
-    → (directory_of rate firsts ends).verdict ≡ Passed
+    → (directory_of rate firsts ends).verdict ≡ (Ok tt)
 
 -- ---- a query
 -- it is understood, and the label is what stands from its place on
@@ -178,7 +179,7 @@ answer_text rate firsts ends reel line = together (answer_pieces (directory_of r
 abbrev pub SomeTold : Type 0
 SomeTold =
     (rate : ℕ) (firsts ends : List ℕ) (reel : ℕ) (line : List ℕ) (z : ℤ) (label : List ℕ) (first after : ℕ) → Asks line z label
-    → route_of rate firsts ends z label ≡ Shards first after → first + 1 < after
+    → route_of rate firsts ends z label ≡ shards first after → first + 1 < after
     → answer_text rate firsts ends reel line
     ≡ spelt "shards "
     ++ (signed_text false first
@@ -188,7 +189,7 @@ SomeTold =
 abbrev pub OneTold : Type 0
 OneTold =
     (rate : ℕ) (firsts ends : List ℕ) (reel : ℕ) (line : List ℕ) (z : ℤ) (label : List ℕ) (first : ℕ) → Asks line z label
-    → route_of rate firsts ends z label ≡ Shards first (first + 1)
+    → route_of rate firsts ends z label ≡ shards first (first + 1)
     → answer_text rate firsts ends reel line
     ≡ spelt "shard " ++ (signed_text false first ++ (spelt " of reel " ++ (signed_text false reel ++ (10 ∷ []))))
 
@@ -196,17 +197,17 @@ OneTold =
 abbrev pub NoneTold : Type 0
 NoneTold =
     (rate : ℕ) (firsts ends : List ℕ) (reel : ℕ) (line : List ℕ) (z : ℤ) (label : List ℕ) (first after : ℕ) → Asks line z label
-    → route_of rate firsts ends z label ≡ Shards first after → after ≤ first
+    → route_of rate firsts ends z label ≡ shards first after → after ≤ first
     → answer_text rate firsts ends reel line ≡ spelt "no shard of reel " ++ (signed_text false reel ++ (10 ∷ []))
 
 -- of a refusal the router's number, its place, and the phrase of the number
 abbrev pub RefusedTold : Type 0
 RefusedTold =
     (rate : ℕ) (firsts ends : List ℕ) (reel : ℕ) (line : List ℕ) (z : ℤ) (label : List ℕ) (e : Refusal) → Asks line z label
-    → route_of rate firsts ends z label ≡ Refused e
+    → route_of rate firsts ends z label ≡ Err e
     → answer_text rate firsts ends reel line
     ≡ spelt "refused "
-    ++ (signed_text false e.number ++ (32 ∷ signed_text false e.place ++ (spelt ": " ++ (phrase_of e.number ++ (10 ∷ [])))))
+    ++ (signed_text false (refusal_number e) ++ (32 ∷ signed_text false e.place ++ (spelt ": " ++ (phrase_of (refusal_number e) ++ (10 ∷ [])))))
 
 -- a line that the grammar does not have is not understood
 abbrev pub OtherTold : Type 0
@@ -221,22 +222,22 @@ LongTold =
     → together (answer_pieces d reel line true) ≡ spelt "not understood: a query is LENGTH LABEL" ++ (10 ∷ [])
 
 -- numbers of an answer that have room in 64 bits, as all that are computed have
-abbrev pub Wide : Routed → Type 0
-Wide (Shards first after) = (first < 2 ^ 64) × (after < 2 ^ 64)
-Wide (Refused e) = (e.number < 2 ^ 64) × (e.place < 2 ^ 64)
+abbrev pub Wide : Result Shards Refusal → Type 0
+Wide (Ok shards) = (shards.first < 2 ^ 64) × (shards.after < 2 ^ 64)
+Wide (Err e) = ((refusal_number e) < 2 ^ 64) × (e.place < 2 ^ 64)
 
 -- so no answer of the router's has over 256 bytes
 abbrev pub AnswerShort : Type 0
-AnswerShort = (reel : ℕ) (r : Routed) → reel < 2 ^ 64 → Wide r → length (together (routed_pieces reel r)) ≤ 256
+AnswerShort = (reel : ℕ) (r : Result Shards Refusal) → reel < 2 ^ 64 → Wide r → length (together (routed_pieces reel r)) ≤ 256
 
 -- the answers read so in plain words, one case of each
 pub record AnswersRead : Type 0 where
-  pub some : together (routed_pieces 12 (Shards 3 8)) ≡ spelt "shards 3 to 7 of reel 12" ++ (10 ∷ [])
-  pub two : together (routed_pieces 0 (Shards 0 2)) ≡ spelt "shards 0 to 1 of reel 0" ++ (10 ∷ [])
-  pub one : together (routed_pieces 12 (Shards 3 4)) ≡ spelt "shard 3 of reel 12" ++ (10 ∷ [])
-  pub none : together (routed_pieces 4294967295 (Shards 0 0)) ≡ spelt "no shard of reel 4294967295" ++ (10 ∷ [])
-  pub refused : together (routed_pieces 12 (Refused (record { number = 1; place = 10 }))) ≡ spelt "refused 1 10: not in a form that can be read" ++ (10 ∷ [])
-  pub past : together (routed_pieces 12 (Refused (record { number = 17; place = 0 }))) ≡ spelt "refused 17 0: a query that ends past the day" ++ (10 ∷ [])
+  pub some : together (routed_pieces 12 (shards 3 8)) ≡ spelt "shards 3 to 7 of reel 12" ++ (10 ∷ [])
+  pub two : together (routed_pieces 0 (shards 0 2)) ≡ spelt "shards 0 to 1 of reel 0" ++ (10 ∷ [])
+  pub one : together (routed_pieces 12 (shards 3 4)) ≡ spelt "shard 3 of reel 12" ++ (10 ∷ [])
+  pub none : together (routed_pieces 4294967295 (shards 0 0)) ≡ spelt "no shard of reel 4294967295" ++ (10 ∷ [])
+  pub refused : together (routed_pieces 12 (Err (at_place (refusal 1) 10))) ≡ spelt "refused 1 10: not in a form that can be read" ++ (10 ∷ [])
+  pub past : together (routed_pieces 12 (Err (refusal 17))) ≡ spelt "refused 17 0: a query that ends past the day" ++ (10 ∷ [])
 
 -- and what is told of a bad line
 pub record FlawsRead : Type 0 where

@@ -1,104 +1,77 @@
 // A line of a directory file: nothing, or two numbers; blanks around them and between them, and a comment behind them.
 ghost use Rattle.std.specs.Prelude.{◌≡◌, drop};
-ghost use Rattle.routing.specs.Entries.{is_blank, is_over, past_blanks, found_at, ended_by, second_in, entry_of};
+ghost use Rattle.routing.specs.Entries.{is_blank, is_over, past_blanks, found_at, entry_of};
 
-use asking::Word;
+use crate::loading::Flaw;
 
-// What a line says: nothing, two numbers, or what is neither.
+// The two numbers of a line.
 #[derive(Clone, Copy)]
-pub enum Entry {
-    Skipped,
-    Numbers(u64, u64),
-    Bad,
+pub struct Pair {
+    pub first: u64,
+    pub second: u64,
 }
 
-// A number and the place past it; or none stands there.
+// A number, and the place past it.
 #[derive(Clone, Copy)]
-enum Found {
-    Number(u64, usize),
-    Nothing,
+struct Numeral {
+    value: u64,
+    next: usize,
 }
 
 // Is this byte a space, a tab or a carriage return?
 fn is_blank(b: u8) -> bool
     ensures { result ≡ is_blank b }
 {
-    if b == b' ' {
-        return true;
-    }
-    if b == b'\t' {
-        return true;
-    }
-    b == b'\r'
+    matches!(b, b' ' | b'\t' | b'\r')
 }
 
 // The place past the blanks that stand at a place.
 fn past_blanks(line: &[u8], at: usize) -> usize
     ensures { drop result line.now ≡ past_blanks (drop at line.now) }
 {
-    let mut i = at;
-    while i < line.len() {
+    for i in at..line.len() {
         if !is_blank(line[i]) {
             return i;
         }
-        i += 1;
     }
-    i
+    line.len()
 }
 
 // Is the line over at a place? It ends there, or a comment begins.
 fn is_over(line: &[u8], at: usize) -> bool
     ensures { result ≡ is_over (drop at line.now) }
 {
-    if at < line.len() {
-        return line[at] == b'#';
-    }
-    true
+    line.len() <= at || line[at] == b'#'
 }
 
 // The number that stands at a place: digits, with no sign.
-fn number_at(line: &[u8], at: usize) -> Found
+fn number_at(line: &[u8], at: usize) -> Result<Numeral, Flaw>
     ensures { result ≡ found_at at (drop at line.now) }
 {
-    if asking::stands(line, at, b'-') {
-        return Found::Nothing;
-    }
     match asking::signed_at(line, at) {
-        Word::Number(z, next) => Found::Number(numbers::up_from(z), next),
-        Word::Nothing => Found::Nothing,
+        Some(word) if !asking::stands(line, at, b'-') => Ok(Numeral {
+            value: word.number.unsigned_abs(),
+            next: word.next,
+        }),
+        _ => Err(Flaw::NotTwoNumbers),
     }
 }
 
-// Behind two numbers the line is over.
-fn ended(line: &[u8], at: usize, first: u64, second: u64) -> Entry
-    ensures { result ≡ ended_by first second (past_blanks (drop at line.now)) }
-{
-    if is_over(line, past_blanks(line, at)) {
-        return Entry::Numbers(first, second);
-    }
-    Entry::Bad
-}
-
-// Behind the first number and blanks the second.
-fn behind_first(line: &[u8], at: usize, first: u64) -> Entry
-    ensures { result ≡ second_in first (past_blanks (drop at line.now)) }
-{
-    match number_at(line, past_blanks(line, at)) {
-        Found::Number(second, next) => ended(line, next, first, second),
-        Found::Nothing => Entry::Bad,
-    }
-}
-
-// What a line of a directory file says.
-pub fn entry_of(line: &[u8]) -> Entry
+// What a line of a directory file says, if anything.
+pub fn entry_of(line: &[u8]) -> Result<Option<Pair>, Flaw>
     ensures { result ≡ entry_of line.now }
 {
     let at = past_blanks(line, 0);
     if is_over(line, at) {
-        return Entry::Skipped;
+        return Ok(None);
     }
-    match number_at(line, at) {
-        Found::Number(first, next) => behind_first(line, next, first),
-        Found::Nothing => Entry::Bad,
+    let first = number_at(line, at)?;
+    let second = number_at(line, past_blanks(line, first.next))?;
+    if !is_over(line, past_blanks(line, second.next)) {
+        return Err(Flaw::NotTwoNumbers);
     }
+    Ok(Some(Pair {
+        first: first.value,
+        second: second.value,
+    }))
 }

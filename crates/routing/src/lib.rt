@@ -8,8 +8,8 @@ mod loading;
 mod queries;
 mod told;
 
-pub use entries::{Entry, entry_of};
+pub use entries::{Pair, entry_of};
 pub use flaws::tell_flaw;
-pub use loading::{Flaw, Loaded, Loading, load};
+pub use loading::{Flaw, Head, Loaded, Loading, load};
 pub use queries::{Query, query_of};
 pub use told::answer;

@@ -1,16 +1,21 @@
 // A directory as the lines of its file come: first the rate and the reel, then a shard a line. The shards' frames are the caller's to keep.
 ghost use Rattle.std.specs.Prelude.{◌≡◌};
-ghost use Rattle.routing.specs.Loading.{no_line, head_of, shard_of, numbers_of, load_of};
+ghost use Rattle.routing.specs.Loading.{no_line, head_of, shard_at, numbers_of, load_of};
 
 use crate::entries;
-use crate::entries::Entry;
+use crate::entries::Pair;
 
-// What has come: whether the rate and the reel have, and which; how many shards, and where the last of them ends.
+// The rate and the reel.
 #[derive(Clone, Copy)]
-pub struct Loading {
-    pub headed: bool,
+pub struct Head {
     pub rate: u64,
     pub reel: u64,
+}
+
+// What has come: the rate and the reel; how many shards, and where the last of them ends.
+#[derive(Clone, Copy)]
+pub struct Loading {
+    pub head: Option<Head>,
     pub shards: usize,
     pub last: u64,
 }
@@ -28,13 +33,12 @@ pub enum Flaw {
     PastDay,
 }
 
-// What came of a line: nothing; the rate and the reel; a shard's first frame and end; or the line is bad.
+// What came of a line: nothing; the rate and the reel; or a shard's first frame and end.
 #[derive(Clone, Copy)]
 pub enum Loaded {
     Skipped,
     Head(Loading),
     Shard(u64, u64, Loading),
-    Bad(Flaw),
 }
 
 impl Loading {
@@ -43,9 +47,7 @@ impl Loading {
         ensures { result ≡ no_line }
     {
         Loading {
-            headed: false,
-            rate: 0,
-            reel: 0,
+            head: None,
             shards: 0,
             last: 0,
         }
@@ -53,73 +55,70 @@ impl Loading {
 }
 
 // The line of rate and reel.
-fn head(rate: u64, reel: u64) -> Loaded
+#[tactic(auto, unfolding(crate::specs::Loading::head_of), using(std::proofs::lemmas::Bool::Decides::nat_tests))]
+fn rate_and_reel(rate: u64, reel: u64) -> Result<Loaded, Flaw>
     ensures { result ≡ head_of rate reel }
 {
     if !rates::is_rate(rate) {
-        return Loaded::Bad(Flaw::NoSuchRate);
+        return Err(Flaw::NoSuchRate);
     }
     if reel > 4_294_967_295 {
-        return Loaded::Bad(Flaw::NoSuchReel);
+        return Err(Flaw::NoSuchReel);
     }
-    Loaded::Head(Loading {
-        headed: true,
-        rate,
-        reel,
-        shards: 0,
-        last: 0,
-    })
+    Ok(Loaded::Head(Loading {
+        head: Some(Head { rate, reel }),
+        ..Loading::new()
+    }))
 }
 
-// The line of a shard.
-fn shard(state: Loading, first: u64, end: u64) -> Loaded
-    ensures { result ≡ shard_of state first end }
+// The line of a shard, at the rate that has come.
+#[tactic(auto, unfolding(crate::specs::Loading::shard_at), using(std::proofs::lemmas::Bool::Decides::nat_tests))]
+fn shard(state: Loading, rate: u64, first: u64, end: u64) -> Result<Loaded, Flaw>
+    ensures { result ≡ shard_at rate state first end }
 {
     if state.shards >= 256 {
-        return Loaded::Bad(Flaw::ManyShards);
+        return Err(Flaw::ManyShards);
     }
     if end <= first {
-        return Loaded::Bad(Flaw::EmptyShard);
+        return Err(Flaw::EmptyShard);
     }
     if first < state.last {
-        return Loaded::Bad(Flaw::EarlyShard);
+        return Err(Flaw::EarlyShard);
     }
-    if rates::day(state.rate) < end {
-        return Loaded::Bad(Flaw::PastDay);
+    if rates::day(rate) < end {
+        return Err(Flaw::PastDay);
     }
-    Loaded::Shard(
+    Ok(Loaded::Shard(
         first,
         end,
         Loading {
-            headed: state.headed,
-            rate: state.rate,
-            reel: state.reel,
             shards: state.shards + 1,
             last: end,
+            ..state
         },
-    )
+    ))
 }
 
 // The two numbers of a line: rate and reel where they have not come yet, else a shard's first frame and end.
-fn two_numbers(state: Loading, first: u64, second: u64) -> Loaded
-    ensures { result ≡ numbers_of state first second }
+fn two_numbers(state: Loading, pair: Pair) -> Result<Loaded, Flaw>
+    ensures { result ≡ numbers_of state pair.first pair.second }
 {
-    if state.headed {
-        return shard(state, first, second);
+    match state.head {
+        Some(h) => shard(state, h.rate, pair.first, pair.second),
+        None => rate_and_reel(pair.first, pair.second),
     }
-    head(first, second)
 }
 
 // What comes of a line; `over` where it has more bytes than are kept.
-pub fn load(state: Loading, line: &[u8], over: bool) -> Loaded
+#[tactic(auto, unfolding(crate::specs::Loading::load_of))]
+pub fn load(state: Loading, line: &[u8], over: bool) -> Result<Loaded, Flaw>
     ensures { result ≡ load_of state line.now over }
 {
     if over {
-        return Loaded::Bad(Flaw::TooLong);
+        return Err(Flaw::TooLong);
     }
-    match entries::entry_of(line) {
-        Entry::Skipped => Loaded::Skipped,
-        Entry::Numbers(first, second) => two_numbers(state, first, second),
-        Entry::Bad => Loaded::Bad(Flaw::NotTwoNumbers),
+    match entries::entry_of(line)? {
+        None => Ok(Loaded::Skipped),
+        Some(pair) => two_numbers(state, pair),
     }
 }

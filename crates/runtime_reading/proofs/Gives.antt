@@ -1,5 +1,6 @@
 -- What a runtime's shape gives: the answer of each case.
 -- Assumes nothing.
+use Rattle.std.specs.Prelude.{Err}
 use Prim.Native.Nat.{ℕ, ◌*◌, ◌<◌}
 use native.Mathlib.Omega.{arith}
 use mathlib.Core.Path.{◌≡◌, sym, ap, ◌∙◌}
@@ -12,7 +13,6 @@ use Rattle.numbers.proofs.Statements.{nearest_is, nearest_one}
 use Rattle.answers.specs.Refusals.{no_shape, too_long, held}
 use Rattle.rates.specs.Rates.{is_rate, rate_row}
 use Rattle.rates.proofs.Sound.{sound}
-use Rattle.timecodes.specs.declared.Answer.TheVariants.{Refused}
 use Rattle.timecodes.specs.Timecode.{placed}
 use Rattle.scanner.specs.Shapes.{TextParts}
 use Rattle.runtime_scan.specs.Shape.{RuntimeShape, runtime_long, HasRuntimeShape}
@@ -22,10 +22,10 @@ use Rattle.runtime_reading.specs.ReadingLaws.{read-scanned, time_read-held}
 use Rattle.runtime_reading.specs.Statements.{time_of, RuntimeCount}
 
 module _ (l : List ℕ) (rate : ℕ) (rated : is_rate rate ≡ true) where
-  pub gives_none : ((p : TextParts) → ¬ RuntimeShape l p) → read_runtime l rate ≡ Refused no_shape
+  pub gives_none : ((p : TextParts) → ¬ RuntimeShape l p) → read_runtime l rate ≡ Err no_shape
   gives_none h = read-scanned l rate rated ∙ ap (read_scan rate) (runtime-none-fit l h).1
 
-  pub gives-long : HasRuntimeShape l true → read_runtime l rate ≡ Refused too_long
+  pub gives-long : HasRuntimeShape l true → read_runtime l rate ≡ Err too_long
   gives-long h = let s = runtime-long-place l h in read-scanned l rate rated ∙ ap (read_scan rate) ((runtime_too_long l s.0).1 s.1)
 
   pub gives-held : (p : TextParts) → RuntimeShape l p → runtime_long p ≡ false → read_runtime l rate ≡ placed rate (held (runtime_frame rate p.minus (time_of p)))

@@ -1,5 +1,8 @@
 -- Each answer tells the text's shape and its fault, and each shape and fault gives its answer.
 -- Assumes nothing.
+use Rattle.timecodes.specs.declared.Timecode.{Timecode}
+use Rattle.answers.specs.declared.Refusal.{Refusal}
+use Rattle.std.specs.Prelude.{Result, Ok, Err}
 use Prim.Native.Nat.{ℕ}
 use native.Mathlib.Omega.{arith}
 use mathlib.Core.Path.{◌≡◌, refl, ap, ◌∙◌, subst}
@@ -7,8 +10,6 @@ use mathlib.Core.List.{List}
 use mathlib.Core.Bool.{true}
 use Rattle.answers.specs.Refusals.{is_count}
 use Rattle.answers.specs.Laws.{held_in, held_out}
-use Rattle.timecodes.specs.declared.Answer.{Answer}
-use Rattle.timecodes.specs.declared.Answer.TheVariants.{At, Refused}
 use Rattle.timecodes.specs.Timecode.{placed, number_of, timecode_of}
 use Rattle.runtime_reading.specs.Reading.{read_runtime}
 use Rattle.runtime_reading.specs.ReadingLaws.{no_rate}
@@ -40,9 +41,9 @@ refused-five l rate r = (
   λ x. ap number_of (gives-count l rate r x.z x.count ∙ ap (placed rate) (held_out x.z x.out)),
 )
 
-bounded-by : (l : List ℕ) (rate : ℕ) (a : Answer) → Told l rate a → is_count (timecode_of a).count ≡ true
-bounded-by l rate (At tc) t = t.1.1
-bounded-by l rate (Refused e) t = refl
+bounded-by : (l : List ℕ) (rate : ℕ) (a : Result Timecode Refusal) → Told l rate a → is_count (timecode_of a).count ≡ true
+bounded-by l rate (Ok tc) t = t.1.1
+bounded-by l rate (Err e) t = refl
 
 pub count-bounded : CountBounded
 count-bounded l rate = bounded-by l rate (read_runtime l rate) (told l rate)

@@ -1,6 +1,6 @@
 -- Laws of a runtime's reading that callers cite (BEHAVIOUR: Text shapes): each test, and that over 20,000,000 seconds are beyond the bounds at every rate.
 -- Assumes nothing.
-use Rattle.std.specs.Prelude.{ℕ, ◌*◌, ◌≤◌, ◌<◌, ◌≡◌, Bool, true, false, List}
+use Rattle.std.specs.Prelude.{ℕ, ◌*◌, ◌≤◌, ◌<◌, ◌≡◌, Bool, true, false, List, Err}
 use Rattle.std.proofs.Common.{mul-le-mul, arith, sym, ◌∙◌}
 use Rattle.std.proofs.Math.Path.{ap}
 use Rattle.std.proofs.lemmas.Bool.{lt-leb}
@@ -10,12 +10,10 @@ use Rattle.numbers.specs.SignLaws.{abs-signed}
 use Rattle.numbers.specs.Nearest.{nearest_n, nearest_z}
 use Rattle.numbers.specs.NearestLaws.{near-exact, near-mono}
 use Rattle.numbers.specs.NearestSignedLaws.{nearest-abs}
-use Rattle.answers.specs.declared.Counted.TheVariants as counted
 use Rattle.answers.specs.Refusals.{no_such, out_of_bounds, most_count, held}
 use Rattle.answers.specs.Laws.{held_out}
 use Rattle.rates.specs.Rates.{is_rate, rate_row}
 use Rattle.rates.proofs.Sound.{sound}
-use Rattle.timecodes.specs.declared.Answer.TheVariants.{Refused}
 use Rattle.timecodes.specs.Timecode.{placed}
 use Rattle.timecodes.specs.AdmittedLaws.{placed-held}
 use Rattle.runtime_scan.specs.Runtime.{runtime_scan}
@@ -24,7 +22,7 @@ use Rattle.runtime_reading.specs.Reading.{whole_seconds, time_in, runtime_frame,
 
 -- ---- a text
 module _ (text : List ℕ) (rate : ℕ) where
-  pub no_rate : is_rate rate ≡ false → read_runtime text rate ≡ Refused no_such
+  pub no_rate : is_rate rate ≡ false → read_runtime text rate ≡ Err no_such
   unfolding read_runtime
   no_rate e = simp e
 
@@ -59,7 +57,7 @@ module _ (rate : ℕ) (minus : Bool) (seconds time : ℕ) (rated : is_rate rate 
       let less : 23 * seconds * n ≤ time * (rate_row rate).numerator = omega (arith, mul-le-mul whole row.slowest) in
       omega (arith, near-exact (23 * seconds) n step, near-mono (23 * seconds * n) (time * (rate_row rate).numerator) n step less)
 
-  pub held-beyond : 20_000_000 < seconds → held (runtime_frame rate minus time) ≡ counted.Refused out_of_bounds
+  pub held-beyond : 20_000_000 < seconds → held (runtime_frame rate minus time) ≡ Err out_of_bounds
   unfolding runtime_frame
   held-beyond long =
       let a = time * (rate_row rate).numerator in

@@ -1,6 +1,6 @@
 -- The length that a runtime's text reads as, by its shape (BEHAVIOUR: Time): each refusal exactly, the nearest frame. Proofs: proofs/Statements.antt.
 -- Assumes nothing.
-use Rattle.std.specs.Prelude.{ℕ, ◌*◌, ◌≡◌, ◌↔◌, List, map, true, false, ℤ}
+use Rattle.std.specs.Prelude.{ℕ, ◌*◌, ◌≡◌, ◌↔◌, List, map, true, false, ℤ, Ok, Err}
 use Rattle.numbers.specs.Sign.{signed}
 use Rattle.numbers.specs.Nearest.{Nearest}
 use Rattle.digits.specs.Digits.{value_of}
@@ -8,7 +8,6 @@ use Rattle.answers.specs.declared.Refusal.{Refusal}
 use Rattle.answers.specs.Refusals.{is_count}
 use Rattle.rates.specs.Rates.{is_rate, rate_row}
 use Rattle.timecodes.specs.declared.Timecode.{Timecode}
-use Rattle.timecodes.specs.declared.Answer.TheVariants.{At, Refused}
 use Rattle.timecodes.specs.Timecode.{timecode, number_of, timecode_of}
 use Rattle.scanner.specs.Justified.{justified}
 use Rattle.scanner.specs.Shapes.{TextParts}
@@ -31,7 +30,7 @@ RefusedTwo = (l : List ℕ) (rate : ℕ) → is_rate rate ≡ true → (number_o
 
 -- and no refusal has a place
 abbrev pub PlaceNone : Type 0
-PlaceNone = (l : List ℕ) (rate : ℕ) (e : Refusal) → read_runtime l rate ≡ Refused e → e.place ≡ 0
+PlaceNone = (l : List ℕ) (rate : ℕ) (e : Refusal) → read_runtime l rate ≡ Err e → e.place ≡ 0
 
 -- ---- the count, and 5
 -- the time of a runtime's parts, in millionths of a second
@@ -50,7 +49,7 @@ pub record RuntimeCount (l : List ℕ) (rate : ℕ) (z : ℤ) : Type 0 where
 abbrev pub RuntimeCounted : Type 0
 RuntimeCounted =
     (l : List ℕ) (rate : ℕ) (z : ℤ) → is_rate rate ≡ true
-    → (read_runtime l rate ≡ At (timecode z rate)) ↔ (RuntimeCount l rate z × (is_count z ≡ true))
+    → (read_runtime l rate ≡ Ok (timecode z rate)) ↔ (RuntimeCount l rate z × (is_count z ≡ true))
 
 -- a text has a nearest frame, and it is outside its bounds
 pub record CountOut (l : List ℕ) (rate : ℕ) : Type 0 where
@@ -68,4 +67,4 @@ CountBounded = (l : List ℕ) (rate : ℕ) → is_count (timecode_of (read_runti
 
 -- and what is read is at the rate
 abbrev pub AtRate : Type 0
-AtRate = (l : List ℕ) (rate : ℕ) (tc : Timecode) → read_runtime l rate ≡ At tc → tc.rate ≡ rate
+AtRate = (l : List ℕ) (rate : ℕ) (tc : Timecode) → read_runtime l rate ≡ Ok tc → tc.rate ≡ rate

@@ -10,23 +10,24 @@ ghost use Rattle.timecodes.specs.Made.{settled};
 ghost use Rattle.runtime_scan.specs.Statements.{RuntimeBounds};
 ghost use Rattle.runtime_reading.specs.Reading.{time_in, runtime_frame, read_runtime};
 
-use answers::Counted;
-use scanner::Fit;
-use timecodes::{Answer, Kind};
+use answers::{Cause, Refusal};
+use scanner::Misfit;
+use timecodes::{Kind, Timecode};
 
 // No count within its bounds has more seconds than this, at any rate.
 const MOST_RUNTIME: u64 = 20_000_000;
 
 // The frame nearest to a time of three fields, behind one that is 0, and millionths of a second. Refuses 5: it is out of bounds. Asks a
 // rate, and what a runtime's scan gives.
-fn nearest_frame(rate: u64, minus: bool, fields: [u64; 4], millionths: u64) -> Counted
+fn nearest_frame(rate: u64, minus: bool, fields: [u64; 4], millionths: u64) -> Result<i64, Refusal>
     requires rate { is_rate rate ≡ true }
     requires time { RuntimeBounds fields millionths }
     ensures { result ≡ held (runtime_frame rate minus (time_in fields millionths)) }
 {
-    let seconds = 3600 * fields[1] + 60 * fields[2] + fields[3];
+    let [_, hours, minutes, seconds] = fields;
+    let seconds = 3600 * hours + 60 * minutes + seconds;
     if seconds > MOST_RUNTIME {
-        return Counted::Refused(answers::OUT_OF_BOUNDS);
+        return Err(Cause::OutOfBounds.into());
     }
     let row = rates::row(rate);
     let time = 1_000_000 * seconds + millionths;
@@ -35,29 +36,24 @@ fn nearest_frame(rate: u64, minus: bool, fields: [u64; 4], millionths: u64) -> C
 }
 
 // The length that a runtime's text reads as at a rate.
-fn read_length(text: &[u8], rate: u64) -> Answer
+fn read_length(text: &[u8], rate: u64) -> Result<Timecode, Refusal>
     ensures { result ≡ read_runtime text.now rate }
 {
     if !rates::is_rate(rate) {
-        return Answer::Refused(answers::NO_SUCH);
+        return Err(Cause::NoSuch.into());
     }
-    let scan = runtime_scan::scan_runtime(text);
-    let fit = scan.fit;
-    match fit {
-        Fit::Fits => {
-            let fields = scan.fields;
-            timecodes::placed(
-                nearest_frame(rate, scan.minus, fields, scan.millionths),
-                rate,
-            )
+    match runtime_scan::scan_runtime(text) {
+        Ok(scan) => {
+            let counted = nearest_frame(rate, scan.minus, scan.fields, scan.millionths);
+            timecodes::placed(counted, rate)
         }
-        Fit::TooLong(_) => Answer::Refused(answers::TOO_LONG),
-        Fit::NoShape(_) => Answer::Refused(answers::NO_SHAPE),
+        Err(Misfit::TooLong(_)) => Err(Cause::TooLong.into()),
+        Err(Misfit::NoShape(_)) => Err(Cause::NoShape.into()),
     }
 }
 
 // What a runtime's text reads as at a rate, as a timecode of a kind (vtc's `parse_runtime_str`).
-pub fn read_runtime(text: &[u8], rate: u64, kind: Kind) -> Answer
+pub fn read_runtime(text: &[u8], rate: u64, kind: Kind) -> Result<Timecode, Refusal>
     ensures { result ≡ settled kind (read_runtime text.now rate) }
 {
     timecodes::settled(read_length(text, rate), kind)

@@ -1,7 +1,7 @@
 -- A fraction is multiplied by ten for each digit that it lacks to six, and is then in millionths, fewer than 10^6.
 -- Assumes nothing.
 use Prim.Native.Nat.{ℕ, zero, suc, ◌+◌, ◌-◌, ◌*◌, ◌^◌, ◌≤◌, ◌<◌}
-use mathlib.Core.Path.{◌≡◌, refl, sym, ap, ◌∙◌}
+use mathlib.Core.Path.{◌≡◌}
 use mathlib.Core.List.{List}
 use native.Mathlib.Omega.{arith}
 use native.Mathlib.Nat.{add-zero, add-suc, mul_assoc, pow-suc, pow-le-pow_right, mul-le-mul, mul-lt-mul_of_pos_right}
@@ -35,26 +35,3 @@ fraction-below d a h =
     let e : length d + (6 - length d) ≡ 6 = omega arith in
     let b = below-scaled (value_of d) (length d) (6 - length d) (value-below d a) in
     rw (field-value d (omega arith)) (rw e at b)
-
--- ---- `scale`: six digits less k were lacking so far, and not more than lack
-pub record Scaling (count k power : ℕ) : Type 0 where
-  pub within : k ≤ 6
-  pub lacking : 6 - k ≤ 6 - count
-  pub is : power ≡ 10 ^ (6 - k)
-
-pub scaling-start : (count : ℕ) → Scaling count 6 1
-scaling-start count = record { within = omega arith; lacking = omega arith; is = refl }
-
-pub scaling-turn : (count k power : ℕ) → Scaling count k power → count < k → Scaling count (k - 1) (power * 10)
-scaling-turn count k power s h =
-    let e : 6 - (k - 1) ≡ suc (6 - k) = omega arith in
-    record {
-      within = omega arith;
-      lacking = omega arith;
-      is = ap (λ (x : ℕ). x * 10) s.is ∙ sym (ap (λ (x : ℕ). 10 ^ x) e ∙ pow-suc 10 (6 - k));
-    }
-
-pub scaling-done : (count k power : ℕ) → Scaling count k power → k ≤ count → power ≡ 10 ^ (6 - count)
-scaling-done count k power s h =
-    let e : 6 - k ≡ 6 - count = omega arith in
-    s.is ∙ ap (λ (x : ℕ). 10 ^ x) e

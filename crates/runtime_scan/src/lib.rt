@@ -4,7 +4,7 @@
 ghost use Rattle.std.specs.Prelude.{◌≡◌, ◌-◌, ◌^◌};
 ghost use Rattle.runtime_scan.specs.Runtime.{runtime_scan};
 
-use scanner::{Dividers, Fit, Grammar};
+use scanner::{Dividers, Grammar, Misfit};
 
 // Optional `-`, one to three fields divided by `:`, optionally `.` and a fraction of 6 digits at most.
 const RUNTIME: Grammar = Grammar {
@@ -15,10 +15,9 @@ const RUNTIME: Grammar = Grammar {
 };
 
 // A runtime's sign, its hours, minutes and seconds behind a first field that is 0, each below 10^9, absent ones 0, and its millionths of a
-// second, below 10^6. Where it does not fit: no sign, and all 0.
+// second, below 10^6.
 #[derive(Clone, Copy)]
 pub struct RuntimeScan {
-    pub fit: Fit,
     pub minus: bool,
     pub fields: [u64; 4],
     pub millionths: u64,
@@ -28,27 +27,20 @@ pub struct RuntimeScan {
 fn scale(count: usize) -> u64
     ensures { result ≡ 10 ^ (6 - count) }
 {
-    let mut k: usize = 6;
-    let mut power: u64 = 1;
-    while count < k {
-        k -= 1;
-        power *= 10;
-    }
-    power
+    10u64.pow(6usize.saturating_sub(count) as u32)
 }
 
 // The sign, the fields and the fraction of a runtime; the crate's runtime regex and what it captures.
-pub fn scan_runtime(text: &[u8]) -> RuntimeScan
+#[tactic(auto, unfolding(crate::specs::Runtime::runtime_scan))]
+pub fn scan_runtime(text: &[u8]) -> Result<RuntimeScan, Misfit>
     ensures { result ≡ runtime_scan text.now }
 {
-    let scan = scanner::scan_text(text, RUNTIME);
-    let fit = scan.fit;
+    let scan = scanner::scan_text(text, RUNTIME)?;
     let fields = scan.fields;
     let power = scale(scan.digits);
-    RuntimeScan {
-        fit,
+    Ok(RuntimeScan {
         minus: scan.minus,
         fields,
         millionths: scan.tail * power,
-    }
+    })
 }

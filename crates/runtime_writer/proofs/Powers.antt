@@ -1,23 +1,9 @@
--- The powers of ten, each ten times the one before it, and what a product with them is at most.
+-- The powers of ten, and what a product with them is at most.
 -- Assumes nothing.
-use Prim.Native.Nat.{ℕ, zero, suc, ◌*◌, ◌^◌, ◌≤◌, ◌<◌}
-use mathlib.Core.Path.{◌≡◌, ap}
-use mathlib.Core.List.{List, [], ◌∷◌}
+use Prim.Native.Nat.{ℕ, ◌*◌, ◌^◌, ◌≤◌, ◌<◌}
 use native.Mathlib.Omega.{arith}
-use native.Mathlib.Nat.{pow-suc, one-le-pow, pow-le-pow_right, mul-le-mul}
-use lib.ListN.{get_or}
+use native.Mathlib.Nat.{one-le-pow, pow-le-pow_right, mul-le-mul}
 use Rattle.answers.specs.Refusals.{most_count}
-
--- n numbers from x on, each ten times the one before it
-unfoldable pub tens : (n x : ℕ) → List ℕ
-tens zero x = []
-tens (suc n) x = x ∷ tens n (x * 10)
-
-pub tens-at : (n i x : ℕ) → i < n → get_or (tens n x) i 0 ≡ x * 10 ^ i
-unfolding tens
-tens-at zero i x h = absurd (omega arith)
-tens-at (suc n) zero x h = omega arith
-tens-at (suc n) (suc i) x h = omega (arith, tens-at n i (x * 10) (omega arith), ap (λ p. x * p) (pow-suc 10 i))
 
 -- a power of ten is not 0, and at most a million at a precision of at most 6
 pub ten-pos : (k : ℕ) → 0 < 10 ^ k

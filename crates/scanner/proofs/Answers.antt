@@ -1,5 +1,6 @@
 -- What a step of the cursor answers: from what stands at the place, and back.
 -- Assumes nothing.
+use Rattle.std.specs.Prelude.{Some, None}
 use Prim.Native.Nat.{ℕ, zero, suc, ◌+◌, ◌≤◌, ◌<◌}
 use mathlib.Core.Path.{◌≡◌, refl, sym, ap, ◌∙◌}
 use mathlib.Core.List.{List, [], ◌∷◌}
@@ -13,7 +14,6 @@ use Rattle.digits.specs.declared.Run.{Run}
 use Rattle.digits.specs.Digits.{first_is, run_of}
 use Rattle.digits.proofs.Runs.{span-within, run_value, run-count}
 use Rattle.scanner.specs.declared.cursor.Cursor.{Cursor}
-use Rattle.scanner.specs.declared.cursor.Passed.TheVariants.{Next, Other}
 use Rattle.scanner.specs.Scan.{cursor, looked_for, passed, past_if, is_end, field_of}
 
 -- ---- digits, from the run at the cursor
@@ -36,25 +36,25 @@ module _ (test : ℕ → Bool) (s : List ℕ) (at : ℕ) where
   unfolding past_if
   past-here t h e = sym (ap (λ (x : Bool). passed x at) (first-here h ∙ e))
 
-  pub past_end : length s ≤ at → Other ≡ past_if test at (drop at s)
+  pub past_end : length s ≤ at → None ≡ past_if test at (drop at s)
   unfolding past_if
   past_end h = rw (drop_of_length-le s {i = at} h)
 
 -- and back
-was-next-by : (t : Bool) (at : ℕ) (next : Cursor) → Next next ≡ passed t at → (t ≡ true) × (next ≡ cursor (at + 1))
+was-next-by : (t : Bool) (at : ℕ) (next : Cursor) → Some next ≡ passed t at → (t ≡ true) × (next ≡ cursor (at + 1))
 was-next-by true at next e = (refl, cc)
 was-next-by false at next e = let z : ◌≡◌ {A = ℕ} 0 1 = cc in absurd (omega arith)
 
-pub was-next : (test : ℕ → Bool) (at : ℕ) (l : List ℕ) (next : Cursor) → Next next ≡ past_if test at l
+pub was-next : (test : ℕ → Bool) (at : ℕ) (l : List ℕ) (next : Cursor) → Some next ≡ past_if test at l
     → (first_is test l ≡ true) × (next ≡ cursor (at + 1))
 unfolding past_if
 was-next test at l next e = was-next-by (first_is test l) at next e
 
-was-other-by : (t : Bool) (at : ℕ) → Other ≡ passed t at → t ≡ false
+was-other-by : (t : Bool) (at : ℕ) → None ≡ passed t at → t ≡ false
 was-other-by true at e = cc
 was-other-by false at e = refl
 
-pub was-other : (test : ℕ → Bool) (at : ℕ) (l : List ℕ) → Other ≡ past_if test at l → first_is test l ≡ false
+pub was-other : (test : ℕ → Bool) (at : ℕ) (l : List ℕ) → None ≡ past_if test at l → first_is test l ≡ false
 unfolding past_if
 was-other test at l e = was-other-by (first_is test l) at e
 
@@ -67,7 +67,7 @@ pub looked-none : (test : ℕ → Bool) (l : List ℕ) → first_is (looked_for 
 looked-none test [] = refl
 looked-none test (c ∷ l) = refl
 
-pub past-closed : (test : ℕ → Bool) (left at : ℕ) (l : List ℕ) → left ≡ 0 → Other ≡ past_if (looked_for left test) at l
+pub past-closed : (test : ℕ → Bool) (left at : ℕ) (l : List ℕ) → left ≡ 0 → None ≡ past_if (looked_for left test) at l
 unfolding past_if
 past-closed test left at l e = rw (e, looked-none test l)
 

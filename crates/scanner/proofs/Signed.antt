@@ -1,5 +1,6 @@
 -- With an optional `-` in front, a text reads as its parts, and one that is not without the shape has parts.
 -- Assumes nothing.
+use Rattle.std.specs.Prelude.{Err}
 use Prim.Native.Nat.{ℕ}
 use mathlib.Core.Path.{◌≡◌, refl, sym, ap, ◌∙◌}
 use mathlib.Core.Logic.{◌⊎◌, inl, inr, ⊎_elim}
@@ -10,10 +11,10 @@ use borrow.Author.Tests.{eqb-true, ne_eqb}
 use Rattle.digits.specs.Digits.{is_byte, is_digit, first_is, digit_first}
 use Rattle.digits.proofs.Runs.{field-first}
 use Rattle.scanner.specs.declared.fields.Dividers.{Dividers}
-use Rattle.scanner.specs.declared.text.Fit.TheVariants.{NoShape}
+use Rattle.scanner.specs.declared.text.Misfit.TheVariants.{NoShape}
 use Rattle.scanner.specs.declared.text.Grammar.{Grammar}
 use Rattle.scanner.specs.Scan.{sign_by, sign_of}
-use Rattle.scanner.specs.Text.{misfit, unless_long, body_scan, text_scan}
+use Rattle.scanner.specs.Text.{unless_long, body_scan, text_scan}
 use Rattle.scanner.specs.Long.{first_long}
 use Rattle.scanner.specs.Shapes.{FieldsShape, last, more, pointed, BodyShape, TextParts, text_parts, with_minus, TextShape, fields_of}
 use Rattle.scanner.specs.Statements.{parts_read, TextReads}
@@ -51,7 +52,7 @@ unfoldable pub text_stop : Grammar → List ℕ → ℕ
 text_stop g l = body_stop g l (sign_of 0 l).next.at
 
 found-by : (g : Grammar) (l : List ℕ) (t : Bool) → first_is (is_byte 45) l ≡ t
-    → (body_scan g l (sign_by t 0).next.at (sign_by t 0).minus ≡ misfit (NoShape (body_stop g l (sign_by t 0).next.at)))
+    → (body_scan g l (sign_by t 0).next.at (sign_by t 0).minus ≡ Err (NoShape (body_stop g l (sign_by t 0).next.at)))
     ⊎ ((p : TextParts) × TextShape g l p)
 found-by g [] true q = let z : ◌≡◌ {A = ℕ} 0 1 = cc in absurd (omega arith)
 found-by g (c ∷ l) true q =
@@ -63,6 +64,6 @@ found-by g l false q =
     (λ w. inr (text_parts false w.fields w.tail, record { body = l; shape = w.shape; text = refl }))
     (body-sound g l 0 false)
 
-pub text-found : (g : Grammar) (l : List ℕ) → (text_scan g l ≡ misfit (NoShape (text_stop g l))) ⊎ ((p : TextParts) × TextShape g l p)
+pub text-found : (g : Grammar) (l : List ℕ) → (text_scan g l ≡ Err (NoShape (text_stop g l))) ⊎ ((p : TextParts) × TextShape g l p)
 unfolding text_scan sign_of text_stop
 text-found g l = found-by g l (first_is (is_byte 45) l) refl

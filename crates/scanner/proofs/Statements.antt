@@ -1,9 +1,10 @@
 -- A text reads as its shape says, in one way only, and each fit says what is so.
 -- Assumes nothing.
+use Rattle.std.specs.Prelude.{Option, Some, None, Result, Ok, Err}
 use Prim.Native.Nat.{ℕ, ◌≤◌}
 use mathlib.Core.Path.{◌≡◌, refl, sym, ap, ◌∙◌, subst}
 use mathlib.Core.Logic.{⊎_elim}
-use mathlib.Core.List.{List, [], map}
+use mathlib.Core.List.{List, map}
 use mathlib.Core.Bool.{true, false}
 use native.Mathlib.Omega.{arith}
 use lib.ListN.{length}
@@ -12,19 +13,17 @@ use Rattle.beginnings.proofs.Statements.{one_longest}
 use Rattle.digits.specs.Digits.{value_of, field_value}
 use Rattle.digits.proofs.Runs.{field_below}
 use Rattle.scanner.specs.declared.fields.Dividers.{Dividers}
-use Rattle.scanner.specs.declared.text.Fit.{Fit}
-use Rattle.scanner.specs.declared.text.Fit.TheVariants.{TooLong, NoShape}
+use Rattle.scanner.specs.declared.text.Misfit.{Misfit}
+use Rattle.scanner.specs.declared.text.Misfit.TheVariants.{TooLong, NoShape}
 use Rattle.scanner.specs.declared.text.Grammar.{Grammar}
 use Rattle.scanner.specs.declared.text.TextScan.{TextScan}
-use Rattle.scanner.specs.declared.fields.LongField.{LongField}
-use Rattle.scanner.specs.declared.fields.LongField.TheVariants.{Nowhere, At}
 use Rattle.scanner.specs.Long.{is_over, fields_long, first_long}
 use Rattle.scanner.specs.Justified.{justified}
-use Rattle.scanner.specs.Text.{fitting, misfit, unless_long, text_scan}
+use Rattle.scanner.specs.Text.{fitting, unless_long, text_scan, named}
 use Rattle.scanner.specs.Shapes.{FieldsShape, last, more, TextParts, TextShape, some_long, HasTextShape, OfGrammar, Possible, fields_of, LongText}
 use Rattle.scanner.specs.Statements.{parts_read, TextReads, FitSays, FitSound, StopLongest, ShapeAscii, FieldsStand, OneTextShape, TextBounds, TextBounded}
 use Rattle.scanner.proofs.Long.{neither, values-short, is_some, some-long, some-nowhere, some-place, first-told, first_gives}
-use Rattle.scanner.proofs.Justified.{justified-length, below-nil, zeros-below, justified-below, values-below}
+use Rattle.scanner.proofs.Justified.{justified-length, justified-below, values-below}
 use Rattle.scanner.proofs.Signed as signed
 use Rattle.scanner.proofs.OneShape as one
 use Rattle.scanner.proofs.Stops.{longest-stop}
@@ -40,42 +39,41 @@ one_text_shape = one.one_text_shape
 -- ---- each fit
 module _ (g : Grammar) (l : List ℕ) where
   -- a text of the shape is not without it
-  has-shape : (p : TextParts) (stop : ℕ) (long : LongField) → (unless_long long (parts_read p)).fit ≡ NoShape stop → ⊥
-  has-shape p stop (At place) e = let z : ◌≡◌ {A = ℕ} 0 1 = cc in omega arith
-  has-shape p stop Nowhere e = let z : ◌≡◌ {A = ℕ} 0 1 = cc in omega arith
+  has-shape : (p : TextParts) (stop : ℕ) (long : Option ℕ) → unless_long long (parts_read p) ≡ Err (NoShape stop) → ⊥
+  has-shape p stop (Some place) e = let z : ◌≡◌ {A = ℕ} 0 1 = cc in omega arith
+  has-shape p stop None e = let z : ◌≡◌ {A = ℕ} 0 1 = cc in omega arith
 
   -- something in it is too long, exactly where the first such field has a place
-  long-is : (p : TextParts) (long : LongField) → first_long (fields_of g p) ≡ long → some_long g p ≡ is_some long
+  long-is : (p : TextParts) (long : Option ℕ) → first_long (fields_of g p) ≡ long → some_long g p ≡ is_some long
   long-is p long e = sym (some-long g p) ∙ ap is_some e
 
-  shape-says : (p : TextParts) → TextShape g l p → (long : LongField) → first_long (fields_of g p) ≡ long → FitSays g l (unless_long long (parts_read p)).fit
-  shape-says p shape (At place) e = record { parts = p; shape = shape; first = first-told (fields_of g p) place e }
-  shape-says p shape Nowhere e = record { parts = p; shape = shape; digits = long-is p Nowhere e }
+  shape-says : (p : TextParts) → TextShape g l p → (long : Option ℕ) → first_long (fields_of g p) ≡ long → FitSays g l (unless_long long (parts_read p))
+  shape-says p shape (Some place) e = record { parts = p; shape = shape; first = first-told (fields_of g p) place e }
+  shape-says p shape None e = record { parts = p; shape = shape; digits = long-is p None e }
 
-  fit-says : FitSays g l (text_scan g l).fit
+  fit-says : FitSays g l (text_scan g l)
   fit-says =
       ⊎_elim
-      (λ e. subst (FitSays g l) (sym (ap (λ (x : TextScan). x.fit) e))
-      (λ p shape. has-shape p (signed.text_stop g l) (first_long (fields_of g p)) (ap (λ (x : TextScan). x.fit) (sym (text_reads g l p shape) ∙ e))))
-      (λ s. subst (FitSays g l) (sym (ap (λ (x : TextScan). x.fit) (text_reads g l s.0 s.1))) (shape-says s.0 s.1 (first_long (fields_of g s.0)) refl))
+      (λ e. subst (FitSays g l) (sym e) (λ p shape. has-shape p (signed.text_stop g l) (first_long (fields_of g p)) (sym (text_reads g l p shape) ∙ e)))
+      (λ s. subst (FitSays g l) (sym (text_reads g l s.0 s.1)) (shape-says s.0 s.1 (first_long (fields_of g s.0)) refl))
       (signed.text-found g l)
 
-  pub fit-told : (f : Fit) → (text_scan g l).fit ≡ f → FitSays g l f
+  pub fit-told : (f : Result TextScan Misfit) → text_scan g l ≡ f → FitSays g l f
   fit-told f e = subst (FitSays g l) e fit-says
 
   -- ---- and what is said gives it
   pub text-short : (p : TextParts) → TextShape g l p → some_long g p ≡ false
-      → text_scan g l ≡ fitting p.minus (justified (map value_of p.fields)) (field_value p.tail) (length p.tail)
+      → text_scan g l ≡ Ok (fitting p.minus (justified (map value_of p.fields)) (field_value p.tail) (length p.tail))
   text-short p shape e =
       text_reads g l p shape
-      ∙ ap (λ (long : LongField). unless_long long (parts_read p)) (some-nowhere (first_long (fields_of g p)) (some-long g p ∙ e))
-      ∙ ap (λ (values : List ℕ). fitting p.minus (justified values) (field_value p.tail) (length p.tail))
+      ∙ ap (λ (long : Option ℕ). unless_long long (parts_read p)) (some-nowhere (first_long (fields_of g p)) (some-long g p ∙ e))
+      ∙ ap (λ (values : List ℕ). Ok (fitting p.minus (justified values) (field_value p.tail) (length p.tail)))
       (values-short p.fields (neither (is_over g.tail (length p.tail)) (fields_long p.fields) e).1)
 
-  pub text-long : (place : ℕ) → LongText g l place → text_scan g l ≡ misfit (TooLong place)
+  pub text-long : (place : ℕ) → LongText g l place → text_scan g l ≡ Err (TooLong place)
   text-long place h =
       text_reads g l h.parts h.shape
-      ∙ ap (λ (long : LongField). unless_long long (parts_read h.parts)) (first_gives (fields_of g h.parts) place h.first)
+      ∙ ap (λ (long : Option ℕ). unless_long long (parts_read h.parts)) (first_gives (fields_of g h.parts) place h.first)
 
   -- where something is too long, the first such field has a place, and back
   pub long-place : HasTextShape g l true → (place : ℕ) × LongText g l place
@@ -84,26 +82,26 @@ module _ (g : Grammar) (l : List ℕ) where
       (s.0, record { parts = h.parts; shape = h.shape; first = first-told (fields_of g h.parts) s.0 s.1 })
 
   pub place-long : (place : ℕ) → LongText g l place → HasTextShape g l true
-  place-long place h = record { parts = h.parts; shape = h.shape; digits = long-is h.parts (At place) (first_gives (fields_of g h.parts) place h.first) }
+  place-long place h = record { parts = h.parts; shape = h.shape; digits = long-is h.parts (Some place) (first_gives (fields_of g h.parts) place h.first) }
 
-  pub text-none : ((p : TextParts) → ¬ TextShape g l p) → text_scan g l ≡ misfit (NoShape (signed.text_stop g l))
+  pub text-none : ((p : TextParts) → ¬ TextShape g l p) → text_scan g l ≡ Err (NoShape (signed.text_stop g l))
   text-none h = ⊎_elim (λ e. e) (λ s. absurd (h s.0 s.1)) (signed.text-found g l)
 
 pub fit_sound : FitSound
-fit_sound g l = fit-told g l (text_scan g l).fit refl
+fit_sound g l = fit-told g l (text_scan g l) refl
 
 -- ---- places
 pub stop_longest : StopLongest
 stop_longest g l stop can e =
-    let none = ap (λ (x : TextScan). x.fit) (text-none g l (fit-told g l (NoShape stop) e)) in
+    let none = sym (text-none g l (fit-told g l (Err (NoShape stop)) e)) ∙ e in
     let same : signed.text_stop g l ≡ stop = cc in
     subst (LongestBeginning (OfGrammar g) l) same (longest-stop g can l)
 
 -- a text without the shape is scanned up to the length of its longest beginning
 pub text-stops : (g : Grammar) (l : List ℕ) (stop : ℕ) → Possible g → ((p : TextParts) → ¬ TextShape g l p) → LongestBeginning (OfGrammar g) l stop
-    → text_scan g l ≡ misfit (NoShape stop)
+    → text_scan g l ≡ Err (NoShape stop)
 text-stops g l stop can none longest =
-    text-none g l none ∙ ap (λ (n : ℕ). misfit (NoShape n)) (one_longest (OfGrammar g) l (signed.text_stop g l) stop (longest-stop g can l) longest)
+    text-none g l none ∙ ap (λ (n : ℕ). Err (NoShape n)) (one_longest (OfGrammar g) l (signed.text_stop g l) stop (longest-stop g can l) longest)
 
 pub shape_ascii : ShapeAscii
 shape_ascii = ascii.shape_ascii
@@ -111,30 +109,42 @@ shape_ascii = ascii.shape_ascii
 pub fields_stand : FieldsStand
 fields_stand = standing.fields_stand
 
--- what holds of each text that does not fit, and of what is read of one that does, holds of any
-module _ (g : Grammar) (l : List ℕ) (P : TextScan → Type 0) (none : (f : Fit) → P (misfit f))
-    (some : (p : TextParts) → TextShape g l p → some_long g p ≡ false → P (parts_read p)) where
-  any-by : (p : TextParts) → TextShape g l p → (long : LongField) → first_long (fields_of g p) ≡ long → P (unless_long long (parts_read p))
-  any-by p shape (At place) e = none (TooLong place)
-  any-by p shape Nowhere e = some p shape (long-is g l p Nowhere e)
+-- what holds of whatever is read of a text's parts holds of what a text that fits reads as
+module _ (g : Grammar) (l : List ℕ) (P : TextScan → Type 0) (some : (p : TextParts) → TextShape g l p → some_long g p ≡ false → P (parts_read p)) where
+  any-by : (scan : TextScan) (p : TextParts) → TextShape g l p → (long : Option ℕ) → first_long (fields_of g p) ≡ long
+      → unless_long long (parts_read p) ≡ Ok scan → P scan
+  any-by scan p shape (Some place) e h = cc
+  any-by scan p shape None e h = let same : parts_read p ≡ scan = cc in subst P same (some p shape (long-is g l p None e))
 
-  pub text-any : P (text_scan g l)
-  text-any =
+  pub text-any : (scan : TextScan) → text_scan g l ≡ Ok scan → P scan
+  text-any scan e =
       ⊎_elim
-      (λ e. subst P (sym e) (none (NoShape (signed.text_stop g l))))
-      (λ s. subst P (sym (text_reads g l s.0 s.1)) (any-by s.0 s.1 (first_long (fields_of g s.0)) refl))
+      (λ n. let z = sym n ∙ e in let y : ◌≡◌ {A = ℕ} 0 1 = cc in absurd (omega arith))
+      (λ s. any-by scan s.0 s.1 (first_long (fields_of g s.0)) refl (sym (text_reads g l s.0 s.1) ∙ e))
       (signed.text-found g l)
 
 -- ---- bounds
 pub text_bounded : TextBounded
 text_bounded g l =
     text-any g l TextBounds
-    (λ f. record { four = refl; below = zeros-below 4 [] below-nil; tail = omega arith })
     (λ p t e. let s = t.shape in let values = map field_value p.fields in record {
       four = justified-length values;
       below = justified-below values (values-below g.dividers g.most s.front p.fields s.shape);
       tail = field_below p.tail s.digits;
     })
+
+-- ---- under names of its own
+pub named-ok : {A : Type 0} (name : TextScan → A) (r : Result TextScan Misfit) (y : A) → named name r ≡ Ok y
+    → (x : TextScan) × (r ≡ Ok x) × (name x ≡ y)
+named-ok name (Ok x) y e = (x, refl, cc)
+named-ok name (Err m) y e = cc
+
+pub named-err : {A : Type 0} (name : TextScan → A) (r : Result TextScan Misfit) (m : Misfit) → named name r ≡ Err m → r ≡ Err m
+named-err name (Ok x) m e = cc
+named-err name (Err n) m e = ap Err (the-misfit n m e)
+  where
+    the-misfit : {A : Type 0} (n m : Misfit) → ◌≡◌ {A = Result A Misfit} (Err n) (Err m) → n ≡ m
+    the-misfit n m e = cc
 
 -- ---- how many fields there are
 shape-count : (d : Dividers) (k : ℕ) (l : List ℕ) (fields : List (List ℕ)) → FieldsShape d k l fields → length fields ≤ k

@@ -1,34 +1,39 @@
 -- Where the scan of a text stops is the length of its longest beginning that also begins some text of the shape.
 -- Assumes nothing.
+use Rattle.std.specs.Prelude.{Ok}
 use Prim.Native.Nat.{ℕ, zero, suc, ◌+◌, ◌≤◌}
 use mathlib.Core.Path.{◌≡◌, refl, sym, ap, ◌∙◌, subst}
 use mathlib.Core.List.{List, [], ◌∷◌, ◌++◌}
 use mathlib.Core.Bool.{Bool, true, false, ◌&&◌, cond}
 use native.Mathlib.Omega.{arith}
 use native.Mathlib.Nat.{zero-add}
-use lib.Dec.{leb}
+use lib.Dec.{leb, ltb}
 use lib.ListN.{length, take, drop}
 use lib.Seq.{drop-drop}
-use borrow.Author.Tests.{eqb-true}
+use borrow.Author.Tests.{eqb-true, ltb-false}
 use Rattle.beginnings.specs.Beginning.{Begins, LongestBeginning}
 use Rattle.digits.specs.Digits.{is_byte, first_is, digit_first, span}
 use Rattle.scanner.specs.declared.text.Grammar.{Grammar}
 use Rattle.scanner.specs.Scan.{looked_for, no_tail, tail_after, tail_of, sign_by, sign_of}
 use Rattle.scanner.specs.Then.{byte_by, byte_then}
-use Rattle.scanner.specs.Fields.{fields_in, fields_found}
+use Rattle.scanner.specs.Fields.{fields_in}
 use Rattle.scanner.specs.Shapes.{BodyShape, text_parts, with_minus, OfGrammar, Possible}
-use Rattle.scanner.proofs.Bodies.{body_stop}
+use Rattle.scanner.proofs.Bodies.{stop_tail, body_stop}
 use Rattle.scanner.proofs.Signed.{body-begins, text_stop}
 use Rattle.scanner.proofs.Reach.{tail_reach, reach, reach-within, reach-most}
 use Rattle.scanner.proofs.Completed.{complete}
 
 -- ---- where it stops is how far it reaches
-tail-stop : (most a : ℕ) (l : List ℕ) → (tail_of most a l).next.at ≡ a + tail_reach most l
+tail-stop : (most a : ℕ) (l : List ℕ) → stop_tail (tail_of most a l) ≡ a + tail_reach most l
 unfolding tail_of byte_then
 tail-stop most a l = by (first_is (looked_for most (is_byte 46)) l)
   where
-    by : (t : Bool) → (byte_by t (no_tail a) (tail_after (a + 1)) l).next.at ≡ a + byte_by t 0 (λ rest. suc (span rest)) l
-    by true = omega arith
+    of_if : (w : List ℕ) (b : Bool) → ltb 0 (span w) ≡ b → stop_tail (tail_after (a + 1) w) ≡ a + suc (span w)
+    of_if w true e = rw e (omega arith)
+    of_if w false e = rw e (omega (arith, ltb-false 0 (span w) e))
+
+    by : (t : Bool) → stop_tail (byte_by t (Ok (no_tail a)) (tail_after (a + 1)) l) ≡ a + byte_by t 0 (λ rest. suc (span rest)) l
+    by true = of_if (drop 1 l) (ltb 0 (span (drop 1 l))) refl
     by false = omega arith
 
 one-add : (n : ℕ) → 1 + n ≡ suc n
@@ -43,7 +48,6 @@ module _ (g : Grammar) where
   far l = reach g.dividers g.tail g.least g.most l
 
   body-stop : (text : List ℕ) (at : ℕ) → body_stop g text at ≡ at + far (drop at text)
-  unfolding fields_found
   body-stop text at =
       let found = fields_in g.dividers g.most (drop at text) in
       let n = found.taken in

@@ -1,5 +1,6 @@
 -- Each step of a reading: from what the scanner answered, on a text that is known, and back to what the text was.
 -- Assumes nothing.
+use Rattle.std.specs.Prelude.{Some, None}
 use Prim.Native.Nat.{ℕ, zero, suc, ◌<◌}
 use mathlib.Core.Path.{◌≡◌, refl, sym, ap, ◌∙◌}
 use mathlib.Core.Logic.{◌⊎◌, inl, inr}
@@ -11,7 +12,6 @@ use lib.Seq.{drop-drop}
 use Rattle.digits.specs.Digits.{IsField, first_is, digit_first, span, leading}
 use Rattle.digits.proofs.Runs.{leading-run, after_run, leading-rest, leading_length, leading-field}
 use Rattle.scanner.specs.declared.cursor.Cursor.{Cursor}
-use Rattle.scanner.specs.declared.cursor.Passed.TheVariants.{Next, Other}
 use Rattle.scanner.specs.declared.cursor.Field.{Field}
 use Rattle.scanner.specs.Scan.{past_if, field_of}
 use Rattle.scanner.specs.Then.{field_by, field_then, byte_then}
@@ -78,10 +78,10 @@ module _ {A : Type 0} (test : ℕ → Bool) (other : A) (then : List ℕ → A) 
   byte-not l e = rw e
 
   -- from the scanner's answer at a place
-  pub byte-other : (at : ℕ) (l : List ℕ) → Other ≡ past_if test at l → byte_then test other then l ≡ other
+  pub byte-other : (at : ℕ) (l : List ℕ) → None ≡ past_if test at l → byte_then test other then l ≡ other
   byte-other at l e = byte-not l (was-other test at l e)
 
-  pub byte_next : (s : List ℕ) (at : ℕ) (next : Cursor) → Next next ≡ past_if test at (drop at s)
+  pub byte_next : (s : List ℕ) (at : ℕ) (next : Cursor) → Some next ≡ past_if test at (drop at s)
       → byte_then test other then (drop at s) ≡ then (drop next.at s)
   unfolding byte_then
   byte_next s at next e =

@@ -1,9 +1,7 @@
 -- How many digits a field may have (BEHAVIOUR: Text shapes, Places): a field of over 9 is too long; and where the first such begins.
 -- Assumes nothing.
-use Rattle.std.specs.Prelude.{ℕ, ◌+◌, ◌≤◌, List, [], ◌∷◌, Bool, false, ◌||◌, cond, ltb, length}
+use Rattle.std.specs.Prelude.{ℕ, ◌+◌, ◌≤◌, List, [], ◌∷◌, Bool, false, ◌||◌, cond, ltb, length, Option, Some, None}
 use Rattle.digits.specs.Digits.{IsField}
-use Rattle.scanner.specs.declared.fields.LongField.{LongField}
-use Rattle.scanner.specs.declared.fields.LongField.TheVariants.{Nowhere, At}
 
 -- so many digits are over the most allowed
 abbrev pub is_over : (most count : ℕ) → Bool
@@ -44,15 +42,15 @@ placed_tail most [] place = []
 placed_tail most (b ∷ tail) place = placed_field place (b ∷ tail) most ∷ []
 
 -- a field of so many digits at a place: too long, or not
-abbrev pub long_field : (place most count : ℕ) → LongField
-long_field place most count = cond (is_over most count) (At place) Nowhere
+abbrev pub long_field : (place most count : ℕ) → Option ℕ
+long_field place most count = cond (is_over most count) (Some place) None
 
 -- the first of two
-abbrev pub or_long : LongField → LongField → LongField
-or_long Nowhere other = other
-or_long (At place) other = At place
+abbrev pub or_long : Option ℕ → Option ℕ → Option ℕ
+or_long None other = other
+or_long (Some place) other = Some place
 
 -- the first digit of the first field that is too long
-abbrev pub first_long : List PlacedField → LongField
-first_long [] = Nowhere
-first_long (f ∷ fs) = cond (is_over f.most (length f.digits)) (At f.place) (first_long fs)
+abbrev pub first_long : List PlacedField → Option ℕ
+first_long [] = None
+first_long (f ∷ fs) = cond (is_over f.most (length f.digits)) (Some f.place) (first_long fs)

@@ -1,16 +1,15 @@
 -- What stands at a cursor (BEHAVIOUR: Text shapes): `l` is what is left of the text from the place `at` on.
 -- Assumes nothing.
-use Rattle.std.specs.Prelude.{ℕ, zero, suc, ◌+◌, List, [], ◌∷◌, Bool, true, false, ◌||◌, eqb, ltb}
+use Rattle.std.specs.Prelude.{ℕ, zero, suc, ◌+◌, List, [], ◌∷◌, Bool, true, false, ◌||◌, eqb, ltb, Option, Some, None, Result, Ok}
 use Rattle.digits.specs.Digits.{is_byte, field_value, first_is, span, leading}
 use Rattle.scanner.specs.declared.cursor.Cursor.{Cursor}
-use Rattle.scanner.specs.declared.cursor.Passed.{Passed}
-use Rattle.scanner.specs.declared.cursor.Passed.TheVariants.{Next, Other}
 use Rattle.scanner.specs.declared.cursor.Field.{Field}
 use Rattle.scanner.specs.declared.cursor.Sign.{Sign}
 use Rattle.scanner.specs.declared.cursor.Tail.{Tail}
 use Rattle.scanner.specs.declared.fields.Dividers.{Dividers}
 use Rattle.scanner.specs.declared.fields.Dividers.TheVariants.{Colon, ColonOrSemicolon, Plus}
-use Rattle.scanner.specs.Then.{byte_then}
+use Rattle.scanner.specs.declared.text.Misfit.{Misfit}
+use Rattle.scanner.specs.Then.{byte_then, only_if}
 
 -- the cursor at a place
 abbrev pub cursor : ℕ → Cursor
@@ -33,11 +32,11 @@ looked_for zero test = λ c. false
 looked_for (suc n) test = test
 
 -- the cursor past the byte in front of l, if one stands there that passes the test
-abbrev pub passed : Bool → (at : ℕ) → Passed
-passed true at = Next (cursor (at + 1))
-passed false at = Other
+abbrev pub passed : Bool → (at : ℕ) → Option Cursor
+passed true at = Some (cursor (at + 1))
+passed false at = None
 
-unfoldable pub past_if : (test : ℕ → Bool) (at : ℕ) (l : List ℕ) → Passed
+unfoldable pub past_if : (test : ℕ → Bool) (at : ℕ) (l : List ℕ) → Option Cursor
 past_if test at l = passed (first_is test l) at
 
 -- nothing is left
@@ -61,13 +60,14 @@ sign_of at l = sign_by (first_is (is_byte 45) l) at
 
 -- no `.`, and so no digits behind it
 abbrev pub no_tail : (at : ℕ) → Tail
-no_tail at = record { found = true; value = 0; count = 0; first = cursor at; next = cursor at }
+no_tail at = record { value = 0; count = 0; first = cursor at; next = cursor at }
 
 -- the digits behind `.`, one at least
-abbrev pub tail_after : (at : ℕ) (l : List ℕ) → Tail
+abbrev pub tail_after : (at : ℕ) (l : List ℕ) → Result Tail Misfit
 tail_after at l =
-    record { found = ltb 0 (span l); value = field_value (leading l); count = span l; first = cursor at; next = cursor (at + span l) }
+    only_if (ltb 0 (span l)) at
+    (Ok (record { value = field_value (leading l); count = span l; first = cursor at; next = cursor (at + span l) }))
 
 -- `.` and digits, or no `.`; where no digit is allowed, no `.` is looked for
-unfoldable pub tail_of : (most at : ℕ) (l : List ℕ) → Tail
-tail_of most at l = byte_then (looked_for most (is_byte 46)) (no_tail at) (tail_after (at + 1)) l
+unfoldable pub tail_of : (most at : ℕ) (l : List ℕ) → Result Tail Misfit
+tail_of most at l = byte_then (looked_for most (is_byte 46)) (Ok (no_tail at)) (tail_after (at + 1)) l

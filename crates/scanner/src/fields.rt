@@ -5,7 +5,8 @@ ghost use Rattle.scanner.specs.Scan.{past_if, divider_of, looked_for};
 ghost use Rattle.scanner.specs.Justified.{shift};
 ghost use Rattle.scanner.specs.Fields.{none_taken, with_field, field_begun, fields_found};
 
-use crate::cursor::{Cursor, Field, Passed};
+use crate::cursor::{Cursor, Field};
+use crate::text::Misfit;
 
 // The bytes that divide two fields.
 #[derive(Clone, Copy)]
@@ -15,19 +16,10 @@ pub enum Dividers {
     Plus,
 }
 
-// The first digit of the first field that is too long, or that none is.
-#[derive(Clone, Copy)]
-pub(crate) enum LongField {
-    Nowhere,
-    At(usize),
-}
-
-// The fields taken: whether one stands at the end of them (and is not missing), the first of over 9 digits, how many they are, their
-// values, right-justified in four places, and the cursor where this stopped.
+// The fields taken: the first of over 9 digits, how many they are, their values, right-justified in four places, and the cursor behind them.
 #[derive(Clone, Copy)]
 pub(crate) struct Scanned {
-    pub(crate) found: bool,
-    pub(crate) long: LongField,
+    pub(crate) long: Option<usize>,
     pub(crate) count: usize,
     pub(crate) values: [u64; 4],
     pub(crate) next: Cursor,
@@ -38,14 +30,9 @@ fn divides(dividers: Dividers, b: u8) -> bool
     ensures { result ≡ divider_of dividers b }
 {
     match dividers {
-        Dividers::Colon => b == 58,
-        Dividers::ColonOrSemicolon => {
-            if b == 58 {
-                return true;
-            }
-            b == 59
-        }
-        Dividers::Plus => b == 43,
+        Dividers::Colon => b == b':',
+        Dividers::ColonOrSemicolon => b == b':' || b == b';',
+        Dividers::Plus => b == b'+',
     }
 }
 
@@ -56,19 +43,16 @@ fn shifted(values: [u64; 4], value: u64) -> [u64; 4]
     [values[1], values[2], values[3], value]
 }
 
-impl LongField {
-    // The one found before, or else a field of so many digits at this place, if these are over the most allowed.
-    pub(crate) fn or(self, place: usize, most: usize, count: usize) -> LongField
-        ensures { result ≡ or_long self (long_field place most count) }
-    {
-        let LongField::Nowhere = self else {
-            return self;
-        };
-        if most < count {
-            return LongField::At(place);
-        }
-        LongField::Nowhere
-    }
+// The one found before, or else a field of so many digits at this place, if these are over the most allowed.
+pub(crate) fn or_long(
+    earlier: Option<usize>,
+    place: usize,
+    most: usize,
+    count: usize,
+) -> Option<usize>
+    ensures { result ≡ or_long earlier (long_field place most count) }
+{
+    earlier.or((most < count).then_some(place))
 }
 
 impl Scanned {
@@ -77,8 +61,7 @@ impl Scanned {
         ensures { result ≡ none_taken first }
     {
         Scanned {
-            found: false,
-            long: LongField::Nowhere,
+            long: None,
             count: 0,
             values: [0; 4],
             next: first,
@@ -90,18 +73,13 @@ impl Scanned {
         requires { self.count < 2 ^ 64 - 1 }
         ensures { result ≡ with_field self field }
     {
-        let start = self.next;
-        let earlier = self.long;
-        let long = earlier.or(start.at, 9, field.count);
         let before = self.values;
         let values = shifted(before, field.value);
-        let next = field.next;
         Scanned {
-            found: true,
-            long,
+            long: or_long(self.long, self.next.at, 9, field.count),
             count: self.count + 1,
             values,
-            next,
+            next: field.next,
         }
     }
 
@@ -109,57 +87,39 @@ impl Scanned {
     fn begin(self, next: Cursor) -> Scanned
         ensures { result ≡ field_begun self next }
     {
-        let values = self.values;
-        let long = self.long;
-        Scanned {
-            found: false,
-            long,
-            count: self.count,
-            values,
-            next,
-        }
+        Scanned { next, ..self }
     }
 }
 
 impl Cursor {
     // Past a divider at the cursor; where no field may come, none is looked for.
-    fn divider(self, s: &[u8], dividers: Dividers, left: usize) -> Passed
+    fn divider(self, s: &[u8], dividers: Dividers, left: usize) -> Option<Cursor>
         ensures { result ≡ past_if (looked_for left (divider_of dividers)) self.at (drop self.at s.now) }
     {
         let at = self.at;
-        if left == 0 {
-            return Passed::Other;
+        if 0 < left && at < s.len() && divides(dividers, s[at]) {
+            Some(Cursor { at: at + 1 })
+        } else {
+            None
         }
-        if s.len() <= at {
-            return Passed::Other;
-        }
-        if divides(dividers, s[at]) {
-            return Passed::Next(Cursor { at: at + 1 });
-        }
-        Passed::Other
     }
 
-    // One to so many fields from the cursor on, each two divided.
-    pub(crate) fn fields(self, s: &[u8], dividers: Dividers, most: usize) -> Scanned
+    // One to so many fields from the cursor on, each two divided; where the last one begun is missing, the scan stops there.
+    pub(crate) fn fields(self, s: &[u8], dividers: Dividers, most: usize) -> Result<Scanned, Misfit>
         ensures { result ≡ fields_found dividers most s.now self.at }
     {
         let mut taken = Scanned::new(self);
-        let mut left = most;
-        while 0 < left {
-            let cursor = taken.next;
-            let field = cursor.field(s);
+        for left in (0..most).rev() {
+            let field = taken.next.field(s);
             if field.count == 0 {
-                return taken;
+                return Err(Misfit::NoShape(taken.next.at));
             }
             taken = taken.keep(field);
-            left -= 1;
-            let end = taken.next;
-            let divider = end.divider(s, dividers, left);
-            let Passed::Next(next) = divider else {
-                return taken;
+            let Some(next) = taken.next.divider(s, dividers, left) else {
+                return Ok(taken);
             };
             taken = taken.begin(next);
         }
-        taken
+        Err(Misfit::NoShape(taken.next.at))
     }
 }

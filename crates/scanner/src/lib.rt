@@ -7,6 +7,6 @@ mod cursor;
 mod fields;
 mod text;
 
-pub use cursor::{Cursor, Passed};
+pub use cursor::Cursor;
 pub use fields::Dividers;
-pub use text::{Fit, Grammar, TextScan, scan_text};
+pub use text::{Grammar, Misfit, TextScan, scan_text};

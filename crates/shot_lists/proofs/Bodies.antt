@@ -1,6 +1,6 @@
 -- A record and its bytes: a body of the grammar is read as its record, whatever stands behind it, and what is read is a body of the grammar.
 -- Assumes nothing.
-use Prim.Native.Nat.{ℕ, ◌+◌, ◌≤◌, ◌<◌}
+use Prim.Native.Nat.{ℕ, ◌≤◌, ◌<◌}
 use mathlib.Core.Path.{◌≡◌, refl, sym, ap, ap₂, ◌∙◌, subst}
 use mathlib.Core.List.{List, ◌∷◌, ◌++◌, append_assoc}
 use mathlib.Core.Bool.{Bool, true, false, cond}
@@ -14,9 +14,8 @@ use Rattle.low_bytes.specs.Laws.{bytes_take, bytes_drop}
 use Rattle.low_bytes.proofs.Statements.{unsigned_one, signed_one}
 use Rattle.shot_lists.specs.declared.records.Record.{Record}
 use Rattle.shot_lists.specs.declared.records.Record.TheVariants.{Rate, Shot, Reel}
-use Rattle.shot_lists.specs.declared.records.Entry.TheVariants.{Taken}
 use Rattle.shot_lists.specs.Grammar.{kind_byte, BodyOf, OneOnDisk}
-use Rattle.shot_lists.specs.Entries.{body_fixed, of_kind, on_disk, entry_of}
+use Rattle.shot_lists.specs.Entries.{body_fixed, of_kind, on_disk, entry_of, taken}
 use Rattle.shot_lists.specs.Laws.{Spells, taken-told}
 use Rattle.shot_lists.specs.Statements.{KindFixes}
 
@@ -110,7 +109,7 @@ module _ (k : ℕ) (l : List ℕ) (bytes : Bytes l) where
   unfolding body_fixed of_kind
   body-there known room = there-by (eqb k 1) (eqb k 2) (eqb k 3) refl refl refl known room
 
-  pub disk-spelt : (held : ℕ) (r : Record) (after size : ℕ) → entry_of on_disk held (k ∷ l) ≡ Taken r after size → OneOnDisk r (take size (k ∷ l))
+  pub disk-spelt : (held : ℕ) (r : Record) (after size : ℕ) → entry_of on_disk held (k ∷ l) ≡ taken r after size → OneOnDisk r (take size (k ∷ l))
   disk-spelt held r after size h =
       let t = taken-told on_disk held k l r after size h in
       let stands : there r (on_disk.body k) = subst (λ (x : Record). there x (on_disk.body k)) t.made (body-there t.known t.whole) in

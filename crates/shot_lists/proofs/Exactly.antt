@@ -1,6 +1,7 @@
 -- What a list gives, by how its records are spelt: its records, or the earliest one at fault; along the reader's own recursion, and back along the
 -- grammar's. Once, for every layout and every spelling that it reads.
 -- Assumes nothing.
+use Rattle.shot_lists.specs.declared.records.Taken.{Taken}
 use Prim.Native.Nat.{ℕ, zero, suc, ◌-◌, ◌<◌}
 use mathlib.Core.Path.{◌≡◌, refl, sym, ap, ◌∙◌, subst}
 use mathlib.Core.Logic.{◌↔◌}
@@ -9,11 +10,10 @@ use native.Mathlib.Omega.{arith}
 use lib.ListN.{take, drop, take-append-drop}
 use Rattle.answers.specs.declared.Refusal.{Refusal}
 use Rattle.shot_lists.specs.declared.records.Record.{Record}
-use Rattle.shot_lists.specs.declared.records.Entry.{Entry}
-use Rattle.shot_lists.specs.declared.records.Entry.TheVariants.{Taken, Refused, End}
+use Rattle.std.specs.Prelude.{Some, None, Ok, Err, Option, Result}
 use Rattle.shot_lists.specs.Records.{held_after, Sound, held_behind}
 use Rattle.shot_lists.specs.Grammar.{OneByOne, none, more}
-use Rattle.shot_lists.specs.Entries.{Layout, entry_of}
+use Rattle.shot_lists.specs.Entries.{Layout, entry_of, taken}
 use Rattle.shot_lists.specs.Reading.{Reading, AllOf, FaultOf, and_then, onward, read_from, read_of}
 use Rattle.shot_lists.specs.Laws.{taken-told, taken-size, end-only, Spells}
 use Rattle.shot_lists.specs.Walk.{read-spelled, read-refused, read-end}
@@ -43,8 +43,8 @@ split (suc n) x l h =
 -- ---- a layout, a spelling that it reads, and lists whose records it reads in no other
 
 module _ {A : Type 0} (f : Layout A) (Spelt : Record → List A → Type 0) (spells : (r : Record) (l : List A) → Spelt r l → Spells f r l)
-    (Ok : List A → Type 0) (later : (x : A) (l : List A) → Ok (x ∷ l) → Ok l)
-    (taken-spelt : (held : ℕ) (x : A) (l : List A) (r : Record) (after size : ℕ) → Ok (x ∷ l) → entry_of f held (x ∷ l) ≡ Taken r after size
+    (Fine : List A → Type 0) (later : (x : A) (l : List A) → Fine (x ∷ l) → Fine l)
+    (taken-spelt : (held : ℕ) (x : A) (l : List A) (r : Record) (after size : ℕ) → Fine (x ∷ l) → entry_of f held (x ∷ l) ≡ taken r after size
     → Spelt r (take size (x ∷ l))) where
   -- what was read tells of the list; the rate held in front of it is any
   record FaultIn (held : ℕ) (l : List A) (e : Refusal) : Type 0 where
@@ -54,14 +54,14 @@ module _ {A : Type 0} (f : Layout A) (Spelt : Record → List A → Type 0) (spe
     parts : l ≡ front ++ rest
     good : OneByOne Spelt before front
     sound : Sound held before
-    fault : entry_of f (held_behind held before) rest ≡ Refused e
+    fault : entry_of f (held_behind held before) rest ≡ Err e
 
   abbrev Told : (held : ℕ) → Reading → List A → Type 0
   Told held (AllOf rs) l = OneByOne Spelt rs l × Sound held rs
   Told held (FaultOf e) l = FaultIn held l e
 
   -- the record in front of what is told of the rest
-  module _ (held : ℕ) (x : A) (l : List A) (r : Record) (after size : ℕ) (h : entry_of f held (x ∷ l) ≡ Taken r after size) (ok : Ok (x ∷ l)) where
+  module _ (held : ℕ) (x : A) (l : List A) (r : Record) (after size : ℕ) (h : entry_of f held (x ∷ l) ≡ taken r after size) (ok : Fine (x ∷ l)) where
     part : List A
     part = take size (x ∷ l)
 
@@ -88,20 +88,20 @@ module _ {A : Type 0} (f : Layout A) (Spelt : Record → List A → Type 0) (spe
           parts = sym apart ∙ ap (λ (m : List A). part ++ m) told.parts ∙ sym (append_assoc part told.front told.rest);
           good = more r part told.before told.front spelt told.good;
           sound = (t.sound, subst (λ (a : ℕ). Sound a told.before) t.next told.sound);
-          fault = subst (λ (a : ℕ). entry_of f (held_behind a told.before) told.rest ≡ Refused e) t.next told.fault;
+          fault = subst (λ (a : ℕ). entry_of f (held_behind a told.before) told.rest ≡ Err e) t.next told.fault;
         }
 
-  told-by : (held : ℕ) (x : A) (l : List A) (found : Entry) → entry_of f held (x ∷ l) ≡ found → Ok (x ∷ l)
+  told-by : (held : ℕ) (x : A) (l : List A) (found : Result (Option Taken) Refusal) → entry_of f held (x ∷ l) ≡ found → Fine (x ∷ l)
       → ((skip after : ℕ) → Told after (read_from f skip after l) (drop skip l))
       → Told held (onward found (λ after size. read_from f (size - 1) after l)) (x ∷ l)
-  told-by held x l (Taken r after size) h ok rest = told_more held x l r after size h ok (read_from f (size - 1) after l) (rest (size - 1) after)
-  told-by held x l (Refused e) h ok rest =
+  told-by held x l (Ok (Some t)) h ok rest = told_more held x l t.found t.held t.size h ok (read_from f (t.size - 1) t.held l) (rest (t.size - 1) t.held)
+  told-by held x l (Err e) h ok rest =
       record { before = []; front = []; rest = x ∷ l; parts = refl; good = none; sound = tt; fault = h }
-  told-by held x l End h ok rest =
+  told-by held x l (Ok None) h ok rest =
       let empty = end-only f held (x ∷ l) h in
       let clash : ◌≡◌ {A = ℕ} 0 1 = cc in absurd (omega arith)
 
-  told : (skip held : ℕ) (l : List A) → Ok l → Told held (read_from f skip held l) (drop skip l)
+  told : (skip held : ℕ) (l : List A) → Fine l → Told held (read_from f skip held l) (drop skip l)
   unfolding read_from
   told zero held [] ok = (none, tt)
   told (suc skip) held [] ok = (none, tt)
@@ -118,7 +118,7 @@ module _ {A : Type 0} (f : Layout A) (Spelt : Record → List A → Type 0) (spe
       ∙ read-spelled f held r part (behind ++ m) (spells r part spelt) sound.0
       ∙ ap (and_then r) (read-front (held_after held r) rs₂ behind m rest sound.1)
 
-  pub exactly : (l : List A) (rs : List Record) → Ok l → (read_of f l ≡ AllOf rs) ↔ (OneByOne Spelt rs l × Sound 0 rs)
+  pub exactly : (l : List A) (rs : List Record) → Fine l → (read_of f l ≡ AllOf rs) ↔ (OneByOne Spelt rs l × Sound 0 rs)
   exactly l rs ok = (
     λ e. subst (λ (t : Reading). Told 0 t l) e (told 0 0 l ok),
     λ p.
@@ -128,7 +128,7 @@ module _ {A : Type 0} (f : Layout A) (Spelt : Record → List A → Type 0) (spe
         ∙ all_none rs,
   )
 
-  pub refused : (l : List A) (e : Refusal) → Ok l → (read_of f l ≡ FaultOf e) ↔ Earliest f (OneByOne Spelt) l e
+  pub refused : (l : List A) (e : Refusal) → Fine l → (read_of f l ≡ FaultOf e) ↔ Earliest f (OneByOne Spelt) l e
   refused l e ok = (
     λ h.
         let p : FaultIn 0 l e = subst (λ (t : Reading). Told 0 t l) h (told 0 0 l ok) in

@@ -1,4 +1,3 @@
-pub mod ByKind
 pub mod Counting
 pub mod Bodies
 pub mod OwnNumbers

@@ -1,18 +1,20 @@
 -- Which numbers a record's refusal has: 8 is none of them; and no place in a text.
 -- Assumes nothing.
+use Rattle.shot_lists.specs.declared.records.Taken.{Taken}
+use Rattle.answers.specs.declared.Refusal.{Refusal}
 use Prim.Native.Nat.{ℕ, zero, suc, ◌-◌}
 use mathlib.Core.Path.{◌≡◌, refl, sym, ap, ◌∙◌, subst}
 use mathlib.Core.List.{List, [], ◌∷◌}
 use mathlib.Core.Bool.{Bool, true, false, cond}
 use native.Mathlib.Omega.{arith}
+use Rattle.answers.specs.Causes.{refusal_number}
 use Rattle.answers.specs.Order.{Condition, first, NoPlaces}
 use Rattle.answers.specs.OrderLaws.{unless-number, unless-place}
 use Rattle.shot_lists.specs.declared.records.Record.{Record}
 use Rattle.shot_lists.specs.declared.records.Record.TheVariants.{Rate, Shot, Reel}
-use Rattle.shot_lists.specs.declared.records.Entry.{Entry}
-use Rattle.shot_lists.specs.declared.records.Entry.TheVariants.{Taken, Refused, End}
+use Rattle.std.specs.Prelude.{Some, None, Ok, Err, Option, Result}
 use Rattle.shot_lists.specs.Records.{held_after, faults}
-use Rattle.shot_lists.specs.Entries.{Layout, against, entry_of}
+use Rattle.shot_lists.specs.Entries.{Layout, against, entry_of, taken}
 use Rattle.shot_lists.specs.Reading.{Reading, AllOf, FaultOf, and_then, onward, read_from, number_in, place_in}
 use Rattle.shot_lists.specs.Statements.{EntryWhen, NeverEight}
 
@@ -20,18 +22,18 @@ pub entry_when : EntryWhen
 unfolding entry_of
 entry_when A f held x l =
     let r = f.made (f.kind x) l in
-    unless-number number_in Refused (λ e. refl) (against f held x l) (Taken r (held_after held r) (suc (f.body (f.kind x)))) refl
+    unless-number number_in Err (λ e. refl) (against f held x l) (taken r (held_after held r) (suc (f.body (f.kind x)))) refl
 
 -- none of the conditions has this number
 abbrev pub AllBut : ℕ → List Condition → Type 0
 AllBut n [] = Unit {0}
-AllBut n (c ∷ cs) = (c.refusal.number ≡ n → ⊥) × AllBut n cs
+AllBut n (c ∷ cs) = ((refusal_number c.refusal) ≡ n → ⊥) × AllBut n cs
 
 pub first-but : (n : ℕ) (cs : List Condition) → AllBut (suc n) cs → first cs ≡ suc n → ⊥
 first-but n [] h e = omega arith
 first-but n (c ∷ cs) h e = by c.holds (first-but n cs h.1) e
   where
-    by : (t : Bool) → (first cs ≡ suc n → ⊥) → cond t c.refusal.number (first cs) ≡ suc n → ⊥
+    by : (t : Bool) → (first cs ≡ suc n → ⊥) → cond t (refusal_number c.refusal) (first cs) ≡ suc n → ⊥
     by true later e = h.0 e
     by false later e = later e
 
@@ -59,28 +61,28 @@ entry-nowhere : {A : Type 0} (f : Layout A) (held : ℕ) (x : A) (l : List A) �
 unfolding entry_of
 entry-nowhere f held x l =
     let r = f.made (f.kind x) l in
-    unless-place place_in Refused (λ e. refl) (against f held x l) (against-nowhere f held x l) (Taken r (held_after held r) (suc (f.body (f.kind x)))) refl
+    unless-place place_in Err (λ e. refl) (against f held x l) (against-nowhere f held x l) (taken r (held_after held r) (suc (f.body (f.kind x)))) refl
 
 -- the refusal that was read, if any, has another number, and place 0
 abbrev Other : Reading → Type 0
 Other (AllOf rs) = Unit {0}
-Other (FaultOf e) = (e.number ≡ 8 → ⊥) × (e.place ≡ 0)
+Other (FaultOf e) = ((refusal_number e) ≡ 8 → ⊥) × (e.place ≡ 0)
 
 other-more : (r : Record) (later : Reading) → Other later → Other (and_then r later)
 other-more r (AllOf rs) h = tt
 other-more r (FaultOf e) h = h
 
 module _ {A : Type 0} (f : Layout A) where
-  other-by : (held : ℕ) (x : A) (l : List A) (found : Entry) → entry_of f held (x ∷ l) ≡ found
+  other-by : (held : ℕ) (x : A) (l : List A) (found : Result (Option Taken) Refusal) → entry_of f held (x ∷ l) ≡ found
       → ((skip after : ℕ) → Other (read_from f skip after l)) → Other (onward found (λ after size. read_from f (size - 1) after l))
-  other-by held x l (Taken r after size) h later = other-more r (read_from f (size - 1) after l) (later (size - 1) after)
-  other-by held x l (Refused e) h later = (
+  other-by held x l (Ok (Some t)) h later = other-more t.found (read_from f (t.size - 1) t.held l) (later (t.size - 1) t.held)
+  other-by held x l (Err e) h later = (
     λ n.
         first-but 7 (against f held x l) (λ z. omega arith, (λ z. omega arith, no-eight held (f.made (f.kind x) l)))
         (sym (entry_when A f held x l) ∙ ap number_in h ∙ n),
     sym (ap place_in h) ∙ entry-nowhere f held x l,
   )
-  other-by held x l End h later = tt
+  other-by held x l (Ok None) h later = tt
 
   other : (skip held : ℕ) (l : List A) → Other (read_from f skip held l)
   unfolding read_from

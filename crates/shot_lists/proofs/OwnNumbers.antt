@@ -15,10 +15,9 @@ use Rattle.answers.specs.OrderLaws.{not_in}
 use Rattle.rates.specs.Rates.{is_rate}
 use Rattle.shot_lists.specs.declared.records.Record.{Record}
 use Rattle.shot_lists.specs.declared.records.Record.TheVariants.{Rate, Shot, Reel}
-use Rattle.shot_lists.specs.declared.records.Entry.TheVariants.{Taken}
 use Rattle.shot_lists.specs.Records.{faults}
 use Rattle.shot_lists.specs.Grammar.{OneByOne, none, more, record_numbers, list_numbers}
-use Rattle.shot_lists.specs.Entries.{body_fixed, of_kind, in_numbers, entry_of}
+use Rattle.shot_lists.specs.Entries.{body_fixed, of_kind, in_numbers, entry_of, taken}
 use Rattle.shot_lists.specs.Laws.{Spells, taken-told}
 
 -- ---- they are taken as the record
@@ -61,7 +60,7 @@ module _ (held : ℕ) (x : ℤ) where
       ap₂ (λ (y z : ℤ). y ∷ z ∷ []) (up_is x 3 (eqb-true (up_from x) 3 g) (omega arith)) (up_is a (up_from a) refl (omega arith))
   own-by l false false false e f g known room clear = absurd (known refl)
 
-  pub numbers-spelt : (l : List ℤ) (r : Record) (after size : ℕ) → entry_of in_numbers held (x ∷ l) ≡ Taken r after size → take size (x ∷ l) ≡ record_numbers r
+  pub numbers-spelt : (l : List ℤ) (r : Record) (after size : ℕ) → entry_of in_numbers held (x ∷ l) ≡ taken r after size → take size (x ∷ l) ≡ record_numbers r
   unfolding body_fixed of_kind
   numbers-spelt l r after size h =
       let t = taken-told in_numbers held x l r after size h in

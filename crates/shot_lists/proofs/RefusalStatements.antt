@@ -19,10 +19,9 @@ use Rattle.low_bytes.specs.LowBytes.{worth}
 use Rattle.low_bytes.proofs.Worth.{worth-below}
 use Rattle.shot_lists.specs.declared.records.Record.{Record}
 use Rattle.shot_lists.specs.declared.records.Record.TheVariants.{Rate, Shot, Reel}
-use Rattle.shot_lists.specs.declared.records.Entry.TheVariants.{Taken}
 use Rattle.shot_lists.specs.Records.{faults, Sound, held_behind}
 use Rattle.shot_lists.specs.Grammar.{kind_byte, OneOnDisk}
-use Rattle.shot_lists.specs.Entries.{body_fixed, on_disk, entry_of}
+use Rattle.shot_lists.specs.Entries.{body_fixed, on_disk, entry_of, taken}
 use Rattle.shot_lists.specs.Reading.{number_in}
 use Rattle.shot_lists.specs.Laws.{entry-spelled}
 use Rattle.shot_lists.specs.RefusalStatements.{numbers_in, order_for, Within400, rates_in, last_of, RefusalOrder, NineExactly, TenExactly, SixExactly, FiveExactly, ElevenExactly, TwelveExactly, RateHolds, EmptyShot, AnyReel}
@@ -272,4 +271,4 @@ any_reel held body l long bytes =
     entry-spelled on_disk held (Reel (worth body)) (3 ∷ body) l
     (disk-spells (Reel (worth body)) (3 ∷ body) record { body = body; is = refl; of = record { long = long; bytes = bytes; is = refl } })
     (ap not (lt-ltb (worth body) (256 ^ 4) below), tt)
-    ∙ ap (λ (n : ℕ). Taken (Reel (worth body)) held (suc n)) long
+    ∙ ap (λ (n : ℕ). taken (Reel (worth body)) held (suc n)) long

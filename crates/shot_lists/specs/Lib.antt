@@ -1,6 +1,7 @@
 pub mod Records
 pub mod Grammar
 pub mod Entries
+pub mod KindLaws
 pub mod Reading
 pub mod Laws
 pub mod Walk

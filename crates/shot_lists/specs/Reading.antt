@@ -1,12 +1,10 @@
 -- A whole list (BEHAVIOUR: Shot lists): its records in order, or the refusal of the earliest record at fault.
 -- Assumes nothing.
-use Rattle.std.specs.Prelude.{ℕ, zero, suc, ◌-◌, List, [], ◌∷◌, Bool, true, false, length}
+use Rattle.shot_lists.specs.declared.records.Taken.{Taken}
+use Rattle.answers.specs.Causes.{refusal_number}
+use Rattle.std.specs.Prelude.{ℕ, zero, suc, ◌-◌, List, [], ◌∷◌, Bool, true, false, length, Some, None, Result, Ok, Err, Option}
 use Rattle.answers.specs.declared.Refusal.{Refusal}
 use Rattle.shot_lists.specs.declared.records.Record.{Record}
-use Rattle.shot_lists.specs.declared.records.Entry.{Entry}
-use Rattle.shot_lists.specs.declared.records.Entry.TheVariants as entry
-use Rattle.shot_lists.specs.declared.disk.Checked.{Checked}
-use Rattle.shot_lists.specs.declared.disk.Checked.TheVariants as checked
 use Rattle.shot_lists.specs.Entries.{Layout, entry_of}
 
 -- what a list gives: all of its records, or the refusal of the earliest one at fault
@@ -20,10 +18,10 @@ and_then r (AllOf rs) = AllOf (r ∷ rs)
 and_then r (FaultOf e) = FaultOf e
 
 -- by what stands at the front: the record and what is read behind it, its refusal, or no record at all
-abbrev pub onward : Entry → (ℕ → ℕ → Reading) → Reading
-onward (entry.Taken r held size) later = and_then r (later held size)
-onward (entry.Refused e) later = FaultOf e
-onward entry.End later = AllOf []
+abbrev pub onward : Result (Option Taken) Refusal → (ℕ → ℕ → Reading) → Reading
+onward (Ok (Some t)) later = and_then t.found (later t.held t.size)
+onward (Ok None) later = AllOf []
+onward (Err e) later = FaultOf e
 
 -- the record at the front, and the records behind it; `skip` elements that belong to the record before are passed over
 unfoldable pub read_from : {A : Type 0} → Layout A → (skip held : ℕ) → List A → Reading
@@ -41,18 +39,16 @@ is_faultless (AllOf rs) = true
 is_faultless (FaultOf e) = false
 
 -- how many records, or the refusal
-abbrev pub checked_of : Reading → Checked
-checked_of (AllOf rs) = checked.Records (length rs)
-checked_of (FaultOf e) = checked.Refused e
+abbrev pub checked_of : Reading → Result ℕ Refusal
+checked_of (AllOf rs) = Ok (length rs)
+checked_of (FaultOf e) = Err e
 
 -- the number of an entry's refusal; 0: not refused
-abbrev pub number_in : Entry → ℕ
-number_in (entry.Taken r held size) = 0
-number_in (entry.Refused e) = e.number
-number_in entry.End = 0
+abbrev pub number_in : Result (Option Taken) Refusal → ℕ
+number_in (Ok found) = 0
+number_in (Err e) = refusal_number e
 
 -- and its place
-abbrev pub place_in : Entry → ℕ
-place_in (entry.Taken r held size) = 0
-place_in (entry.Refused e) = e.place
-place_in entry.End = 0
+abbrev pub place_in : Result (Option Taken) Refusal → ℕ
+place_in (Ok found) = 0
+place_in (Err e) = e.place

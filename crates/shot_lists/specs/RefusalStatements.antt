@@ -2,14 +2,14 @@
 -- what is allowed. Proofs: proofs/RefusalStatements.antt.
 -- Assumes nothing.
 use Rattle.std.specs.Prelude.{ℕ, ◌≤◌, ◌<◌, ◌≡◌, ◌↔◌, ◌⊎◌, List, [], ◌∷◌, ◌++◌, ℤ, nat_abs, length, ◌<ℤ◌}
+use Rattle.answers.specs.Causes.{refusal_number}
 use Rattle.answers.specs.Order.{Condition}
 use Rattle.low_bytes.specs.LowBytes.{Bytes, worth}
 use Rattle.shot_lists.specs.declared.records.Record.{Record}
 use Rattle.shot_lists.specs.declared.records.Record.TheVariants.{Rate, Shot, Reel}
-use Rattle.shot_lists.specs.declared.records.Entry.TheVariants.{Taken}
 use Rattle.shot_lists.specs.Records.{Sound, held_behind}
 use Rattle.shot_lists.specs.Grammar.{kind_byte, BodyOf, OneOnDisk}
-use Rattle.shot_lists.specs.Entries.{Layout, on_disk, against, entry_of}
+use Rattle.shot_lists.specs.Entries.{Layout, on_disk, against, entry_of, taken}
 use Rattle.shot_lists.specs.Reading.{number_in}
 
 -- ---- the order
@@ -17,7 +17,7 @@ use Rattle.shot_lists.specs.Reading.{number_in}
 -- the numbers of conditions, in their order
 abbrev pub numbers_in : List Condition → List ℕ
 numbers_in [] = []
-numbers_in (c ∷ cs) = c.refusal.number ∷ numbers_in cs
+numbers_in (c ∷ cs) = (refusal_number c.refusal) ∷ numbers_in cs
 
 -- 6 for a rate; 5 for either frame, 11, 12 for a shot; 5 for a reel
 abbrev pub order_for : Record → List ℕ
@@ -92,9 +92,9 @@ RateHolds = (held : ℕ) (rs : List Record) → held_behind held rs ≡ last_of 
 abbrev pub EmptyShot : Type 0
 EmptyShot =
     (held : ℕ) (frame : ℤ) (part l : List ℕ) → 1 ≤ held → held ≤ 12 → OneOnDisk (Shot frame frame) part → Within400 frame
-    → entry_of on_disk held (part ++ l) ≡ Taken (Shot frame frame) held (length part)
+    → entry_of on_disk held (part ++ l) ≡ taken (Shot frame frame) held (length part)
 
 -- any four bytes are a reel, whatever rate is held, and it stays held
 abbrev pub AnyReel : Type 0
 AnyReel =
-    (held : ℕ) (body l : List ℕ) → length body ≡ 4 → Bytes body → entry_of on_disk held (3 ∷ (body ++ l)) ≡ Taken (Reel (worth body)) held 5
+    (held : ℕ) (body l : List ℕ) → length body ≡ 4 → Bytes body → entry_of on_disk held (3 ∷ (body ++ l)) ≡ taken (Reel (worth body)) held 5

@@ -3,13 +3,14 @@
 -- Assumes nothing.
 use Rattle.std.specs.Prelude.{ℕ, ◌≡◌, ◌↔◌, List, [], ◌∷◌, ◌++◌, ℤ, length, drop}
 use Rattle.answers.specs.declared.Refusal.{Refusal}
+use Rattle.answers.specs.Causes.{refusal_number}
 use Rattle.answers.specs.Order.{first}
 use Rattle.low_bytes.specs.LowBytes.{Bytes}
 use Rattle.shot_lists.specs.declared.records.Record.{Record}
-use Rattle.shot_lists.specs.declared.records.Entry.TheVariants.{Taken, Refused, End}
+use Rattle.std.specs.Prelude.{Err}
 use Rattle.shot_lists.specs.Records.{Sound, held_behind}
 use Rattle.shot_lists.specs.Grammar.{kind_byte, BodyOf, OnDisk, list_numbers}
-use Rattle.shot_lists.specs.Entries.{Layout, on_disk, in_numbers, against, entry_of}
+use Rattle.shot_lists.specs.Entries.{Layout, on_disk, in_numbers, against, entry_of, taken, over}
 use Rattle.shot_lists.specs.Reading.{AllOf, FaultOf, and_then, read_from, read_of, number_in}
 
 -- a body has the length that its kind fixes
@@ -28,7 +29,7 @@ pub record Earliest {A : Type 0} (f : Layout A) (Listed : List Record → List A
   pub parts : l ≡ front ++ rest
   pub good : Listed before front
   pub sound : Sound 0 before
-  pub fault : entry_of f (held_behind 0 before) rest ≡ Refused e
+  pub fault : entry_of f (held_behind 0 before) rest ≡ Err e
 
 -- a list is refused exactly what its earliest record at fault is refused
 abbrev pub RefusedExactly : Type 0
@@ -50,7 +51,7 @@ EntryWhen = (A : Type 0) (f : Layout A) (held : ℕ) (x : A) (l : List A) → nu
 
 -- the reader never gives 8, and its refusals have no place in a text
 abbrev pub NeverEight : Type 1
-NeverEight = (A : Type 0) (f : Layout A) (l : List A) (e : Refusal) → read_of f l ≡ FaultOf e → (e.number ≡ 8 → ⊥) × (e.place ≡ 0)
+NeverEight = (A : Type 0) (f : Layout A) (l : List A) (e : Refusal) → read_of f l ≡ FaultOf e → ((refusal_number e) ≡ 8 → ⊥) × (e.place ≡ 0)
 
 -- no bytes are two lists, and what is read is the one list that they are
 pub record OneList : Type 0 where
@@ -64,7 +65,7 @@ OneBytes = (rs : List Record) (l m : List ℕ) → OnDisk rs l → OnDisk rs m �
 -- record by record, given the rate held: the record at a place, then those behind it; a refusal is the list's; at the end there is none
 pub record RecordByRecord : Type 0 where
   pub taken :
-      (held : ℕ) (l : List ℕ) (r : Record) (after size : ℕ) → entry_of on_disk held l ≡ Taken r after size
+      (held : ℕ) (l : List ℕ) (r : Record) (after size : ℕ) → entry_of on_disk held l ≡ taken r after size
       → read_from on_disk 0 held l ≡ and_then r (read_from on_disk 0 after (drop size l))
-  pub refused : (held : ℕ) (l : List ℕ) (e : Refusal) → entry_of on_disk held l ≡ Refused e → read_from on_disk 0 held l ≡ FaultOf e
-  pub over : (held : ℕ) (l : List ℕ) → (entry_of on_disk held l ≡ End) ↔ (l ≡ [])
+  pub refused : (held : ℕ) (l : List ℕ) (e : Refusal) → entry_of on_disk held l ≡ Err e → read_from on_disk 0 held l ≡ FaultOf e
+  pub over : (held : ℕ) (l : List ℕ) → (entry_of on_disk held l ≡ over) ↔ (l ≡ [])

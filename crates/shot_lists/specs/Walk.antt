@@ -10,9 +10,9 @@ use native.Mathlib.Omega.{arith}
 use Rattle.answers.specs.declared.Refusal.{Refusal}
 use Rattle.answers.specs.Order.{Clear}
 use Rattle.shot_lists.specs.declared.records.Record.{Record}
-use Rattle.shot_lists.specs.declared.records.Entry.TheVariants.{Taken, Refused, End}
+use Rattle.std.specs.Prelude.{Err}
 use Rattle.shot_lists.specs.Records.{held_after, faults}
-use Rattle.shot_lists.specs.Entries.{Layout, entry_of}
+use Rattle.shot_lists.specs.Entries.{Layout, entry_of, taken, over}
 use Rattle.shot_lists.specs.Reading.{Reading, AllOf, FaultOf, and_then, read_from, read_of, is_faultless}
 use Rattle.shot_lists.specs.Laws.{taken-size, end-apart, end-only, Spells, entry-spelled}
 
@@ -31,7 +31,7 @@ module _ {A : Type 0} (f : Layout A) where
   read-skip (suc k) held [] = refl
   read-skip (suc k) held (x ∷ l) = read-skip k held l
 
-  pub read_taken : (held : ℕ) (l : List A) (r : Record) (after size : ℕ) → entry_of f held l ≡ Taken r after size
+  pub read_taken : (held : ℕ) (l : List A) (r : Record) (after size : ℕ) → entry_of f held l ≡ taken r after size
       → read_from f 0 held l ≡ and_then r (read_from f 0 after (drop size l))
   unfolding read_from entry_of
   read_taken held [] r after size h = absurd (end-apart r after size h)
@@ -40,7 +40,7 @@ module _ {A : Type 0} (f : Layout A) where
       let n : suc size - 1 ≡ size = omega arith in
       rw (h, n) (ap (and_then r) (read-skip size after l))
 
-  pub read-refused : (held : ℕ) (l : List A) (e : Refusal) → entry_of f held l ≡ Refused e → read_from f 0 held l ≡ FaultOf e
+  pub read-refused : (held : ℕ) (l : List A) (e : Refusal) → entry_of f held l ≡ Err e → read_from f 0 held l ≡ FaultOf e
   unfolding read_from entry_of
   read-refused held [] e h = let clash : ◌≡◌ {A = ℕ} 0 1 = cc in absurd (omega arith)
   read-refused held (x ∷ l) e h = rw h
@@ -68,7 +68,7 @@ module _ {A : Type 0} (f : Layout A) where
 
   -- a record was taken: `next` does with the rest what `rest` does with the record and the rest
   pub going-turn : {B : Type 0} (l : List A) (want : B) (rest next : Reading → B) (at held : ℕ) (r : Record) (after size : ℕ)
-      → Going l want rest at held → entry_of f held (drop at l) ≡ Taken r after size
+      → Going l want rest at held → entry_of f held (drop at l) ≡ taken r after size
       → ((t : Reading) → read_from f 0 after (drop (at + size) l) ≡ t → rest (and_then r t) ≡ next t) → Going l want next (at + size) after
   going-turn l want rest next at held r after size g h step =
       let n = taken-size f held (drop at l) r after size h in
@@ -82,12 +82,12 @@ module _ {A : Type 0} (f : Layout A) where
       }
 
   pub going-stop : {B : Type 0} (l : List A) (want : B) (rest : Reading → B) (at held : ℕ) (e : Refusal)
-      → Going l want rest at held → entry_of f held (drop at l) ≡ Refused e → want ≡ rest (FaultOf e)
+      → Going l want rest at held → entry_of f held (drop at l) ≡ Err e → want ≡ rest (FaultOf e)
   going-stop l want rest at held e g h = g.same ∙ ap rest (read-refused held (drop at l) e h)
 
   -- no record is left
   pub going-over : {B : Type 0} (l : List A) (want : B) (rest : Reading → B) (at held : ℕ)
-      → Going l want rest at held → entry_of f held (drop at l) ≡ End → want ≡ rest (AllOf [])
+      → Going l want rest at held → entry_of f held (drop at l) ≡ over → want ≡ rest (AllOf [])
   going-over l want rest at held g h =
       g.same ∙ ap (λ (k : List A). rest (read_from f 0 held k)) (end-only f held (drop at l) h) ∙ ap rest (read-end 0 held)
 
@@ -96,7 +96,7 @@ module _ {A : Type 0} (f : Layout A) where
       g.same ∙ ap (λ (k : List A). rest (read_from f 0 held k)) (drop_of_length-le l h) ∙ ap rest (read-end 0 held)
 
   -- a record that was taken leaves less to be read
-  pub going-nearer : (l : List A) (at held : ℕ) (r : Record) (after size : ℕ) → entry_of f held (drop at l) ≡ Taken r after size → (0 < size) × (at + size ≤ length l)
+  pub going-nearer : (l : List A) (at held : ℕ) (r : Record) (after size : ℕ) → entry_of f held (drop at l) ≡ taken r after size → (0 < size) × (at + size ≤ length l)
   going-nearer l at held r after size h =
       let n = taken-size f held (drop at l) r after size h in
       (n.0, omega (arith, n.0, n.1, length-drop at l))
@@ -107,8 +107,8 @@ module _ {A : Type 0} (f : Layout A) where
   faultless-begin l h = record { inside = omega arith; same = sym h }
 
   pub faultless-turn : (l : List A) (at held : ℕ) (r : Record) (after size : ℕ)
-      → Going l true is_faultless at held → entry_of f held (drop at l) ≡ Taken r after size → Going l true is_faultless (at + size) after
+      → Going l true is_faultless at held → entry_of f held (drop at l) ≡ taken r after size → Going l true is_faultless (at + size) after
   faultless-turn l at held r after size g h = going-turn l true is_faultless is_faultless at held r after size g h (λ t _. faultless-more r t)
 
-  pub faultless-never : (l : List A) (at held : ℕ) (e : Refusal) → Going l true is_faultless at held → entry_of f held (drop at l) ≡ Refused e → ⊥
+  pub faultless-never : (l : List A) (at held : ℕ) (e : Refusal) → Going l true is_faultless at held → entry_of f held (drop at l) ≡ Err e → ⊥
   faultless-never l at held e g h = faultless-apart (going-stop l true is_faultless at held e g h)

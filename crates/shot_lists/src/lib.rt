@@ -4,9 +4,10 @@
 #![tactic(auto)]
 
 mod disk;
+mod entries;
 mod given;
 mod records;
 
-pub use disk::{Checked, check_list, record_at};
+pub use disk::{check_list, record_at};
 pub use given::given_at;
-pub use records::{Entry, Record};
+pub use records::{Record, RecordKind, Taken};

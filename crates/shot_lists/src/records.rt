@@ -1,11 +1,10 @@
-// A record of a shot list, and what speaks against its numbers where a rate is held.
-ghost use Rattle.std.specs.Prelude.{◌≡◌, ◌∷◌, []};
+// A record of a shot list, its kind, and what speaks against its numbers where a rate is held.
+ghost use Rattle.std.specs.Prelude.{◌≡◌};
 ghost use Rattle.answers.specs.Order.{judged};
-ghost use Rattle.rates.specs.Rates.{bad_rate};
-ghost use Rattle.shot_lists.specs.Records.{held_after, bad_reel, shot_faults, faults};
-ghost use Rattle.shot_lists.specs.Entries.{body_fixed, ruled};
+ghost use Rattle.shot_lists.specs.Records.{held_after, shot_faults, faults};
+ghost use Rattle.shot_lists.specs.Entries.{kind_of, ruled};
 
-use answers::{Refusal, Verdict};
+use answers::{Cause, Refusal};
 
 // A rate, which holds until the next one; a shot's first and end frames, the end not included; a reel.
 #[derive(Clone, Copy)]
@@ -15,81 +14,66 @@ pub enum Record {
     Reel(u64),
 }
 
-// A record, the rate that is held behind it, and how far it goes; or why there is none; or the list is over.
+// The kind of a record, which stands in front of its body.
+#[derive(Clone, Copy, PartialEq, Eq)]
+pub enum RecordKind {
+    Rate = 1,
+    Shot = 2,
+    Reel = 3,
+}
+
+// A record that is there, the rate that is held behind it, and how far it goes.
 #[derive(Clone, Copy)]
-pub enum Entry {
-    Taken {
-        found: Record,
-        held: u64,
-        size: usize,
-    },
-    Refused(Refusal),
-    End,
+pub struct Taken {
+    pub found: Record,
+    pub held: u64,
+    pub size: usize,
 }
 
-// The length of the body by the kind, given those of a rate, a shot and a reel; 0 where there is no such kind.
-pub(crate) fn body_fixed(kind: u64, rate: usize, shot: usize, reel: usize) -> usize
-    ensures { result ≡ body_fixed rate shot reel kind }
-{
-    if kind == 1 {
-        return rate;
-    }
-    if kind == 2 {
-        return shot;
-    }
-    if kind == 3 {
-        return reel;
-    }
-    0
-}
+impl TryFrom<u64> for RecordKind {
+    type Error = Refusal;
 
-// Refuses 6: no such rate.
-fn rate_fault(n: u64) -> Verdict
-    ensures { result ≡ judged (bad_rate n ∷ []) }
-{
-    if rates::is_rate(n) {
-        return Verdict::Passed;
+    ghost try_from_gives = { λ no made. made ≡ kind_of no };
+
+    // The kind of a number. Refuses 9: no such kind.
+    #[tactic(auto, unfolding(crate::specs::Entries::kind_of))]
+    fn try_from(no: u64) -> Result<RecordKind, Refusal> {
+        match no {
+            1 => Ok(RecordKind::Rate),
+            2 => Ok(RecordKind::Shot),
+            3 => Ok(RecordKind::Reel),
+            _ => Err(Cause::NoSuchKind.into()),
+        }
     }
-    Verdict::Refused(answers::NO_SUCH)
 }
 
 // Refuses 5: a frame out of the counts' bounds; 11: no rate is held; 12: the end lies before the first frame.
-fn shot_fault(held: u64, first: i64, end: i64) -> Verdict
+fn shot_fault(held: u64, first: i64, end: i64) -> Result<(), Refusal>
     ensures { result ≡ judged (shot_faults held first end) }
 {
-    if !answers::is_count(first) {
-        return Verdict::Refused(answers::OUT_OF_BOUNDS);
-    }
-    if !answers::is_count(end) {
-        return Verdict::Refused(answers::OUT_OF_BOUNDS);
+    if !answers::is_count(first) || !answers::is_count(end) {
+        return Err(Cause::OutOfBounds.into());
     }
     if !rates::is_rate(held) {
-        return Verdict::Refused(answers::NO_RATE_YET);
+        return Err(Cause::NoRateYet.into());
     }
     if end < first {
-        return Verdict::Refused(answers::END_BEFORE_FIRST);
+        return Err(Cause::EndBeforeFirst.into());
     }
-    Verdict::Passed
+    Ok(())
 }
 
-// Refuses 5: no unsigned 32-bit number.
-fn reel_fault(n: u64) -> Verdict
-    ensures { result ≡ judged (bad_reel n ∷ []) }
-{
-    if n < 4_294_967_296 {
-        return Verdict::Passed;
-    }
-    Verdict::Refused(answers::OUT_OF_BOUNDS)
-}
-
-// What speaks against a record's numbers where a rate is held.
-fn fault(held: u64, found: Record) -> Verdict
+// What speaks against a record's numbers where a rate is held. Refuses 6: no such rate; what a shot is refused; 5: a reel that is no
+// unsigned 32-bit number.
+#[tactic(auto, unfolding(crate::specs::Records::faults))]
+fn fault(held: u64, found: Record) -> Result<(), Refusal>
     ensures { result ≡ judged (faults held found) }
 {
     match found {
-        Record::Rate(n) => rate_fault(n),
+        Record::Rate(n) if !rates::is_rate(n) => Err(Cause::NoSuch.into()),
         Record::Shot { first, end } => shot_fault(held, first, end),
-        Record::Reel(n) => reel_fault(n),
+        Record::Reel(n) if n > u32::MAX as u64 => Err(Cause::OutOfBounds.into()),
+        Record::Rate(_) | Record::Reel(_) => Ok(()),
     }
 }
 
@@ -99,21 +83,19 @@ fn held_after(held: u64, found: Record) -> u64
 {
     match found {
         Record::Rate(n) => n,
-        Record::Shot { first: _, end: _ } => held,
-        Record::Reel(_) => held,
+        Record::Shot { .. } | Record::Reel(_) => held,
     }
 }
 
 // The record, where nothing speaks against its numbers.
-pub(crate) fn rule(held: u64, found: Record, size: usize) -> Entry
+#[tactic(auto, unfolding(crate::specs::Entries::ruled))]
+pub(crate) fn rule(held: u64, found: Record, size: usize) -> Result<Option<Taken>, Refusal>
     ensures { result ≡ ruled held found size }
 {
-    match fault(held, found) {
-        Verdict::Passed => Entry::Taken {
-            found,
-            held: held_after(held, found),
-            size,
-        },
-        Verdict::Refused(e) => Entry::Refused(e),
-    }
+    fault(held, found)?;
+    Ok(Some(Taken {
+        found,
+        held: held_after(held, found),
+        size,
+    }))
 }

@@ -13,8 +13,7 @@ use Rattle.low_bytes.specs.LowBytes.{signed_bytes, twos_of}
 use Rattle.low_bytes.specs.Laws.{low-length}
 use Rattle.shot_lists.specs.declared.records.Record.{Record}
 use Rattle.shot_lists.specs.declared.records.Record.TheVariants.{Rate, Shot, Reel}
-use Rattle.shot_lists.specs.declared.records.Entry.TheVariants.{Taken}
-use Rattle.shot_lists.specs.Entries.{body_fixed, of_kind, in_numbers, entry_of}
+use Rattle.shot_lists.specs.Entries.{body_fixed, of_kind, in_numbers, entry_of, taken}
 use Rattle.shot_lists.specs.Laws.{taken-told, end-apart}
 use Rattle.shot_writer.specs.ListText.{record_bytes}
 
@@ -39,7 +38,7 @@ bound_by false true s n m x y h = omega (arith, shot-long x y)
 bound_by false false true n m x y h = omega (arith, reel-long m)
 bound_by false false false n m x y h = absurd (h refl)
 
-pub taken-bytes : (held : ℕ) (l : List ℤ) (r : Record) (after size : ℕ) → entry_of in_numbers held l ≡ Taken r after size
+pub taken-bytes : (held : ℕ) (l : List ℤ) (r : Record) (after size : ℕ) → entry_of in_numbers held l ≡ taken r after size
     → length (record_bytes r) ≤ 3 * size
 unfolding entry_of body_fixed of_kind
 taken-bytes held [] r after size h = absurd (end-apart r after size h)

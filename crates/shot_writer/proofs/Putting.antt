@@ -9,14 +9,14 @@ use native.Mathlib.Nat.{zero-add}
 use lib.IntN.{ℤ}
 use lib.ListN.{length, drop, length-append}
 use borrow.Rule.Slice.PartMut.{put_mid, mid_of}
+use Rattle.std.specs.Prelude.{Err}
 use Rattle.answers.specs.declared.Refusal.{Refusal}
 use Rattle.lent.specs.Line.{splice, laid}
 use Rattle.lent.proofs.Laws.{laid_in, front-is, splice-length, splice-nil, splice-splice, line-lent, line-laid}
 use Rattle.shot_lists.specs.declared.records.Record.{Record}
-use Rattle.shot_lists.specs.declared.records.Entry.TheVariants.{Taken, Refused, End}
-use Rattle.shot_lists.specs.Entries.{in_numbers, entry_of}
+use Rattle.shot_lists.specs.Entries.{in_numbers, entry_of, taken, over}
 use Rattle.shot_lists.specs.Reading.{Reading, AllOf, FaultOf, and_then, read_from, read_of, is_faultless}
-use Rattle.shot_lists.specs.Walk.{Going, going-turn, going-over, going_done, faultless-apart, faultless-begin, faultless-turn, faultless-never}
+use Rattle.shot_lists.specs.Walk.{Going, going-turn, going-over, faultless-apart, faultless-begin, faultless-turn, faultless-never}
 use Rattle.shot_writer.specs.ListText.{record_bytes, list_bytes, records_in}
 
 abbrev pub text_of : Reading → List ℕ
@@ -52,7 +52,7 @@ text-more part to r (AllOf rs) g h = sym (splice-splice part (record_bytes r) (l
 text-more part to r (FaultOf e) g h = faultless-apart g
 
 module _ (given : List ℤ) (part₀ part : List ℕ) (at held to : ℕ) (p : Putting given part₀ part at held to) where
-  module _ (r : Record) (after size : ℕ) (h : entry_of in_numbers held (drop at given) ≡ Taken r after size) where
+  module _ (r : Record) (after size : ℕ) (h : entry_of in_numbers held (drop at given) ≡ taken r after size) where
     good-then : Going in_numbers given true is_faultless (at + size) after
     good-then = faultless-turn in_numbers given at held r after size p.good h
 
@@ -93,15 +93,10 @@ module _ (given : List ℤ) (part₀ part : List ℕ) (at held to : ℕ) (p : Pu
       pub putting-turn : (n : ℕ) → n ≡ length (record_bytes r) → Putting given part₀ (put_mid to (length part - to) part last) (at + size) after (to + n)
       putting-turn n e = subst (λ (m : ℕ). Putting given part₀ put (at + size) after (to + m)) (sym e) laid-down
 
-  pub putting-never : (e : Refusal) → entry_of in_numbers held (drop at given) ≡ Refused e → ⊥
+  pub putting-never : (e : Refusal) → entry_of in_numbers held (drop at given) ≡ Err e → ⊥
   putting-never e h = faultless-never in_numbers given at held e p.good h
 
-  pub putting-over : entry_of in_numbers held (drop at given) ≡ End → part ≡ laid part₀ (text_of (read_of in_numbers given))
+  pub putting-over : entry_of in_numbers held (drop at given) ≡ over → part ≡ laid part₀ (text_of (read_of in_numbers given))
   unfolding list_bytes
   putting-over h =
       sym (going-over in_numbers given (laid part₀ (text_of (read_of in_numbers given))) (λ t. splice part to (text_of t)) at held p.text h ∙ splice-nil part to)
-
-  pub putting-done : length given ≤ at → part ≡ laid part₀ (text_of (read_of in_numbers given))
-  unfolding list_bytes
-  putting-done h =
-      sym (going_done in_numbers given (laid part₀ (text_of (read_of in_numbers given))) (λ t. splice part to (text_of t)) at held p.text h ∙ splice-nil part to)

@@ -1,5 +1,6 @@
 -- What is refused; what is written is in the format; written and read again it has the same records, read and written again the same bytes.
 -- Assumes nothing.
+use Rattle.std.specs.Prelude.{Ok, Err}
 use Prim.Native.Nat.{ℕ, ◌+◌}
 use mathlib.Core.Path.{◌≡◌, refl, sym, ap, ◌∙◌, subst}
 use mathlib.Core.List.{List, [], ◌∷◌}
@@ -10,7 +11,6 @@ use Rattle.lent.specs.Line.{splice, fits}
 use Rattle.answers.specs.declared.Refusal.{Refusal}
 use Rattle.answers.specs.OrderLaws.{unless-told, not_in}
 use Rattle.lent.proofs.Laws.{splice-there}
-use Rattle.written.specs.declared.Written.TheVariants.{Length, Refused}
 use Rattle.written.specs.Written.{Text, bad_room, answer_to, line_to}
 use Rattle.written.proofs.Laws.{text-written}
 use Rattle.written.proofs.Statements.{no_room_exactly}
@@ -44,18 +44,18 @@ bytes_on_disk given rs l h d =
 
 -- ---- written, then read
 
-refused-apart : (e : Refusal) (n : ℕ) → Refused e ≡ Length n → ⊥
+refused-apart : (e : Refusal) (n : ℕ) → Err e ≡ Ok n → ⊥
 refused-apart e n h = let clash : ◌≡◌ {A = ℕ} 0 1 = cc in omega arith
 
-written-by : (line : List ℕ) (place n : ℕ) (t : Reading) → ((rs : List Record) → t ≡ AllOf rs → Sound 0 rs) → answer_to line place (draft_of t) ≡ Length n
+written-by : (line : List ℕ) (place n : ℕ) (t : Reading) → ((rs : List Record) → t ≡ AllOf rs → Sound 0 rs) → answer_to line place (draft_of t) ≡ Ok n
     → read_of on_disk (take n (drop place (line_to line place (draft_of t)))) ≡ t
 unfolding answer_to
 written-by line place n (FaultOf e) sound h = let clash : ◌≡◌ {A = ℕ} 0 1 = cc in absurd (omega arith)
 written-by line place n (AllOf rs) sound h =
     let text = list_bytes rs in
-    let told = unless-told Refused (bad_room line place text ∷ []) (Length (length text)) (Length n) (λ e p. refused-apart e n p) h in
+    let told = unless-told Err (bad_room line place text ∷ []) (Ok (length text)) (Ok n) (λ e p. refused-apart e n p) h in
     let room = leb-true (place + length text) (length line) (not_in (fits line place text) told.0.0) in
-    let same : Length (length text) ≡ Length n = told.1 in
+    let same : Ok (length text) ≡ Ok n = told.1 in
     let long : n ≡ length text = cc in
     let good = sound rs refl in
     ap (λ (l : List ℕ). read_of on_disk (take n (drop place l))) (text-written line place text room).1

@@ -1,14 +1,13 @@
 -- A shot list as it is written (BEHAVIOUR: Shot lists): the bytes of its records one after the other.
 -- Assumes nothing.
-use Rattle.std.specs.Prelude.{ℕ, List, [], ◌∷◌, ◌++◌, length, ℤ}
+use Rattle.answers.specs.declared.Refusal.{Refusal}
+use Rattle.std.specs.Prelude.{ℕ, List, [], ◌∷◌, ◌++◌, length, ℤ, Result, Ok, Err}
 use Rattle.low_bytes.specs.LowBytes.{low_bytes, signed_bytes}
 use Rattle.written.specs.Written.{Draft, Text, NoText}
 use Rattle.shot_lists.specs.declared.records.Record.{Record}
 use Rattle.shot_lists.specs.declared.records.Record.TheVariants.{Rate, Shot, Reel}
 use Rattle.shot_lists.specs.Entries.{in_numbers}
 use Rattle.shot_lists.specs.Reading.{Reading, AllOf, FaultOf, read_of}
-use Rattle.shot_writer.specs.declared.Measured.{Measured}
-use Rattle.shot_writer.specs.declared.Measured.TheVariants.{Length, Refused}
 
 -- a record's bytes: its kind, and its body
 unfoldable pub record_bytes : Record → List ℕ
@@ -31,9 +30,9 @@ abbrev pub list_draft : (given : List ℤ) → Draft
 list_draft given = draft_of (read_of in_numbers given)
 
 -- how long it is
-abbrev pub measured_of : Reading → Measured
-measured_of (AllOf rs) = Length (length (list_bytes rs))
-measured_of (FaultOf e) = Refused e
+abbrev pub measured_of : Reading → Result ℕ Refusal
+measured_of (AllOf rs) = Ok (length (list_bytes rs))
+measured_of (FaultOf e) = Err e
 
 -- the records that were read; none of a list with a fault
 abbrev pub records_in : Reading → List Record

@@ -1,5 +1,9 @@
 -- Each public function's contract allows one outcome: two that meet its equations are equal.
 -- Assumes nothing.
+use Prim.Native.Nat.{ℕ}
+use denote.Param.{number}
+use mir.Syntax.{w64}
+use mir.Val.{Fits}
 use mathlib.Core.Path.{sym, ap, ◌∙◌}
 use Rattle.outcomes.specs.Outcome.{Determined}
 use Rattle.showing.specs.contracts.only_word as only-word
@@ -55,20 +59,20 @@ of-compared-determined κs a asked x y p q = ap (λ z. (z, x.1)) (p ∙ sym q)
 pub of-read-determined : Determined of-read.ended of-read-reads.Asked of-read-reads.Learnt
 of-read-determined κs a asked x y p q = ap (λ z. (z, x.1)) (p ∙ sym q)
 
-pub show-determined : Determined show.ended show-reads.Asked show-reads.Learnt
-show-determined κs a asked x y p q = ap (λ z. (z, x.1)) (p.0 ∙ sym q.0) ∙ ap (λ z. (y.0, (z, x.1.1))) (p.1 ∙ sym q.1)
+pub show-determined : (N : ℕ) (fits : Fits w64 N) → Determined (show.ended (number N)) (show-reads.Asked N fits) (show-reads.Learnt N fits)
+show-determined N fits κs a asked x y p q = ap (λ z. (x.0, (z, x.1.1))) (p ∙ sym q)
 
-pub show-written-determined : Determined show-written.ended show-written-reads.Asked show-written-reads.Learnt
-show-written-determined κs a asked x y p q = ap (λ z. (z, x.1)) (p.0 ∙ sym q.0) ∙ ap (λ z. (y.0, (z, x.1.1))) (p.1 ∙ sym q.1)
+pub show-written-determined : (N : ℕ) (fits : Fits w64 N) → Determined (show-written.ended (number N)) (show-written-reads.Asked N fits) (show-written-reads.Learnt N fits)
+show-written-determined N fits κs a asked x y p q = ap (λ z. (x.0, (z, x.1.1))) (p ∙ sym q)
 
-pub show-written-hex-determined : Determined show-written-hex.ended show-written-hex-reads.Asked show-written-hex-reads.Learnt
-show-written-hex-determined κs a asked x y p q = ap (λ z. (z, x.1)) (p.0 ∙ sym q.0) ∙ ap (λ z. (y.0, (z, x.1.1))) (p.1 ∙ sym q.1)
+pub show-written-hex-determined : (N : ℕ) (fits : Fits w64 N) → Determined (show-written-hex.ended (number N)) (show-written-hex-reads.Asked N fits) (show-written-hex-reads.Learnt N fits)
+show-written-hex-determined N fits κs a asked x y p q = ap (λ z. (x.0, (z, x.1.1))) (p ∙ sym q)
 
-pub show-list-determined : Determined show-list.ended show-list-reads.Asked show-list-reads.Learnt
-show-list-determined κs a asked x y p q = ap (λ z. (z, x.1)) (p.0 ∙ sym q.0) ∙ ap (λ z. (y.0, (z, x.1.1))) (p.1 ∙ sym q.1)
+pub show-list-determined : (N : ℕ) (fits : Fits w64 N) → Determined (show-list.ended (number N)) (show-list-reads.Asked N fits) (show-list-reads.Learnt N fits)
+show-list-determined N fits κs a asked x y p q = ap (λ z. (x.0, (z, x.1.1))) (p ∙ sym q)
 
-pub show-why-determined : Determined show_why.ended show-why-reads.Asked show-why-reads.Learnt
-show-why-determined κs a asked x y p q = ap (λ z. (z, x.1)) (p.0 ∙ sym q.0) ∙ ap (λ z. (y.0, (z, x.1.1))) (p.1 ∙ sym q.1)
+pub show-why-determined : (N : ℕ) (fits : Fits w64 N) → Determined (show_why.ended (number N)) (show-why-reads.Asked N fits) (show-why-reads.Learnt N fits)
+show-why-determined N fits κs a asked x y p q = ap (λ z. (x.0, (z, x.1.1))) (p ∙ sym q)
 
-pub show-routed-determined : Determined show_routed.ended show-routed-reads.Asked show-routed-reads.Learnt
-show-routed-determined κs a asked x y p q = ap (λ z. (z, x.1)) (p.0 ∙ sym q.0) ∙ ap (λ z. (y.0, (z, x.1.1))) (p.1 ∙ sym q.1)
+pub show-routed-determined : (N : ℕ) (fits : Fits w64 N) → Determined (show_routed.ended (number N)) (show-routed-reads.Asked N fits) (show-routed-reads.Learnt N fits)
+show-routed-determined N fits κs a asked x y p q = ap (λ z. (x.0, (z, x.1.1))) (p ∙ sym q)

@@ -1,4 +1,3 @@
-pub mod Putting
 pub mod ListPutting
 pub mod WhyPutting
 pub mod Statements

@@ -1,51 +1,22 @@
 -- A shot list put record by record: each goes on from what the one before it left, until none is left.
 -- Assumes nothing.
+use Rattle.std.specs.Prelude.{Ok, Err}
 use Prim.Native.Nat.{ℕ, ◌+◌, ◌≤◌}
 use mathlib.Core.Path.{◌≡◌, refl, sym, ap, ◌∙◌}
 use mathlib.Core.List.{List, [], ◌∷◌}
 use mathlib.Core.Bool.{true, false}
 use native.Mathlib.Omega.{arith}
-use lib.IntN.{ℤ}
 use lib.ListN.{length, drop}
 use Rattle.answers.specs.declared.Refusal.{Refusal}
 use Rattle.written.specs.Parts.{signed_text}
-use Rattle.streams.specs.Sheet.{Sheet, sheet, put_on}
-use Rattle.streams.proofs.Putting.{put-length}
-use Rattle.laws.specs.Spelt.{spelt}
+use Rattle.streams.specs.Sheet.{Sheet, put_on}
 use Rattle.shot_lists.specs.declared.records.Record.{Record}
-use Rattle.shot_lists.specs.declared.records.Record.TheVariants.{Rate, Shot, Reel}
-use Rattle.shot_lists.specs.declared.records.Entry.TheVariants as entry
-use Rattle.shot_lists.specs.declared.disk.Checked.TheVariants as checked
-use Rattle.shot_lists.specs.Entries.{on_disk, entry_of}
+use Rattle.shot_lists.specs.Entries.{on_disk, entry_of, taken, over}
 use Rattle.shot_lists.specs.Reading.{Reading, AllOf, FaultOf, and_then, read_of, is_faultless, checked_of}
 use Rattle.shot_lists.specs.Walk.{Going, going-begin, going-turn, going-over, going_done, faultless-apart, faultless-begin, faultless-turn, faultless-never}
 use Rattle.showing.specs.Each.{of_refusal}
-use Rattle.showing.specs.Shown.{count_text, shown_on}
-use Rattle.showing.specs.Lists.{numbered_on, frames_on, record_on, records_on, reading_on, list_on}
-use Rattle.showing.proofs.Putting.{Leaves, leaves-on, leaves-same}
-
--- ---- a record
--- a number that was handed on as its bits
-pub number-on : (s : Sheet) (x x' : ℤ) → x ≡ x' → (r r' : ℕ) (out out' : List ℕ) → Leaves s r out → Leaves (put_on (sheet out r) (count_text x)) r' out'
-    → Leaves (put_on s (count_text x')) r' out'
-number-on s x x' e r r' out out' p q =
-    leaves-same _ _ _ _ (ap (λ z. put_on s (count_text z)) e) (leaves-on s (λ z. put_on z (count_text x)) r r' out out' p q)
-
-pub numbered_is : (s : Sheet) (word : List ℕ) (n : ℕ) → put_on (put_on s word) (signed_text false n) ≡ numbered_on s word n
-unfolding numbered_on
-numbered_is s word n = refl
-
-pub frames-is : (s : Sheet) (first end : ℤ)
-    → put_on (put_on (put_on (put_on s (spelt " shot ")) (count_text first)) (32 ∷ [])) (count_text end) ≡ frames_on s first end
-unfolding frames_on
-frames-is s first end = refl
-
--- the sheet keeps its length
-record-length : (s : Sheet) (r : Record) → length (record_on s r).bytes ≡ length s.bytes
-unfolding numbered_on frames_on
-record-length s (Rate n) = simp put-length
-record-length s (Shot first end) = simp put-length
-record-length s (Reel n) = simp put-length
+use Rattle.showing.specs.Shown.{shown_on}
+use Rattle.showing.specs.Lists.{record_on, records_on, reading_on, list_on}
 
 -- ---- the loop over the records: what is wanted is what the sheet has with the records that are left
 reading-more : (s s' : Sheet) (r : Record) (t : Reading) → record_on s r ≡ s' → true ≡ is_faultless t → reading_on s (and_then r t) ≡ reading_on s' t
@@ -54,33 +25,29 @@ reading-more s s' r (AllOf rs) e h = ap (λ z. records_on z rs) e
 reading-more s s' r (FaultOf f) e h = faultless-apart h
 
 pub record Underway (list : List ℕ) (s₀ s : Sheet) (at held : ℕ) : Type 0 where
-  pub long : length s.bytes ≡ length s₀.bytes
   pub sound : Going on_disk list true is_faultless at held
   pub rest : Going on_disk list (reading_on s₀ (read_of on_disk list)) (reading_on s) at held
 
 pub underway-begins : (list : List ℕ) (s : Sheet) → is_faultless (read_of on_disk list) ≡ true → Underway list s s 0 0
-underway-begins list s h = record { long = refl; sound = faultless-begin on_disk list h; rest = going-begin on_disk list (reading_on s) }
+underway-begins list s h = record { sound = faultless-begin on_disk list h; rest = going-begin on_disk list (reading_on s) }
 
 module _ (list : List ℕ) (s₀ s : Sheet) (at held : ℕ) (g : Underway list s₀ s at held) where
-  pub underway-goes : (r : Record) (after size : ℕ) (out : List ℕ) (u : ℕ) → entry_of on_disk held (drop at list) ≡ entry.Taken r after size
-      → Leaves (record_on s r) u out → Underway list s₀ (sheet out u) (at + size) after
-  underway-goes r after size out u h l =
-      let s' = sheet out u in
-      let same : record_on s r ≡ s' = ap (λ z. sheet z (record_on s r).used) (sym l.1) ∙ ap (sheet out) (sym l.0) in
+  pub underway-goes : (s' : Sheet) (r : Record) (after size : ℕ) → entry_of on_disk held (drop at list) ≡ taken r after size
+      → s' ≡ record_on s r → Underway list s₀ s' (at + size) after
+  underway-goes s' r after size h l =
       let sound = faultless-turn on_disk list at held r after size g.sound h in
       record {
-        long = ap length l.1 ∙ record-length s r ∙ g.long;
         sound = sound;
         rest =
             going-turn on_disk list (reading_on s₀ (read_of on_disk list)) (reading_on s) (reading_on s') at held r after size g.rest h
-            (λ t e. reading-more s s' r t same (sound.same ∙ ap is_faultless e));
+            (λ t e. reading-more s s' r t (sym l) (sound.same ∙ ap is_faultless e));
       }
 
   -- none is refused
-  pub underway-never : (e : Refusal) → entry_of on_disk held (drop at list) ≡ entry.Refused e → ⊥
+  pub underway-never : (e : Refusal) → entry_of on_disk held (drop at list) ≡ Err e → ⊥
   underway-never e h = faultless-never on_disk list at held e g.sound h
 
-  pub underway-over : entry_of on_disk held (drop at list) ≡ entry.End → s ≡ reading_on s₀ (read_of on_disk list)
+  pub underway-over : entry_of on_disk held (drop at list) ≡ over → s ≡ reading_on s₀ (read_of on_disk list)
   unfolding records_on
   underway-over h = sym (going-over on_disk list (reading_on s₀ (read_of on_disk list)) (reading_on s) at held g.rest h)
 
@@ -89,18 +56,18 @@ module _ (list : List ℕ) (s₀ s : Sheet) (at held : ℕ) (g : Underway list s
   underway-done h = sym (going_done on_disk list (reading_on s₀ (read_of on_disk list)) (reading_on s) at held g.rest h)
 
 -- ---- a list as a line
-pub checked-faultless : (t : Reading) (n : ℕ) → checked_of t ≡ checked.Records n → is_faultless t ≡ true
+pub checked-faultless : (t : Reading) (n : ℕ) → checked_of t ≡ Ok n → is_faultless t ≡ true
 checked-faultless (AllOf rs) n h = refl
 checked-faultless (FaultOf e) n h = let clash : ◌≡◌ {A = ℕ} 0 1 = cc in absurd (omega arith)
 
-pub list_all : (s : Sheet) (t : Reading) (n : ℕ) → checked_of t ≡ checked.Records n → put_on (reading_on (put_on s (signed_text false n)) t) (10 ∷ []) ≡ list_on s t
+pub list_all : (s : Sheet) (t : Reading) (n : ℕ) → checked_of t ≡ Ok n → put_on (reading_on (put_on s (signed_text false n)) t) (10 ∷ []) ≡ list_on s t
 unfolding list_on
 list_all s (AllOf rs) n h =
     let e : n ≡ length rs = cc in
     ap (λ z. put_on (records_on (put_on s (signed_text false z)) rs) (10 ∷ [])) e
 list_all s (FaultOf e) n h = let clash : ◌≡◌ {A = ℕ} 0 1 = cc in absurd (omega arith)
 
-pub list-fault : (s : Sheet) (t : Reading) (e : Refusal) → checked_of t ≡ checked.Refused e → shown_on s (of_refusal e) ≡ list_on s t
+pub list-fault : (s : Sheet) (t : Reading) (e : Refusal) → checked_of t ≡ Err e → shown_on s (of_refusal e) ≡ list_on s t
 unfolding list_on
 list-fault s (AllOf rs) e h = let clash : ◌≡◌ {A = ℕ} 0 1 = cc in absurd (omega arith)
 list-fault s (FaultOf f) e h =

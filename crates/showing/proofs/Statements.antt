@@ -1,5 +1,7 @@
 -- An answer that has room is on the sheet, as one line: part behind part.
 -- Assumes nothing.
+use Rattle.answers.specs.declared.Refusal.{Refusal}
+use Rattle.std.specs.Prelude.{Result, Ok, Err}
 use Prim.Native.Nat.{ℕ, ◌+◌, ◌≤◌}
 use mathlib.Core.Path.{◌≡◌, refl, sym, ap, ◌∙◌}
 use mathlib.Core.List.{List, [], ◌∷◌, ◌++◌, append_assoc, append-nil}
@@ -8,8 +10,6 @@ use native.Mathlib.Omega.{arith}
 use lib.Dec.{eqb}
 use lib.ListN.{length, length-append}
 use Rattle.digits.specs.Digits.{decimal, digits_of, width, width_by}
-use Rattle.written.specs.declared.Written.{Written}
-use Rattle.written.specs.declared.Written.TheVariants.{Length, Refused}
 use Rattle.written.specs.Parts.{signed_text}
 use Rattle.shot_lists.specs.declared.records.Record.{Record}
 use Rattle.shot_lists.specs.declared.records.Record.TheVariants.{Rate, Shot, Reel}
@@ -114,9 +114,9 @@ shown_line s a h =
     (laid-put s (parts_on s a) t (10 ∷ []) (parts-laid s a (omega (arith, h, length-append t (10 ∷ [])))) h).is
 
 -- ---- a writer's answer
-length-laid : (s : Sheet) (w : Written) → s.used + length (length_text w) ≤ length s.bytes → Laid s (length_on s w) (length_text w)
-length-laid s (Length n) h = put_is s (signed_text false n) h
-length-laid s (Refused e) h = parts-laid s (of_refusal e) h
+length-laid : (s : Sheet) (w : Result ℕ Refusal) → s.used + length (length_text w) ≤ length s.bytes → Laid s (length_on s w) (length_text w)
+length-laid s (Ok n) h = put_is s (signed_text false n) h
+length-laid s (Err e) h = parts-laid s (of_refusal e) h
 
 pub written_line : WrittenLine
 unfolding written_text written_on

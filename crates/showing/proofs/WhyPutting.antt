@@ -1,35 +1,24 @@
 -- Why a text is read as it is, put part by part: what is put behind parts is put behind the sheet that they leave.
 -- Assumes nothing.
+use Rattle.answers.specs.Causes.{refusal_number}
 use Prim.Native.Nat.{ℕ}
-use mathlib.Core.Path.{◌≡◌, refl, sym}
+use mathlib.Core.Path.{◌≡◌, refl}
 use mathlib.Core.List.{List, [], ◌∷◌, ◌++◌}
 use mathlib.Core.Bool.{Bool, true, false}
 use Rattle.answers.specs.declared.Refusal.{Refusal}
 use Rattle.timecodes.specs.declared.Timecode.{Timecode}
 use Rattle.timecodes.specs.Kinds.{is_position}
 use Rattle.written.specs.Parts.{signed_text}
-use Rattle.streams.specs.Sheet.{Sheet, sheet, put_on}
+use Rattle.streams.specs.Sheet.{Sheet, put_on}
 use Rattle.laws.specs.Spelt.{spelt}
 use Rattle.showing.specs.Each.{one_count, of_refusal, of_text_refusal}
 use Rattle.showing.specs.Shown.{count_text, word_on, front_on, second_on, parts_on}
 use Rattle.showing.specs.Why.{puts_on, spaced_parts, mark_parts}
-use Rattle.showing.proofs.Putting.{Leaves, leaves-on, leaves-same}
 
-puts-append : (s : Sheet) (ts us : List (List ℕ)) → puts_on s (ts ++ us) ≡ puts_on (puts_on s ts) us
+pub puts-append : (s : Sheet) (ts us : List (List ℕ)) → puts_on s (ts ++ us) ≡ puts_on (puts_on s ts) us
 unfolding puts_on
 puts-append s [] us = refl
 puts-append s (t ∷ ts) us = puts-append (put_on s t) ts us
-
--- parts, and parts that go on from there
-pub puts-on : (s : Sheet) (ts us : List (List ℕ)) (r r' : ℕ) (out out' : List ℕ) → Leaves (puts_on s ts) r out
-    → Leaves (puts_on (sheet out r) us) r' out' → Leaves (puts_on s (ts ++ us)) r' out'
-puts-on s ts us r r' out out' p q =
-    leaves-same _ _ r' out' (sym (puts-append s ts us)) (leaves-on (puts_on s ts) (λ z. puts_on z us) r r' out out' p q)
-
--- one part
-pub puts_one : (s : Sheet) (t : List ℕ) (r : ℕ) (out : List ℕ) → Leaves (put_on s t) r out → Leaves (puts_on s (t ∷ [])) r out
-unfolding puts_on
-puts_one s t r out p = p
 
 -- a count, with its mark where it is a position
 pub count-shown : (s : Sheet) (tc : Timecode)
@@ -42,12 +31,12 @@ count-shown s tc = by (is_position tc.kind)
     by false = refl
 
 -- a refusal
-pub refusal-shown : (s : Sheet) (e : Refusal) → parts_on s (of_refusal e) ≡ puts_on s (spelt "refused " ∷ signed_text false e.number ∷ [])
+pub refusal-shown : (s : Sheet) (e : Refusal) → parts_on s (of_refusal e) ≡ puts_on s (spelt "refused " ∷ signed_text false (refusal_number e) ∷ [])
 unfolding word_on parts_on puts_on
 refusal-shown s e = refl
 
 -- and one with its place
 pub text-refusal-shown : (s : Sheet) (e : Refusal)
-    → parts_on s (of_text_refusal e) ≡ puts_on s (spelt "refused " ∷ signed_text false e.number ∷ spaced_parts false e.place)
+    → parts_on s (of_text_refusal e) ≡ puts_on s (spelt "refused " ∷ signed_text false (refusal_number e) ∷ spaced_parts false e.place)
 unfolding word_on second_on parts_on puts_on
 text-refusal-shown s e = refl

@@ -1,5 +1,6 @@
 -- Why a text is read as it is stands on the sheet, where it has room, in the words that docs/ASK.md gives.
 -- Assumes nothing.
+use Rattle.answers.specs.Causes.{refusal_number}
 use Prim.Native.Nat.{ℕ, ◌+◌, ◌≤◌}
 use mathlib.Core.Path.{◌≡◌, refl, sym, ap, ◌∙◌}
 use mathlib.Core.List.{List, [], ◌∷◌, ◌++◌, append_assoc}
@@ -46,7 +47,7 @@ two-and a b rest = ap (λ z. a ++ (32 ∷ z)) (sym (append_assoc b (spelt " -") 
 pub why_limit_shown : WhyLimitShown
 unfolding why_text told_parts turned_down_parts limit_parts joined
 why_limit_shown e f rate n line =
-    ap (λ z. signed_text false e.number ++ (32 ∷ signed_text false e.place ++ (spelt " 0 " ++ z)))
+    ap (λ z. signed_text false (refusal_number e) ++ (32 ∷ signed_text false e.place ++ (spelt " 0 " ++ z)))
     (two-and (signed_text f.minus f.limit) (signed_text f.minus f.value) (32 ∷ length_line n line))
 
 pub why_first_shown : WhyFirstShown

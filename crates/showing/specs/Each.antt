@@ -1,22 +1,14 @@
 -- What is shown of each kind of answer (docs/ASK.md): a word, and its numbers; or the refusal.
 -- Assumes nothing.
-use Rattle.std.specs.Prelude.{ℕ, false, ℤ, pos}
+use Rattle.answers.specs.Causes.{refusal_number}
+use Rattle.std.specs.Prelude.{ℕ, false, ℤ, pos, Result, Ok, Err}
 use Rattle.answers.specs.declared.Refusal.{Refusal}
-use Rattle.answers.specs.declared.Counted.{Counted}
-use Rattle.answers.specs.declared.Counted.TheVariants as counted
 use Rattle.timecodes.specs.declared.Timecode.{Timecode}
-use Rattle.timecodes.specs.declared.Answer.{Answer}
-use Rattle.timecodes.specs.declared.Answer.TheVariants as answer
 use Rattle.timecodes.specs.Kinds.{is_position}
 use Rattle.film.specs.Film.{format_number}
 use Rattle.reading.specs.declared.Read.{Read}
 use Rattle.reading.specs.declared.Read.TheVariants as read
-use Rattle.time.specs.declared.Ticked.{Ticked}
-use Rattle.time.specs.declared.Ticked.TheVariants as ticked
-use Rattle.time.specs.declared.Timed.{Timed}
-use Rattle.time.specs.declared.Timed.TheVariants as timed
-use Rattle.arithmetic.specs.declared.Compared.{Compared}
-use Rattle.arithmetic.specs.declared.Compared.TheVariants as compared
+use Rattle.time.specs.declared.Fraction.{Fraction}
 use Rattle.showing.specs.declared.Shown.{Shown}
 
 -- ---- what may be shown
@@ -39,41 +31,41 @@ count_and word tc y = record { word = word; count = 2; position = is_position tc
 -- ---- of each answer
 -- a refusal is `refused` and its number
 abbrev pub of_refusal : Refusal → Shown
-of_refusal e = one_number 114 (pos e.number)
+of_refusal e = one_number 114 (pos (refusal_number e))
 
 -- that of a text is `refused`, its number and its place
 abbrev pub of_text_refusal : Refusal → Shown
-of_text_refusal e = two_numbers 114 (pos e.number) 32 e.place
+of_text_refusal e = two_numbers 114 (pos (refusal_number e)) 32 e.place
 
 -- of a timecode the count, with `@` before it where it is a position
-abbrev pub of_answer : Answer → Shown
-of_answer (answer.At tc) = one_count 0 tc
-of_answer (answer.Refused e) = of_refusal e
+abbrev pub of_answer : Result Timecode Refusal → Shown
+of_answer (Ok tc) = one_count 0 tc
+of_answer (Err e) = of_refusal e
 
 -- of one that was converted `COUNT RATE`
-abbrev pub of_converted : Answer → Shown
-of_converted (answer.At tc) = count_and 0 tc tc.rate
-of_converted (answer.Refused e) = of_refusal e
+abbrev pub of_converted : Result Timecode Refusal → Shown
+of_converted (Ok tc) = count_and 0 tc tc.rate
+of_converted (Err e) = of_refusal e
 
-abbrev pub of_counted : Counted → Shown
-of_counted (counted.Count z) = one_number 0 z
-of_counted (counted.Refused e) = of_refusal e
+abbrev pub of_counted : Result ℤ Refusal → Shown
+of_counted (Ok z) = one_number 0 z
+of_counted (Err e) = of_refusal e
 
-abbrev pub of_ticked : Ticked → Shown
-of_ticked (ticked.Ticks z) = one_number 0 z
-of_ticked (ticked.Refused e) = of_refusal e
+abbrev pub of_ticked : Result ℤ Refusal → Shown
+of_ticked (Ok z) = one_number 0 z
+of_ticked (Err e) = of_refusal e
 
 -- seconds are `P/Q`
-abbrev pub of_timed : Timed → Shown
-of_timed (timed.Seconds p q) = two_numbers 0 p 47 q
-of_timed (timed.Refused e) = of_refusal e
+abbrev pub of_timed : Result Fraction Refusal → Shown
+of_timed (Ok f) = two_numbers 0 f.p 47 f.q
+of_timed (Err e) = of_refusal e
 
-abbrev pub of_compared : Compared → Shown
-of_compared (compared.Order z) = one_number 0 z
-of_compared (compared.Refused e) = of_refusal e
+abbrev pub of_compared : Result ℤ Refusal → Shown
+of_compared (Ok z) = one_number 0 z
+of_compared (Err e) = of_refusal e
 
 -- a text is `label COUNT` or `footage COUNT FORMAT`
-abbrev pub of_read : Read → Shown
-of_read (read.Label tc) = one_count 108 tc
-of_read (read.Footage tc format) = count_and 102 tc (format_number format)
-of_read (read.Refused e) = of_text_refusal e
+abbrev pub of_read : Result Read Refusal → Shown
+of_read (Ok (read.Label tc)) = one_count 108 tc
+of_read (Ok (read.Footage tc format)) = count_and 102 tc (format_number format)
+of_read (Err e) = of_text_refusal e

@@ -1,9 +1,8 @@
 -- How the calculator shows an answer (docs/ASK.md): its text, and what is put on a sheet.
 -- Assumes nothing.
-use Rattle.std.specs.Prelude.{ℕ, List, [], ◌∷◌, ◌++◌, Bool, true, false, cond, eqb, ℤ, pos, nat_abs}
+use Rattle.answers.specs.declared.Refusal.{Refusal}
+use Rattle.std.specs.Prelude.{ℕ, List, [], ◌∷◌, ◌++◌, Bool, true, false, cond, eqb, ℤ, nat_abs, Result, Ok, Err}
 use Rattle.numbers.specs.Sign.{is_neg}
-use Rattle.written.specs.declared.Written.{Written}
-use Rattle.written.specs.declared.Written.TheVariants.{Length, Refused}
 use Rattle.written.specs.Parts.{signed_text}
 use Rattle.streams.specs.Sheet.{Sheet, put_on}
 use Rattle.hex_bytes.specs.Hex.{hex_text}
@@ -78,11 +77,11 @@ unfoldable pub shown_text : Shown → List ℕ
 shown_text s = parts_text s ++ (10 ∷ [])
 
 -- of a writer the length or the refusal, behind a space the whole line, and the line's end
-abbrev pub length_text : Written → List ℕ
-length_text (Length n) = signed_text false n
-length_text (Refused e) = parts_text (of_refusal e)
+abbrev pub length_text : Result ℕ Refusal → List ℕ
+length_text (Ok n) = signed_text false n
+length_text (Err e) = parts_text (of_refusal e)
 
-unfoldable pub written_text : Written → (line : List ℕ) → List ℕ
+unfoldable pub written_text : Result ℕ Refusal → (line : List ℕ) → List ℕ
 written_text w line = length_text w ++ (32 ∷ line ++ (10 ∷ []))
 
 -- ---- on a sheet, part by part
@@ -115,13 +114,13 @@ parts_on s a =
 unfoldable pub shown_on : Sheet → Shown → Sheet
 shown_on s a = put_on (parts_on s a) (10 ∷ [])
 
-abbrev pub length_on : Sheet → Written → Sheet
-length_on s (Length n) = put_on s (signed_text false n)
-length_on s (Refused e) = parts_on s (of_refusal e)
+abbrev pub length_on : Sheet → Result ℕ Refusal → Sheet
+length_on s (Ok n) = put_on s (signed_text false n)
+length_on s (Err e) = parts_on s (of_refusal e)
 
-unfoldable pub written_on : Sheet → Written → (line : List ℕ) → Sheet
+unfoldable pub written_on : Sheet → Result ℕ Refusal → (line : List ℕ) → Sheet
 written_on s w line = put_on (put_on (put_on (length_on s w) (32 ∷ [])) line) (10 ∷ [])
 
 -- the same with the line as HEX
-abbrev pub hex_written_on : Sheet → Written → (line : List ℕ) → Sheet
+abbrev pub hex_written_on : Sheet → Result ℕ Refusal → (line : List ℕ) → Sheet
 hex_written_on s w line = written_on s w (hex_text line)

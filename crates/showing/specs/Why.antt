@@ -1,6 +1,7 @@
 -- How the calculator shows why a text is read as it is (docs/ASK.md): `NUMBER PLACE COUNT LIMIT VALUE LABEL LENGTH LINE`, part by part.
 -- Assumes nothing.
-use Rattle.std.specs.Prelude.{ℕ, List, [], ◌∷◌, ◌++◌, Bool, true, false}
+use Rattle.answers.specs.Causes.{refusal_number}
+use Rattle.std.specs.Prelude.{ℕ, List, [], ◌∷◌, ◌++◌, Bool, true, false, Result, Ok, Err, Some, None, Option}
 use Rattle.answers.specs.declared.Refusal.{Refusal}
 use Rattle.faults.specs.declared.Fault.{Fault}
 use Rattle.timecodes.specs.declared.Timecode.{Timecode}
@@ -10,10 +11,8 @@ use Rattle.label_writer.specs.LabelText.{frames_mark, sections_text}
 use Rattle.reading.specs.declared.Read.{Read}
 use Rattle.reading.specs.declared.Read.TheVariants as read
 use Rattle.reasons.specs.declared.Fact.{Fact}
-use Rattle.reasons.specs.declared.Fact.TheVariants.{Nothing, Limit, First}
+use Rattle.reasons.specs.declared.Fact.TheVariants.{Limit, First}
 use Rattle.reasons.specs.declared.Reason.{Reason}
-use Rattle.reasons.specs.declared.Reasoned.{Reasoned}
-use Rattle.reasons.specs.declared.Reasoned.TheVariants.{Told, Refused}
 use Rattle.written.specs.Parts.{signed_text}
 use Rattle.streams.specs.Sheet.{Sheet, put_on}
 use Rattle.laws.specs.Spelt.{spelt}
@@ -46,12 +45,12 @@ accepted_parts tc = spelt "0 0 " ∷ (mark_parts (is_position tc.kind) ++ (count
 
 -- one that is turned down has its number, its place, and count 0
 unfoldable pub turned_down_parts : Refusal → List (List ℕ)
-turned_down_parts e = signed_text false e.number ∷ (32 ∷ []) ∷ signed_text false e.place ∷ spelt " 0" ∷ []
+turned_down_parts e = signed_text false (refusal_number e) ∷ (32 ∷ []) ∷ signed_text false e.place ∷ spelt " 0" ∷ []
 
-abbrev pub read_parts : Read → List (List ℕ)
-read_parts (read.Label tc) = accepted_parts tc
-read_parts (read.Footage tc format) = accepted_parts tc
-read_parts (read.Refused e) = turned_down_parts e
+abbrev pub read_parts : Result Read Refusal → List (List ℕ)
+read_parts (Ok (read.Label tc)) = accepted_parts tc
+read_parts (Ok (read.Footage tc format)) = accepted_parts tc
+read_parts (Err e) = turned_down_parts e
 
 -- ---- the fact behind it: LIMIT VALUE LABEL
 -- a limit and a value, each with its sign, and no label
@@ -62,10 +61,10 @@ limit_parts f = (32 ∷ []) ∷ signed_text f.minus f.limit ∷ (32 ∷ []) ∷ 
 unfoldable pub first_parts : (rate : ℕ) → TimecodeSections → List (List ℕ)
 first_parts rate s = spelt " 0 0 " ∷ sections_text (frames_mark rate) s ∷ []
 
-abbrev pub fact_parts : (rate : ℕ) → Fact → List (List ℕ)
-fact_parts rate Nothing = spelt " 0 0 -" ∷ []
-fact_parts rate (Limit f) = limit_parts f
-fact_parts rate (First s) = first_parts rate s
+abbrev pub fact_parts : (rate : ℕ) → Option Fact → List (List ℕ)
+fact_parts rate None = spelt " 0 0 -" ∷ []
+fact_parts rate (Some (Limit f)) = limit_parts f
+fact_parts rate (Some (First s)) = first_parts rate s
 
 -- ---- the whole line
 -- and how many bytes the phrase has
@@ -73,16 +72,16 @@ unfoldable pub told_parts : (rate : ℕ) → Reason → List (List ℕ)
 told_parts rate r = read_parts r.read ++ (fact_parts rate r.fact ++ spaced_parts false r.length)
 
 -- or the refusal alone
-abbrev pub reasoned_parts : (rate : ℕ) → Reasoned → List (List ℕ)
-reasoned_parts rate (Told r) = told_parts rate r
-reasoned_parts rate (Refused e) = spelt "refused " ∷ signed_text false e.number ∷ []
+abbrev pub reasoned_parts : (rate : ℕ) → Result Reason Refusal → List (List ℕ)
+reasoned_parts rate (Ok r) = told_parts rate r
+reasoned_parts rate (Err e) = spelt "refused " ∷ signed_text false (refusal_number e) ∷ []
 
 -- behind a space the whole line, and the line's end
-abbrev pub why_parts : (rate : ℕ) → Reasoned → (line : List ℕ) → List (List ℕ)
+abbrev pub why_parts : (rate : ℕ) → Result Reason Refusal → (line : List ℕ) → List (List ℕ)
 why_parts rate w line = reasoned_parts rate w ++ ((32 ∷ []) ∷ line ∷ (10 ∷ []) ∷ [])
 
-unfoldable pub why_text : (rate : ℕ) → Reasoned → (line : List ℕ) → List ℕ
+unfoldable pub why_text : (rate : ℕ) → Result Reason Refusal → (line : List ℕ) → List ℕ
 why_text rate w line = joined (why_parts rate w line)
 
-unfoldable pub why_on : Sheet → (rate : ℕ) → Reasoned → (line : List ℕ) → Sheet
+unfoldable pub why_on : Sheet → (rate : ℕ) → Result Reason Refusal → (line : List ℕ) → Sheet
 why_on s rate w line = puts_on s (why_parts rate w line)

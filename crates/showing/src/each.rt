@@ -3,93 +3,92 @@ ghost use Rattle.std.specs.Prelude.{◌≡◌};
 ghost use Rattle.showing.specs.Each.{of_refusal, of_text_refusal, of_answer, of_converted, of_counted, of_ticked, of_timed, of_compared, of_read};
 
 use crate::{Shown, count_and, one_count, one_number, two_numbers};
-use answers::{Counted, Refusal};
-use arithmetic::Compared;
+use answers::Refusal;
 use reading::Read;
-use time::{Ticked, Timed};
-use timecodes::Answer;
+use time::Fraction;
+use timecodes::Timecode;
 
 // A refusal: `refused` and its number.
 pub(crate) fn of_refusal(e: Refusal) -> Shown
     ensures { result ≡ of_refusal e }
 {
-    one_number(b'r', e.number as i64)
+    one_number(b'r', e.cause.number() as i64)
 }
 
 // The refusal of a text: `refused`, its number and its place.
 pub(crate) fn of_text_refusal(e: Refusal) -> Shown
     ensures { result ≡ of_text_refusal e }
 {
-    two_numbers(b'r', e.number as i64, b' ', e.place as u64)
+    two_numbers(b'r', e.cause.number() as i64, b' ', e.place as u64)
 }
 
 // A timecode: its count.
-pub fn of_answer(a: Answer) -> Shown
+pub fn of_answer(a: Result<Timecode, Refusal>) -> Shown
     ensures { result ≡ of_answer a }
 {
     match a {
-        Answer::At(tc) => one_count(0, tc),
-        Answer::Refused(e) => of_refusal(e),
+        Ok(tc) => one_count(0, tc),
+        Err(e) => of_refusal(e),
     }
 }
 
 // A timecode at the rate that it came to: `COUNT RATE`.
-pub fn of_converted(a: Answer) -> Shown
+pub fn of_converted(a: Result<Timecode, Refusal>) -> Shown
     ensures { result ≡ of_converted a }
 {
     match a {
-        Answer::At(tc) => count_and(0, tc, tc.rate),
-        Answer::Refused(e) => of_refusal(e),
+        Ok(tc) => count_and(0, tc, tc.rate),
+        Err(e) => of_refusal(e),
     }
 }
 
 // A count.
-pub fn of_counted(a: Counted) -> Shown
+pub fn of_counted(a: Result<i64, Refusal>) -> Shown
     ensures { result ≡ of_counted a }
 {
     match a {
-        Counted::Count(z) => one_number(0, z),
-        Counted::Refused(e) => of_refusal(e),
+        Ok(z) => one_number(0, z),
+        Err(e) => of_refusal(e),
     }
 }
 
 // Ticks.
-pub fn of_ticked(a: Ticked) -> Shown
+pub fn of_ticked(a: Result<i64, Refusal>) -> Shown
     ensures { result ≡ of_ticked a }
 {
     match a {
-        Ticked::Ticks(z) => one_number(0, z),
-        Ticked::Refused(e) => of_refusal(e),
+        Ok(z) => one_number(0, z),
+        Err(e) => of_refusal(e),
     }
 }
 
 // Seconds: `P/Q`.
-pub fn of_timed(a: Timed) -> Shown
+pub fn of_timed(a: Result<Fraction, Refusal>) -> Shown
     ensures { result ≡ of_timed a }
 {
     match a {
-        Timed::Seconds { p, q } => two_numbers(0, p, b'/', q),
-        Timed::Refused(e) => of_refusal(e),
+        Ok(f) => two_numbers(0, f.p, b'/', f.q),
+        Err(e) => of_refusal(e),
     }
 }
 
 // An order: -1, 0 or 1.
-pub fn of_compared(a: Compared) -> Shown
+pub fn of_compared(a: Result<i64, Refusal>) -> Shown
     ensures { result ≡ of_compared a }
 {
     match a {
-        Compared::Order(z) => one_number(0, z),
-        Compared::Refused(e) => of_refusal(e),
+        Ok(z) => one_number(0, z),
+        Err(e) => of_refusal(e),
     }
 }
 
 // A text's timecode: `label COUNT` or `footage COUNT FORMAT`; or its refusal and where.
-pub fn of_read(a: Read) -> Shown
+pub fn of_read(a: Result<Read, Refusal>) -> Shown
     ensures { result ≡ of_read a }
 {
     match a {
-        Read::Label(tc) => one_count(b'l', tc),
-        Read::Footage(tc, format) => count_and(b'f', tc, format.number()),
-        Read::Refused(e) => of_text_refusal(e),
+        Ok(Read::Label(tc)) => one_count(b'l', tc),
+        Ok(Read::Footage(tc, format)) => count_and(b'f', tc, format.number()),
+        Err(e) => of_text_refusal(e),
     }
 }

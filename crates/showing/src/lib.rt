@@ -2,12 +2,13 @@
 #![tactic(auto)]
 
 ghost use Rattle.std.specs.Prelude.{◌≡◌};
-ghost use Rattle.streams.specs.Sheet.{sheet, put_on};
+ghost use Rattle.streams.specs.Sheet.{put_on};
 ghost use Rattle.showing.specs.Each.{only_word, one_number, two_numbers, one_count, count_and};
 ghost use Rattle.showing.specs.Shown.{count_text, help_text, word_on, front_on, said_on, second_on, parts_on, shown_on, length_on, written_on, hex_written_on};
 
+use answers::Refusal;
+use streams::Sheet;
 use timecodes::Timecode;
-use written::Written;
 
 mod each;
 mod lists;
@@ -77,11 +78,10 @@ pub(crate) fn two_numbers(word: u8, x: i64, mark: u8, y: u64) -> Shown
 pub(crate) fn one_count(word: u8, tc: Timecode) -> Shown
     ensures { result ≡ one_count word tc }
 {
-    let kind = tc.kind;
     Shown {
         word,
         count: 1,
-        position: kind.is_position(),
+        position: tc.kind.is_position(),
         x: tc.count,
         mark: 0,
         y: 0,
@@ -92,11 +92,10 @@ pub(crate) fn one_count(word: u8, tc: Timecode) -> Shown
 pub(crate) fn count_and(word: u8, tc: Timecode, y: u64) -> Shown
     ensures { result ≡ count_and word tc y }
 {
-    let kind = tc.kind;
     Shown {
         word,
         count: 2,
-        position: kind.is_position(),
+        position: tc.kind.is_position(),
         x: tc.count,
         mark: b' ',
         y,
@@ -104,46 +103,40 @@ pub(crate) fn count_and(word: u8, tc: Timecode, y: u64) -> Shown
 }
 
 // A signed number.
-fn put_number(out: &mut [u8], used: usize, x: i64) -> usize
-    ensures answer { result ≡ (put_on (sheet out.old used) (count_text x)).used }
-    ensures sheet { out.new ≡ (put_on (sheet out.old used) (count_text x)).bytes }
+fn put_number<const N: usize>(sheet: &mut Sheet<N>, x: i64)
+    ensures { sheet.new ≡ put_on sheet.old (count_text x) }
 {
-    streams::put_signed(out, used, numbers::below_zero(x), numbers::magnitude(x))
+    sheet.put_signed(x < 0, x.unsigned_abs());
 }
 
 // A word before numbers.
-fn put_word(out: &mut [u8], used: usize, word: u8) -> usize
-    ensures answer { result ≡ (word_on (sheet out.old used) word).used }
-    ensures sheet { out.new ≡ (word_on (sheet out.old used) word).bytes }
+#[tactic(auto, unfolding(crate::specs::Shown::word_on), using(std::proofs::lemmas::Bool::Decides::nat_tests))]
+fn put_word<const N: usize>(sheet: &mut Sheet<N>, word: u8)
+    ensures { sheet.new ≡ word_on sheet.old word }
 {
     match word {
-        b'l' => streams::put_text(out, used, b"label "),
-        b'f' => streams::put_text(out, used, b"footage "),
-        b'r' => streams::put_text(out, used, b"refused "),
-        _ => used,
+        b'l' => sheet.put_text(b"label "),
+        b'f' => sheet.put_text(b"footage "),
+        b'r' => sheet.put_text(b"refused "),
+        _ => {}
     }
 }
 
 // A word before numbers, and the mark of a position.
-fn put_front(out: &mut [u8], used: usize, word: u8, position: bool) -> usize
-    ensures answer { result ≡ (front_on (sheet out.old used) word position).used }
-    ensures sheet { out.new ≡ (front_on (sheet out.old used) word position).bytes }
+fn put_front<const N: usize>(sheet: &mut Sheet<N>, word: u8, position: bool)
+    ensures { sheet.new ≡ front_on sheet.old word position }
 {
-    let a = put_word(out, used, word);
+    put_word(sheet, word);
     if position {
-        return streams::put_byte(out, a, b'@');
+        sheet.put_byte(b'@');
     }
-    a
 }
 
 // The commands in short: a line for each command, or for those that are alike, without the last one's end.
-fn put_help(out: &mut [u8], used: usize) -> usize
-    ensures answer { result ≡ (put_on (sheet out.old used) help_text).used }
-    ensures sheet { out.new ≡ (put_on (sheet out.old used) help_text).bytes }
+fn put_help<const N: usize>(sheet: &mut Sheet<N>)
+    ensures { sheet.new ≡ put_on sheet.old help_text }
 {
-    streams::put_text(
-        out,
-        used,
+    sheet.put_text(
         b"read RATE TEXT: label COUNT or footage COUNT FORMAT
 read_as FORMAT RATE TEXT: footage COUNT FORMAT
 read_runtime RATE TEXT: COUNT
@@ -171,83 +164,87 @@ route RATE SHARDS LENGTH TEXT: FIRST AFTER
 SHARDS of route are FIRST-END,FIRST-END .. or - for none
 A refusal is: refused N; of read, read_as and route: refused N PLACE
 The first RATE of a command other than route, and the second of add, sub and cmp, may have @ before it: a position; a COUNT that is one has it too",
-    )
+    );
 }
 
 // A word alone.
-fn put_said(out: &mut [u8], used: usize, word: u8) -> usize
-    ensures answer { result ≡ (said_on (sheet out.old used) word).used }
-    ensures sheet { out.new ≡ (said_on (sheet out.old used) word).bytes }
+#[tactic(auto, unfolding(crate::specs::Shown::said_on), using(std::proofs::lemmas::Bool::Decides::nat_tests))]
+fn put_said<const N: usize>(sheet: &mut Sheet<N>, word: u8)
+    ensures { sheet.new ≡ said_on sheet.old word }
 {
     if word == b'h' {
-        return put_help(out, used);
+        put_help(sheet);
+    } else {
+        sheet.put_text(b"not understood");
     }
-    streams::put_text(out, used, b"not understood")
 }
 
 // A mark and a number.
-fn put_second(out: &mut [u8], used: usize, mark: u8, y: u64) -> usize
-    ensures answer { result ≡ (second_on (sheet out.old used) mark y).used }
-    ensures sheet { out.new ≡ (second_on (sheet out.old used) mark y).bytes }
+#[tactic(auto, unfolding(crate::specs::Shown::second_on))]
+fn put_second<const N: usize>(sheet: &mut Sheet<N>, mark: u8, y: u64)
+    ensures { sheet.new ≡ second_on sheet.old mark y }
 {
-    let a = streams::put_byte(out, used, mark);
-    streams::put_signed(out, a, false, y)
+    sheet.put_byte(mark);
+    sheet.put_signed(false, y);
 }
 
-// An answer behind what the sheet has, without the line's end; and how much it has then.
-fn put_shown(out: &mut [u8], used: usize, s: Shown) -> usize
-    ensures answer { result ≡ (parts_on (sheet out.old used) s).used }
-    ensures sheet { out.new ≡ (parts_on (sheet out.old used) s).bytes }
+// An answer behind what the sheet has, without the line's end.
+#[tactic(auto, unfolding(crate::specs::Shown::parts_on), using(std::proofs::lemmas::Bool::Decides::nat_tests))]
+fn put_shown<const N: usize>(sheet: &mut Sheet<N>, s: Shown)
+    ensures { sheet.new ≡ parts_on sheet.old s }
 {
     if s.count == 0 {
-        return put_said(out, used, s.word);
+        put_said(sheet, s.word);
+        return;
     }
-    let a = put_front(out, used, s.word, s.position);
-    let b = put_number(out, a, s.x);
-    if s.count == 1 {
-        return b;
+    put_front(sheet, s.word, s.position);
+    put_number(sheet, s.x);
+    if s.count != 1 {
+        put_second(sheet, s.mark, s.y);
     }
-    put_second(out, b, s.mark, s.y)
 }
 
-// An answer as a line behind what the sheet has; and how much it has then.
-pub fn show(out: &mut [u8], used: usize, s: Shown) -> usize
-    ensures answer { result ≡ (shown_on (sheet out.old used) s).used }
-    ensures sheet { out.new ≡ (shown_on (sheet out.old used) s).bytes }
+// An answer as a line behind what the sheet has.
+#[tactic(auto, unfolding(crate::specs::Shown::shown_on))]
+pub fn show<const N: usize>(sheet: &mut Sheet<N>, s: Shown)
+    ensures { sheet.new ≡ shown_on sheet.old s }
 {
-    let u = put_shown(out, used, s);
-    streams::put_byte(out, u, b'\n')
+    put_shown(sheet, s);
+    sheet.put_byte(b'\n');
 }
 
 // The length of a text that was laid down, or why it was not.
-fn put_length(out: &mut [u8], used: usize, w: Written) -> usize
-    ensures answer { result ≡ (length_on (sheet out.old used) w).used }
-    ensures sheet { out.new ≡ (length_on (sheet out.old used) w).bytes }
+fn put_length<const N: usize>(sheet: &mut Sheet<N>, w: Result<usize, Refusal>)
+    ensures { sheet.new ≡ length_on sheet.old w }
 {
     match w {
-        Written::Length(n) => streams::put_signed(out, used, false, n as u64),
-        Written::Refused(e) => put_shown(out, used, each::of_refusal(e)),
+        Ok(n) => sheet.put_signed(false, n as u64),
+        Err(e) => put_shown(sheet, each::of_refusal(e)),
     }
 }
 
-// The answer of a writer as a line behind what the sheet has, with the whole line that it wrote into; and how much it has then.
-pub fn show_written(out: &mut [u8], used: usize, w: Written, line: &[u8]) -> usize
-    ensures answer { result ≡ (written_on (sheet out.old used) w line.now).used }
-    ensures sheet { out.new ≡ (written_on (sheet out.old used) w line.now).bytes }
+// The answer of a writer as a line behind what the sheet has, with the whole line that it wrote into.
+#[tactic(auto, unfolding(crate::specs::Shown::written_on))]
+pub fn show_written<const N: usize>(sheet: &mut Sheet<N>, w: Result<usize, Refusal>, line: &[u8])
+    ensures { sheet.new ≡ written_on sheet.old w line.now }
 {
-    let a = put_length(out, used, w);
-    let b = streams::put_byte(out, a, b' ');
-    let c = streams::put_text(out, b, line);
-    streams::put_byte(out, c, b'\n')
+    put_length(sheet, w);
+    sheet.put_byte(b' ');
+    sheet.put_text(line);
+    sheet.put_byte(b'\n');
 }
 
-// The answer of a writer of bytes as a line behind what the sheet has, with the whole line that it wrote into as HEX; and how much it has then.
-pub fn show_written_hex(out: &mut [u8], used: usize, w: Written, line: &[u8]) -> usize
-    ensures answer { result ≡ (hex_written_on (sheet out.old used) w line.now).used }
-    ensures sheet { out.new ≡ (hex_written_on (sheet out.old used) w line.now).bytes }
+// The answer of a writer of bytes as a line behind what the sheet has, with the whole line that it wrote into as HEX.
+#[tactic(auto, unfolding(crate::specs::Shown::written_on))]
+pub fn show_written_hex<const N: usize>(
+    sheet: &mut Sheet<N>,
+    w: Result<usize, Refusal>,
+    line: &[u8],
+)
+    ensures { sheet.new ≡ hex_written_on sheet.old w line.now }
 {
-    let a = put_length(out, used, w);
-    let b = streams::put_byte(out, a, b' ');
-    let c = hex_bytes::put(out, b, line);
-    streams::put_byte(out, c, b'\n')
+    put_length(sheet, w);
+    sheet.put_byte(b' ');
+    hex_bytes::put(sheet, line);
+    sheet.put_byte(b'\n');
 }

@@ -1,86 +1,73 @@
 // What is shown of a shot list: how many records it has, and each as words; or the refusal of its earliest record at fault.
 ghost use Rattle.std.specs.Prelude.{◌≡◌, true};
-ghost use Rattle.streams.specs.Sheet.{sheet};
 ghost use Rattle.shot_lists.specs.Entries.{on_disk};
 ghost use Rattle.shot_lists.specs.Reading.{read_of, is_faultless};
 ghost use Rattle.showing.specs.Lists.{numbered_on, frames_on, record_on, reading_on, list_on};
 
-use shot_lists::{Checked, Entry, Record};
+use shot_lists::Record;
+use streams::Sheet;
 
 // A word, with the spaces around it, and a number.
-fn put_numbered(out: &mut [u8], used: usize, word: &[u8], n: u64) -> usize
-    ensures answer { result ≡ (numbered_on (sheet out.old used) word.now n).used }
-    ensures sheet { out.new ≡ (numbered_on (sheet out.old used) word.now n).bytes }
+#[tactic(auto, unfolding(crate::specs::Lists::numbered_on))]
+fn put_numbered<const N: usize>(sheet: &mut Sheet<N>, word: &[u8], n: u64)
+    ensures { sheet.new ≡ numbered_on sheet.old word.now n }
 {
-    let a = streams::put_text(out, used, word);
-    streams::put_signed(out, a, false, n)
+    sheet.put_text(word);
+    sheet.put_signed(false, n);
 }
 
 // A shot: its first frame and its end.
-fn put_frames(out: &mut [u8], used: usize, first: i64, end: i64) -> usize
-    ensures answer { result ≡ (frames_on (sheet out.old used) first end).used }
-    ensures sheet { out.new ≡ (frames_on (sheet out.old used) first end).bytes }
+#[tactic(auto, unfolding(crate::specs::Lists::frames_on))]
+fn put_frames<const N: usize>(sheet: &mut Sheet<N>, first: i64, end: i64)
+    ensures { sheet.new ≡ frames_on sheet.old first end }
 {
-    let a = streams::put_text(out, used, b" shot ");
-    let b = crate::put_number(out, a, first);
-    let c = streams::put_byte(out, b, b' ');
-    crate::put_number(out, c, end)
+    sheet.put_text(b" shot ");
+    crate::put_number(sheet, first);
+    sheet.put_byte(b' ');
+    crate::put_number(sheet, end);
 }
 
 // A record as words, a space in front of each.
-fn put_words(out: &mut [u8], used: usize, found: Record) -> usize
-    ensures answer { result ≡ (record_on (sheet out.old used) found).used }
-    ensures sheet { out.new ≡ (record_on (sheet out.old used) found).bytes }
+fn put_words<const N: usize>(sheet: &mut Sheet<N>, found: Record)
+    ensures { sheet.new ≡ record_on sheet.old found }
 {
     match found {
-        Record::Rate(n) => put_numbered(out, used, b" rate ", n),
-        Record::Shot { first, end } => put_frames(out, used, first, end),
-        Record::Reel(n) => put_numbered(out, used, b" reel ", n),
+        Record::Rate(n) => put_numbered(sheet, b" rate ", n),
+        Record::Shot { first, end } => put_frames(sheet, first, end),
+        Record::Reel(n) => put_numbered(sheet, b" reel ", n),
     }
 }
 
 // The records of a list, one after the other. Asks a list without fault.
-fn put_records(out: &mut [u8], used: usize, list: &[u8]) -> usize
+fn put_records<const N: usize>(sheet: &mut Sheet<N>, list: &[u8])
     requires { is_faultless (read_of on_disk list.now) ≡ true }
-    ensures answer { result ≡ (reading_on (sheet out.old used) (read_of on_disk list.now)).used }
-    ensures sheet { out.new ≡ (reading_on (sheet out.old used) (read_of on_disk list.now)).bytes }
+    ensures { sheet.new ≡ reading_on sheet.old (read_of on_disk list.now) }
 {
-    let mut at: usize = 0;
-    let mut held: u64 = 0;
-    let mut u = used;
+    let mut at = 0;
+    let mut held = 0;
     while at < list.len() {
         match shot_lists::record_at(list, at, held) {
-            Entry::Taken {
-                found,
-                held: after,
-                size,
-            } => {
-                u = put_words(out, u, found);
-                at += size;
-                held = after;
+            Ok(Some(taken)) => {
+                put_words(sheet, taken.found);
+                at += taken.size;
+                held = taken.held;
             }
-            Entry::Refused(_) => {
-                return u;
-            }
-            Entry::End => {
-                return u;
-            }
+            Ok(None) => return,
+            Err(_) => return,
         }
     }
-    u
 }
 
-// A shot list as a line behind what the sheet has: how many records, and each as words, or its refusal; and how much it has then.
-pub fn show_list(out: &mut [u8], used: usize, list: &[u8]) -> usize
-    ensures answer { result ≡ (list_on (sheet out.old used) (read_of on_disk list.now)).used }
-    ensures sheet { out.new ≡ (list_on (sheet out.old used) (read_of on_disk list.now)).bytes }
+// A shot list as a line behind what the sheet has: how many records, and each as words, or its refusal.
+pub fn show_list<const N: usize>(sheet: &mut Sheet<N>, list: &[u8])
+    ensures { sheet.new ≡ list_on sheet.old (read_of on_disk list.now) }
 {
     match shot_lists::check_list(list) {
-        Checked::Records(n) => {
-            let a = streams::put_signed(out, used, false, n as u64);
-            let b = put_records(out, a, list);
-            streams::put_byte(out, b, b'\n')
+        Ok(n) => {
+            sheet.put_signed(false, n as u64);
+            put_records(sheet, list);
+            sheet.put_byte(b'\n');
         }
-        Checked::Refused(e) => crate::show(out, used, crate::each::of_refusal(e)),
+        Err(e) => crate::show(sheet, crate::each::of_refusal(e)),
     }
 }

@@ -1,36 +1,35 @@
 // What is shown of the shards that a query asks: `FIRST AFTER`, or the refusal and where. Refuses nothing itself.
 ghost use Rattle.std.specs.Prelude.{◌≡◌};
-ghost use Rattle.streams.specs.Sheet.{sheet};
 ghost use Rattle.showing.specs.Why.{puts_on};
 ghost use Rattle.showing.specs.Routes.{shards_parts, routed_parts, routed_on};
 
-use router::Routed;
+use answers::Refusal;
+use router::Shards;
+use streams::Sheet;
 
 // Two numbers from 0 on, and a space between them.
-fn put_shards(out: &mut [u8], used: usize, first: u64, after: u64) -> usize
-    ensures answer { result ≡ (puts_on (sheet out.old used) (shards_parts first after)).used }
-    ensures sheet { out.new ≡ (puts_on (sheet out.old used) (shards_parts first after)).bytes }
+#[tactic(auto, unfolding(crate::specs::Why::puts_on, crate::specs::Routes::shards_parts))]
+fn put_shards<const N: usize>(sheet: &mut Sheet<N>, first: u64, after: u64)
+    ensures { sheet.new ≡ puts_on sheet.old (shards_parts first after) }
 {
-    let a = streams::put_signed(out, used, false, first);
-    crate::why::put_spaced(out, a, false, after)
+    sheet.put_signed(false, first);
+    crate::why::put_spaced(sheet, false, after);
 }
 
 // The shards, or why there are none.
-fn put_routed(out: &mut [u8], used: usize, a: Routed) -> usize
-    ensures answer { result ≡ (puts_on (sheet out.old used) (routed_parts a)).used }
-    ensures sheet { out.new ≡ (puts_on (sheet out.old used) (routed_parts a)).bytes }
+fn put_routed<const N: usize>(sheet: &mut Sheet<N>, a: Result<Shards, Refusal>)
+    ensures { sheet.new ≡ puts_on sheet.old (routed_parts a) }
 {
     match a {
-        Routed::Shards { first, after } => put_shards(out, used, first as u64, after as u64),
-        Routed::Refused(e) => crate::put_shown(out, used, crate::each::of_text_refusal(e)),
+        Ok(shards) => put_shards(sheet, shards.first as u64, shards.after as u64),
+        Err(e) => crate::put_shown(sheet, crate::each::of_text_refusal(e)),
     }
 }
 
-// The shards that a query asks as a line behind what the sheet has; and how much it has then.
-pub fn show_routed(out: &mut [u8], used: usize, a: Routed) -> usize
-    ensures answer { result ≡ (routed_on (sheet out.old used) a).used }
-    ensures sheet { out.new ≡ (routed_on (sheet out.old used) a).bytes }
+// The shards that a query asks as a line behind what the sheet has.
+pub fn show_routed<const N: usize>(sheet: &mut Sheet<N>, a: Result<Shards, Refusal>)
+    ensures { sheet.new ≡ routed_on sheet.old a }
 {
-    let u = put_routed(out, used, a);
-    streams::put_byte(out, u, b'\n')
+    put_routed(sheet, a);
+    sheet.put_byte(b'\n');
 }

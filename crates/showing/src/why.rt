@@ -1,131 +1,122 @@
 // What is shown of why a text is read as it is: `NUMBER PLACE COUNT LIMIT VALUE LABEL LENGTH LINE`. Refuses nothing itself.
 ghost use Rattle.std.specs.Prelude.{◌≡◌};
-ghost use Rattle.streams.specs.Sheet.{sheet, put_on};
+ghost use Rattle.streams.specs.Sheet.{put_on};
 ghost use Rattle.label_writer.specs.LabelText.{frames_mark, sections_text};
 ghost use Rattle.showing.specs.Why.{puts_on, spaced_parts, accepted_parts, turned_down_parts, read_parts, limit_parts, first_parts, fact_parts, told_parts, reasoned_parts, why_on};
 
 use answers::Refusal;
 use faults::Fault;
-use label_writer::TimecodeSections;
+use label_writer::{Label, TimecodeSections};
 use reading::Read;
-use reasons::{Fact, Reason, Reasoned};
+use reasons::{Fact, Reason};
+use streams::Sheet;
 use timecodes::Timecode;
 
 // A space and a number by sign and magnitude.
-pub(crate) fn put_spaced(out: &mut [u8], used: usize, minus: bool, m: u64) -> usize
-    ensures answer { result ≡ (puts_on (sheet out.old used) (spaced_parts minus m)).used }
-    ensures sheet { out.new ≡ (puts_on (sheet out.old used) (spaced_parts minus m)).bytes }
+#[tactic(auto, unfolding(crate::specs::Why::puts_on))]
+pub(crate) fn put_spaced<const N: usize>(sheet: &mut Sheet<N>, minus: bool, m: u64)
+    ensures { sheet.new ≡ puts_on sheet.old (spaced_parts minus m) }
 {
-    let a = streams::put_byte(out, used, b' ');
-    streams::put_signed(out, a, minus, m)
+    sheet.put_byte(b' ');
+    sheet.put_signed(minus, m);
 }
 
 // An accepted text: `0 0 COUNT`.
-fn put_accepted(out: &mut [u8], used: usize, tc: Timecode) -> usize
-    ensures answer { result ≡ (puts_on (sheet out.old used) (accepted_parts tc)).used }
-    ensures sheet { out.new ≡ (puts_on (sheet out.old used) (accepted_parts tc)).bytes }
+fn put_accepted<const N: usize>(sheet: &mut Sheet<N>, tc: Timecode)
+    ensures { sheet.new ≡ puts_on sheet.old (accepted_parts tc) }
 {
-    let a = streams::put_text(out, used, b"0 0 ");
-    crate::put_shown(out, a, crate::one_count(0, tc))
+    sheet.put_text(b"0 0 ");
+    crate::put_shown(sheet, crate::one_count(0, tc));
 }
 
 // A text that is turned down: `NUMBER PLACE 0`.
-fn put_turned_down(out: &mut [u8], used: usize, e: Refusal) -> usize
-    ensures answer { result ≡ (puts_on (sheet out.old used) (turned_down_parts e)).used }
-    ensures sheet { out.new ≡ (puts_on (sheet out.old used) (turned_down_parts e)).bytes }
+#[tactic(auto, unfolding(crate::specs::Why::puts_on, crate::specs::Why::turned_down_parts))]
+fn put_turned_down<const N: usize>(sheet: &mut Sheet<N>, e: Refusal)
+    ensures { sheet.new ≡ puts_on sheet.old (turned_down_parts e) }
 {
-    let a = streams::put_signed(out, used, false, e.number as u64);
-    let b = put_spaced(out, a, false, e.place as u64);
-    streams::put_text(out, b, b" 0")
+    sheet.put_signed(false, e.cause.number() as u64);
+    put_spaced(sheet, false, e.place as u64);
+    sheet.put_text(b" 0");
 }
 
 // What the reader answers: `NUMBER PLACE COUNT`.
-fn put_read(out: &mut [u8], used: usize, read: Read) -> usize
-    ensures answer { result ≡ (puts_on (sheet out.old used) (read_parts read)).used }
-    ensures sheet { out.new ≡ (puts_on (sheet out.old used) (read_parts read)).bytes }
+fn put_read<const N: usize>(sheet: &mut Sheet<N>, read: Result<Read, Refusal>)
+    ensures { sheet.new ≡ puts_on sheet.old (read_parts read) }
 {
     match read {
-        Read::Label(tc) => put_accepted(out, used, tc),
-        Read::Footage(tc, _) => put_accepted(out, used, tc),
-        Read::Refused(e) => put_turned_down(out, used, e),
+        Ok(Read::Label(tc) | Read::Footage(tc, _)) => put_accepted(sheet, tc),
+        Err(e) => put_turned_down(sheet, e),
     }
 }
 
 // A field at fault, behind a space: `LIMIT VALUE -`.
-fn put_limit(out: &mut [u8], used: usize, f: Fault) -> usize
-    ensures answer { result ≡ (puts_on (sheet out.old used) (limit_parts f)).used }
-    ensures sheet { out.new ≡ (puts_on (sheet out.old used) (limit_parts f)).bytes }
+#[tactic(auto, unfolding(crate::specs::Why::puts_on, crate::specs::Why::limit_parts))]
+fn put_limit<const N: usize>(sheet: &mut Sheet<N>, f: Fault)
+    ensures { sheet.new ≡ puts_on sheet.old (limit_parts f) }
 {
-    let a = put_spaced(out, used, f.minus, f.limit);
-    let b = put_spaced(out, a, f.minus, f.value);
-    streams::put_text(out, b, b" -")
+    put_spaced(sheet, f.minus, f.limit);
+    put_spaced(sheet, f.minus, f.value);
+    sheet.put_text(b" -");
 }
 
 // The text of a label by its sections, as the label writer has it at a rate.
-fn put_label(out: &mut [u8], used: usize, s: TimecodeSections, rate: u64) -> usize
-    ensures answer { result ≡ (put_on (sheet out.old used) (sections_text (frames_mark rate) s)).used }
-    ensures sheet { out.new ≡ (put_on (sheet out.old used) (sections_text (frames_mark rate) s)).bytes }
+fn put_label<const N: usize>(sheet: &mut Sheet<N>, s: TimecodeSections, rate: u64)
+    ensures { sheet.new ≡ put_on sheet.old (sections_text (frames_mark rate) s) }
 {
-    let need = label_writer::sections_length(s);
-    if lent::room(out.len(), used, need) {
-        label_writer::put_sections(&mut out[used..], s, rate);
-        return used + need;
-    }
-    used
+    sheet.put(&Label { sections: s, rate });
 }
 
 // The first allowed label, behind a space: `0 0 LABEL`.
-fn put_first(out: &mut [u8], used: usize, s: TimecodeSections, rate: u64) -> usize
-    ensures answer { result ≡ (puts_on (sheet out.old used) (first_parts rate s)).used }
-    ensures sheet { out.new ≡ (puts_on (sheet out.old used) (first_parts rate s)).bytes }
+#[tactic(auto, unfolding(crate::specs::Why::puts_on, crate::specs::Why::first_parts))]
+fn put_first<const N: usize>(sheet: &mut Sheet<N>, s: TimecodeSections, rate: u64)
+    ensures { sheet.new ≡ puts_on sheet.old (first_parts rate s) }
 {
-    let a = streams::put_text(out, used, b" 0 0 ");
-    put_label(out, a, s, rate)
+    sheet.put_text(b" 0 0 ");
+    put_label(sheet, s, rate);
 }
 
 // The fact behind the number, behind a space: `LIMIT VALUE LABEL`.
-fn put_fact(out: &mut [u8], used: usize, fact: Fact, rate: u64) -> usize
-    ensures answer { result ≡ (puts_on (sheet out.old used) (fact_parts rate fact)).used }
-    ensures sheet { out.new ≡ (puts_on (sheet out.old used) (fact_parts rate fact)).bytes }
+#[tactic(auto, unfolding(crate::specs::Why::puts_on))]
+fn put_fact<const N: usize>(sheet: &mut Sheet<N>, fact: Option<Fact>, rate: u64)
+    ensures { sheet.new ≡ puts_on sheet.old (fact_parts rate fact) }
 {
     match fact {
-        Fact::Nothing => streams::put_text(out, used, b" 0 0 -"),
-        Fact::Limit(f) => put_limit(out, used, f),
-        Fact::First(s) => put_first(out, used, s, rate),
+        None => sheet.put_text(b" 0 0 -"),
+        Some(Fact::Limit(f)) => put_limit(sheet, f),
+        Some(Fact::First(s)) => put_first(sheet, s, rate),
     }
 }
 
 // What is told: `NUMBER PLACE COUNT LIMIT VALUE LABEL LENGTH`.
-fn put_told(out: &mut [u8], used: usize, r: Reason, rate: u64) -> usize
-    ensures answer { result ≡ (puts_on (sheet out.old used) (told_parts rate r)).used }
-    ensures sheet { out.new ≡ (puts_on (sheet out.old used) (told_parts rate r)).bytes }
+fn put_told<const N: usize>(sheet: &mut Sheet<N>, r: Reason, rate: u64)
+    ensures { sheet.new ≡ puts_on sheet.old (told_parts rate r) }
 {
-    let read = r.read;
-    let fact = r.fact;
-    let a = put_read(out, used, read);
-    let b = put_fact(out, a, fact, rate);
-    put_spaced(out, b, false, r.length as u64)
+    put_read(sheet, r.read);
+    put_fact(sheet, r.fact, rate);
+    put_spaced(sheet, false, r.length as u64);
 }
 
 // What is told, or why nothing could be.
-fn put_reasoned(out: &mut [u8], used: usize, w: Reasoned, rate: u64) -> usize
-    ensures answer { result ≡ (puts_on (sheet out.old used) (reasoned_parts rate w)).used }
-    ensures sheet { out.new ≡ (puts_on (sheet out.old used) (reasoned_parts rate w)).bytes }
+fn put_reasoned<const N: usize>(sheet: &mut Sheet<N>, w: Result<Reason, Refusal>, rate: u64)
+    ensures { sheet.new ≡ puts_on sheet.old (reasoned_parts rate w) }
 {
     match w {
-        Reasoned::Told(r) => put_told(out, used, r, rate),
-        Reasoned::Refused(e) => crate::put_shown(out, used, crate::each::of_refusal(e)),
+        Ok(r) => put_told(sheet, r, rate),
+        Err(e) => crate::put_shown(sheet, crate::each::of_refusal(e)),
     }
 }
 
-// Why a text is read as it is at a rate, as a line behind what the sheet has, with the whole line that the phrase was laid into; and how
-// much it has then.
-pub fn show_why(out: &mut [u8], used: usize, w: Reasoned, rate: u64, line: &[u8]) -> usize
-    ensures answer { result ≡ (why_on (sheet out.old used) rate w line.now).used }
-    ensures sheet { out.new ≡ (why_on (sheet out.old used) rate w line.now).bytes }
+// Why a text is read as it is at a rate, as a line behind what the sheet has, with the whole line that the phrase was laid into.
+pub fn show_why<const N: usize>(
+    sheet: &mut Sheet<N>,
+    w: Result<Reason, Refusal>,
+    rate: u64,
+    line: &[u8],
+)
+    ensures { sheet.new ≡ why_on sheet.old rate w line.now }
 {
-    let a = put_reasoned(out, used, w, rate);
-    let b = streams::put_byte(out, a, b' ');
-    let c = streams::put_text(out, b, line);
-    streams::put_byte(out, c, b'\n')
+    put_reasoned(sheet, w, rate);
+    sheet.put_byte(b' ');
+    sheet.put_text(line);
+    sheet.put_byte(b'\n');
 }

@@ -90,9 +90,6 @@ module _ (chunk : List ℕ) (from : ℕ) (buffer₀ : List ℕ) (g₀ : Gathered
   abbrev pub Gathers : Gathering → Type 0
   Gathers e = (e.step ≡ (gather_from from buffer₀ g₀ (drop from chunk)).step) × (e.buffer ≡ (gather_from from buffer₀ g₀ (drop from chunk)).buffer)
 
-  pub running-start : Running buffer₀ g₀ from
-  running-start = record { long = refl; same = refl }
-
   module _ (buffer : List ℕ) (g : Gathered) (i : ℕ) (s : Running buffer g i) where
     shown : (e : Gathering) → gather_from i buffer g (drop i chunk) ≡ e → Gathers e
     shown e p = let q = s.same ∙ p in (sym (ap (λ z. z.step) q), sym (ap (λ z. z.buffer) q))

@@ -1,7 +1,7 @@
 -- Text put on a sheet stands behind what it has, or nothing changes.
 -- Assumes nothing.
-use Prim.Native.Nat.{ℕ, ◌+◌, ◌-◌, ◌≤◌}
-use mathlib.Core.Path.{◌≡◌, sym}
+use Prim.Native.Nat.{ℕ, ◌+◌, ◌-◌, ◌<◌, ◌≤◌}
+use mathlib.Core.Path.{◌≡◌, sym, ap}
 use mathlib.Core.List.{List, ◌++◌, append_assoc}
 use mathlib.Core.Bool.{Bool, true, false, cond}
 use native.Mathlib.Omega.{arith}
@@ -9,33 +9,23 @@ use lib.ListN.{length, take, drop, length-append, length-take}
 use lib.Seq.{take_at}
 use borrow.Rule.Slice.PartMut.{put_mid, mid_of}
 use Rattle.lent.specs.Line.{laid, splice, has_room}
-use Rattle.lent.proofs.Laws.{fits-yes, fits-no, fits-true, fits-false, line-laid, line_kept, line-lent}
+use Rattle.lent.proofs.Laws.{fits-true, fits-false, line-laid, line_kept, line-lent}
 use Rattle.lent.proofs.Statements.{same_length}
 use Rattle.streams.specs.Sheet.{Sheet, sheet, text_on, put_on}
 
--- what a function that puts a text on a sheet shows at a return
-abbrev pub Puts : (out : List ℕ) (used : ℕ) (text : List ℕ) (answer : ℕ) (last : List ℕ) → Type 0
-Puts out used text answer last = (answer ≡ (put_on (sheet out used) text).used) × (last ≡ (put_on (sheet out used) text).bytes)
+-- the rest of the bytes was lent on, and came back as `last`
+pub put-lent : (s : Sheet) (text last : List ℕ) (need : ℕ) → need ≡ length text → s.used + need ≤ length s.bytes
+    → last ≡ laid (mid_of s.used (length s.bytes - s.used) s.bytes) text
+    → sheet (put_mid s.used (length s.bytes - s.used) s.bytes last) (s.used + need) ≡ put_on s text
+unfolding put_on
+put-lent s text last need e h l =
+    let n : s.used + length text ≤ length s.bytes = omega arith in
+    rw (e, fits-true s.bytes s.used text n) (ap (λ z. sheet z (s.used + length text)) (line-lent s.bytes s.used text last n l))
 
-module _ (out : List ℕ) (used : ℕ) (text : List ℕ) (need : ℕ) (room : Bool)
-    (e : need ≡ length text) (r : room ≡ has_room (length out) used need) where
-  -- there is room: the rest of the sheet was lent on, and came back as `last`
-  pub put-fits : room ≡ true → used + need ≤ length out
-  put-fits t = omega (arith, fits-yes out used text need room e r t)
-
-  pub put_in : (last : List ℕ) → room ≡ true → last ≡ laid (mid_of used (length out - used) out) text
-      → Puts out used text (used + need) (put_mid used (length out - used) out last)
-  unfolding put_on
-  put_in last t l =
-      let h = fits-yes out used text need room e r t in
-      (rw (e, fits-true out used text h), line-lent out used text last h l)
-
-  -- there is none
-  pub put-out : room ≡ false → Puts out used text used out
-  unfolding put_on
-  put-out t =
-      let h = fits-no out used text need room e r t in
-      (rw (fits-false out used text h), sym (line_kept out used text h))
+-- there is none
+pub put-out : (s : Sheet) (text : List ℕ) → length s.bytes < s.used + length text → s ≡ put_on s text
+unfolding put_on
+put-out s text h = rw (fits-false s.bytes s.used text h) (ap (λ z. sheet z s.used) (sym (line_kept s.bytes s.used text h)))
 
 -- ---- what is put on a sheet
 -- the sheet keeps its length

@@ -33,27 +33,36 @@ impl Gathered {
     pub fn is_empty(self) -> bool
         ensures { result ≡ is_empty self }
     {
-        if self.over {
-            return false;
+        !self.over && self.len == 0
+    }
+
+    // One byte more: kept while the buffer has room.
+    fn take(self, buffer: &mut [u8], b: u8) -> Gathered
+        ensures answer { result ≡ taken buffer.old self }
+        ensures buffer { buffer.new ≡ buffer_taken buffer.old self b }
+    {
+        if self.len < buffer.len() {
+            buffer[self.len] = b;
+            return Gathered {
+                len: self.len + 1,
+                ..self
+            };
         }
-        self.len == 0
+        Gathered { over: true, ..self }
     }
 }
 
-// One byte more: kept while the buffer has room.
-fn take(buffer: &mut [u8], g: Gathered, b: u8) -> Gathered
-    ensures answer { result ≡ taken buffer.old g }
-    ensures buffer { buffer.new ≡ buffer_taken buffer.old g b }
-{
-    let len = g.len;
-    if len < buffer.len() {
-        buffer[len] = b;
-        return Gathered {
-            len: len + 1,
-            over: g.over,
-        };
+impl Step {
+    // What is gathered of the next line behind a step: nothing yet where a line has ended there.
+    pub fn gone_on(self) -> Gathered
+        ensures { result ≡ gone_on self }
+    {
+        if self.ended {
+            Gathered::new()
+        } else {
+            self.gathered
+        }
     }
-    Gathered { len, over: true }
 }
 
 // The bytes of a chunk from a place on, up to the newline, which is passed, or up to the chunk's end.
@@ -62,8 +71,7 @@ pub fn gather(chunk: &[u8], from: usize, buffer: &mut [u8], g: Gathered) -> Step
     ensures buffer { buffer.new ≡ (gather_from from buffer.old g (drop from chunk.now)).buffer }
 {
     let mut h = g;
-    let mut i = from;
-    while i < chunk.len() {
+    for i in from..chunk.len() {
         if chunk[i] == b'\n' {
             return Step {
                 gathered: h,
@@ -71,22 +79,11 @@ pub fn gather(chunk: &[u8], from: usize, buffer: &mut [u8], g: Gathered) -> Step
                 ended: true,
             };
         }
-        h = take(buffer, h, chunk[i]);
-        i += 1;
+        h = h.take(buffer, chunk[i]);
     }
     Step {
         gathered: h,
-        next: i,
+        next: from.max(chunk.len()),
         ended: false,
     }
-}
-
-// What is gathered of the next line behind a step: nothing yet where a line has ended there.
-pub fn gone_on(t: Step) -> Gathered
-    ensures { result ≡ gone_on t }
-{
-    if t.ended {
-        return Gathered::new();
-    }
-    t.gathered
 }

@@ -5,5 +5,5 @@
 mod gathered;
 mod sheets;
 
-pub use gathered::{Gathered, Step, gather, gone_on};
-pub use sheets::{put_byte, put_signed, put_text};
+pub use gathered::{Gathered, Step, gather};
+pub use sheets::Sheet;

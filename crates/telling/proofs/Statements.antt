@@ -1,6 +1,9 @@
 -- What is told, as one text: piece behind piece.
 -- Assumes nothing.
-use Prim.Native.Nat.{ℕ, zero, suc, ◌+◌, ◌≤◌}
+use Rattle.answers.specs.declared.Refusal.{Refusal}
+use Rattle.answers.specs.Causes.{refusal_number}
+use Rattle.std.specs.Prelude.{Option, Err, Result, None}
+use Prim.Native.Nat.{ℕ, zero, suc}
 use mathlib.Core.Path.{◌≡◌, refl, ap, ◌∙◌}
 use mathlib.Core.List.{List, [], ◌∷◌, ◌++◌, map, append_assoc}
 use mathlib.Core.Bool.{Bool, true, false, cond, and-eq-true_iff}
@@ -16,22 +19,18 @@ use Rattle.written.specs.Clock.{clock_text}
 use Rattle.written.specs.Parts.{signed_text}
 use Rattle.phrases.specs.Phrases.{phrases, phrase_of}
 use Rattle.reading.specs.declared.Read.{Read}
-use Rattle.reading.specs.declared.Read.TheVariants as read
 use Rattle.reading.specs.Answer.{number_of, place_of}
 use Rattle.reading.specs.Shaped.{Shaped, label, footage, refused, shape_of}
 use Rattle.reasons.specs.declared.Fact.{Fact}
-use Rattle.reasons.specs.declared.Fact.TheVariants.{Nothing}
 use Rattle.reasons.specs.Facts.{label_fact, footage_fact, fact_by}
 use Rattle.reasons.specs.Why.{fact_of}
-use Rattle.reading.specs.declared.Stated.{Stated}
-use Rattle.streams.specs.Sheet.{Sheet}
 use Rattle.streams.specs.Parting.{together}
 use Rattle.streams.proofs.Pieces.{pieces-stand, together-append}
 use Rattle.telling.specs.declared.told.Way.{Way}
-use Rattle.streams.specs.Pieces.{line_end, all_on}
+use Rattle.streams.specs.Pieces.{line_end}
 use Rattle.telling.specs.Shown.{is_printable, shown_byte, shown_pieces, has_place, caret_pieces, place_pieces}
 use Rattle.telling.specs.Facts.{limit_pieces, first_pieces, counted_pieces, fact_pieces}
-use Rattle.telling.specs.Told.{stated_in, read_in, fact_in, phrase_in, front_pieces, reason_pieces, told_pieces}
+use Rattle.telling.specs.Told.{read_in, fact_in, phrase_in, front_pieces, reason_pieces, told_pieces}
 use Rattle.telling.specs.Answered.{question_pieces, text_pieces}
 use Rattle.telling.specs.Joined.{word_pieces}
 use Rattle.telling.specs.Statements.{ToldStands, AnswerStands, WordStands, spaces, caret_text, RefusedTold, LabelTold, FootageTold, ShownColumns, CaretUnder, CountedRead, LimitRead, FirstRead, FactsRead, QuestionUnderstood, TextsUnderstood}
@@ -68,7 +67,7 @@ caret-is number place = by (has_place number)
     by false = refl
 
 -- all that is told, by its parts
-parts : (rate : ℕ) (text : List ℕ) (r : Read) (f : Fact) (phrase : List ℕ)
+parts : (rate : ℕ) (text : List ℕ) (r : Result Read Refusal) (f : Option Fact) (phrase : List ℕ)
     → together (reason_pieces rate text r f phrase)
     ≡ map shown_byte text
     ++ (10 ∷ (caret_text (number_of r) (place_of r) ++ (together (front_pieces (number_of r)) ++ (phrase ++ (10 ∷ together (fact_pieces rate r f))))))
@@ -99,19 +98,19 @@ refused_told way text e p n =
     ++ (10 ∷ (caret_text (number_of r) (place_of r)
     ++ (together (front_pieces (number_of r)) ++ (phrase_of (number_of r) ++ (10 ∷ together (fact_pieces way.rate r (fact_in way text))))))))
     p
-    ∙ ap (λ z. map shown_byte text ++ (10 ∷ (caret_text e.number e.place ++ z)))
-    (front-text e.number (phrase_of e.number ++ (10 ∷ together (fact_pieces way.rate (read.Refused e) (fact_in way text)))) n)
+    ∙ ap (λ z. map shown_byte text ++ (10 ∷ (caret_text (refusal_number e) e.place ++ z)))
+    (front-text (refusal_number e) (phrase_of (refusal_number e) ++ (10 ∷ together (fact_pieces way.rate (Err e) (fact_in way text)))) n)
 
 -- an accepted text has no fact
-no-fact : (rate : ℕ) (stated : Stated) (s : Shaped) → fact_by 0 rate stated s ≡ Nothing
+no-fact : (rate : ℕ) (stated : Option ℕ) (s : Shaped) → fact_by 0 rate stated s ≡ None
 unfolding label_fact footage_fact
 no-fact rate stated (label minus fields) = refl
 no-fact rate stated (footage minus feet frames perf marker) = refl
 no-fact rate stated (refused e) = refl
 
-fact-none : (way : Way) (text : List ℕ) → number_of (read_in way text) ≡ 0 → fact_in way text ≡ Nothing
+fact-none : (way : Way) (text : List ℕ) → number_of (read_in way text) ≡ 0 → fact_in way text ≡ None
 unfolding fact_of
-fact-none way text e = rw e (no-fact way.rate (stated_in way) (shape_of (stated_in way) text))
+fact-none way text e = rw e (no-fact way.rate way.options.format (shape_of way.options.format text))
 
 pub label_told : LabelTold
 unfolding told_pieces front_pieces together phrase_of phrases

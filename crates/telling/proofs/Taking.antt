@@ -1,6 +1,7 @@
 -- What is understood as a question is one of the grammar: each option that was taken stands there, and the rate behind them.
 -- Assumes nothing.
 use Prim.Native.Nat.{ℕ, ◌+◌, ◌≤◌}
+use Rattle.std.specs.Prelude.{Option, Some, None}
 use mathlib.Core.Path.{◌≡◌, refl, sym, ap, ◌∙◌, subst}
 use mathlib.Core.List.{List, [], ◌∷◌, ◌++◌}
 use mathlib.Core.Bool.{Bool, true, false, cond, not, ◌&&◌, and-eq-true_iff}
@@ -13,8 +14,12 @@ use Rattle.digits.specs.Digits.{is_byte, first_is, leading, run_of}
 use Rattle.digits.proofs.Runs.{field-value, leading-field, leading_length, leading-rest, run-count, run_value}
 use Rattle.asking.specs.Table.{word_first}
 use Rattle.asking.proofs.Standing.{word-front}
-use Rattle.telling.specs.declared.questions.Options.{Options}
-use Rattle.telling.specs.Question.{one_of, is_number, no_option, with_position, with_format, format_at, format_in, option_in, option_of}
+use Rattle.timecodes.specs.declared.kinds.Kind.{Kind}
+use Rattle.timecodes.specs.declared.kinds.Kind.TheVariants.{Length, Position}
+use Rattle.timecodes.specs.Kinds.{is_position}
+use Rattle.telling.specs.declared.told.Options.{Options}
+use Rattle.telling.specs.declared.questions.Opening.{Opening}
+use Rattle.telling.specs.Question.{one_of, is_number, no_option, with_position, with_format, format_at, format_after, format_behind, format_in, position_behind, option_in, option_of}
 use Rattle.telling.specs.Grammar.{Numeral, numeral, PositionWord, short_position, long_position, FormatWord, short_format, long_format, Front, no-option, one_position, one_format, position_format, format_position}
 use Rattle.telling.proofs.Passing.{behind, number_behind}
 
@@ -49,13 +54,13 @@ stands-front b [] e = let z : ◌≡◌ {A = ℕ} 0 1 = cc in absurd (omega arit
 stands-front b (c ∷ l) e = ap (λ z. z ∷ l) (eqb-true c b e)
 
 -- ---- an option that was taken
-pub data Stepped (l : List ℕ) (o : Options) : Options → Type 0 where
+pub data Stepped (l : List ℕ) (o : Opening) : Opening → Type 0 where
   same : Stepped l o o
-  by_position : {w : List ℕ} (r : List ℕ) → PositionWord w → l ≡ w ++ r → o.position ≡ false → Stepped l o (with_position o (length w))
-  by_format : {v d : List ℕ} {n : ℕ} (r : List ℕ) → FormatWord v → Numeral d n → l ≡ v ++ (d ++ (32 ∷ r)) → o.formatted ≡ false
+  by_position : {w : List ℕ} (r : List ℕ) → PositionWord w → l ≡ w ++ r → o.options.kind ≡ Length → Stepped l o (with_position o (length w))
+  by_format : {v d : List ℕ} {n : ℕ} (r : List ℕ) → FormatWord v → Numeral d n → l ≡ v ++ (d ++ (32 ∷ r)) → o.options.format ≡ None
       → Stepped l o (with_format o n (o.at + length v + length d + 1))
 
-stepped-number : (l : List ℕ) (o : Options) (v : List ℕ) → FormatWord v → word_first v l ≡ true → o.formatted ≡ false
+stepped-number : (l : List ℕ) (o : Opening) (v : List ℕ) → FormatWord v → word_first v l ≡ true → o.options.format ≡ None
     → Stepped l o (format_at (drop (length v) l) o (o.at + length v))
 unfolding format_at
 stepped-number l o v k e f =
@@ -79,61 +84,69 @@ stepped-number l o v k e f =
         subst (λ c. Stepped l o (with_format o (run_of m').value (o.at + length v + c + 1))) (sym t.count_is)
         (by_format (drop 1 rest) k t.numeral_is whole f)
 
-stepped-format : (l : List ℕ) (o : Options) → Stepped l o (format_in l o)
+stepped-format : (l : List ℕ) (o : Opening) → Stepped l o (format_in l o)
 unfolding format_in one_of
-stepped-format l o = by o.formatted (word_first (spelt "-f ") l) (word_first (spelt "--format ") l) refl refl refl
+stepped-format l o = by o.options.format refl
   where
-    by : (t x y : Bool) → o.formatted ≡ t → word_first (spelt "-f ") l ≡ x → word_first (spelt "--format ") l ≡ y
-        → Stepped l o
-        (cond t o (cond (eqb (cond x 3 (cond y 9 0)) 0) o
-        (format_at (drop (cond x 3 (cond y 9 0)) l) o (o.at + cond x 3 (cond y 9 0)))))
-    by true x y e p q = same
-    by false true y e p q = stepped-number l o (spelt "-f ") short_format p e
-    by false false true e p q = stepped-number l o (spelt "--format ") long_format q e
-    by false false false e p q = same
+    by_word : (x y : Bool) → word_first (spelt "-f ") l ≡ x → word_first (spelt "--format ") l ≡ y → o.options.format ≡ None
+        → Stepped l o (format_behind l o (cond x (Some 3) (cond y (Some 9) None)))
+    by_word true y p q e = stepped-number l o (spelt "-f ") short_format p e
+    by_word false true p q e = stepped-number l o (spelt "--format ") long_format q e
+    by_word false false p q e = same
 
-pub stepped : (l : List ℕ) (o : Options) → Stepped l o (option_in l o)
+    by : (stated : Option ℕ) → o.options.format ≡ stated → Stepped l o (format_after l o stated)
+    by (Some format) e = same
+    by None e = by_word (word_first (spelt "-f ") l) (word_first (spelt "--format ") l) refl refl e
+
+-- what is no position is a length
+a_length : (kind : Kind) → is_position kind ≡ false → kind ≡ Length
+a_length Length e = refl
+a_length Position e = let z : ◌≡◌ {A = ℕ} 0 1 = cc in absurd (omega arith)
+
+pub stepped : (l : List ℕ) (o : Opening) → Stepped l o (option_in l o)
 unfolding option_in one_of
-stepped l o = by o.position (word_first (spelt "-p ") l) (word_first (spelt "--position ") l) refl refl refl
+stepped l o = by (is_position o.options.kind) (word_first (spelt "-p ") l) (word_first (spelt "--position ") l) refl refl refl
   where
-    by : (t x y : Bool) → o.position ≡ t → word_first (spelt "-p ") l ≡ x → word_first (spelt "--position ") l ≡ y
-        → Stepped l o
-        (cond t (format_in l o) (cond (eqb (cond x 3 (cond y 11 0)) 0) (format_in l o) (with_position o (cond x 3 (cond y 11 0)))))
+    by : (t x y : Bool) → is_position o.options.kind ≡ t → word_first (spelt "-p ") l ≡ x → word_first (spelt "--position ") l ≡ y
+        → Stepped l o (cond t (format_in l o) (position_behind l o (cond x (Some 3) (cond y (Some 11) None))))
     by true x y e p q = stepped-format l o
-    by false true y e p q = by_position (drop 3 l) short_position (word-front (spelt "-p ") l p) e
-    by false false true e p q = by_position (drop 11 l) long_position (word-front (spelt "--position ") l q) e
+    by false true y e p q = by_position (drop 3 l) short_position (word-front (spelt "-p ") l p) (a_length o.options.kind e)
+    by false false true e p q = by_position (drop 11 l) long_position (word-front (spelt "--position ") l q) (a_length o.options.kind e)
     by false false false e p q = stepped-format l o
 
 -- ---- two of them
-front_same : (line line' rest rest' : List ℕ) (p m : Bool) (n : ℕ) → line ≡ line' → rest ≡ rest' → Front line' rest' p m n → Front line rest p m n
-front_same line line' rest rest' p m n e f k = subst (λ z. Front z rest p m n) (sym e) (subst (λ z. Front line' z p m n) (sym f) k)
+front_same : (line line' rest rest' : List ℕ) (o : Options) → line ≡ line' → rest ≡ rest' → Front line' rest' o → Front line rest o
+front_same line line' rest rest' o e f k = subst (λ z. Front z rest o) (sym e) (subst (λ z. Front line' z o) (sym f) k)
 
-never : true ≡ false → ⊥
-never e = let z : ◌≡◌ {A = ℕ} 0 1 = cc in omega arith
+never_two : Position ≡ Length → ⊥
+never_two e = let z : ◌≡◌ {A = ℕ} 0 1 = cc in omega arith
 
-front-two : (line : List ℕ) (o o' : Options) → Stepped line no_option o → Stepped (drop o.at line) o o'
-    → Front line (drop o'.at line) o'.position o'.formatted o'.format
+never-stated : (n : ℕ) → ◌≡◌ {A = Option ℕ} (Some n) None → ⊥
+never-stated n e = let z : ◌≡◌ {A = ℕ} 0 1 = cc in omega arith
+
+front-two : (line : List ℕ) (o o' : Opening) → Stepped line no_option o → Stepped (drop o.at line) o o'
+    → Front line (drop o'.at line) o'.options
 front-two line o o' same same = no-option
 front-two line o o' same (by_position {w = w} r k e f) =
-    front_same line (w ++ r) _ r _ _ _ e (behind line 0 w r e) (one_position k)
+    front_same line (w ++ r) _ r _ e (behind line 0 w r e) (one_position k)
 front-two line o o' same (by_format {v = v} {d = d} {n = n} r k j e f) =
-    front_same line (v ++ (d ++ (32 ∷ r))) _ r _ _ _ e (number_behind line 0 v d r e) (one_format k j)
+    front_same line (v ++ (d ++ (32 ∷ r))) _ r _ e (number_behind line 0 v d r e) (one_format k j)
 front-two line o o' (by_position {w = w} r k e f) same =
-    front_same line (w ++ r) _ r _ _ _ e (behind line 0 w r e) (one_position k)
-front-two line o o' (by_position r k e f) (by_position s k' e' f') = absurd (never f')
+    front_same line (w ++ r) _ r _ e (behind line 0 w r e) (one_position k)
+front-two line o o' (by_position r k e f) (by_position s k' e' f') = absurd (never_two f')
 front-two line o o' (by_position {w = w} r k e f) (by_format {v = v} {d = d} {n = n} s k' j e' f') =
     let at = behind line 0 w r e in
     let both : line ≡ w ++ (v ++ (d ++ (32 ∷ s))) = e ∙ ap (λ z. w ++ z) (sym at ∙ e') in
-    front_same line (w ++ (v ++ (d ++ (32 ∷ s)))) _ s _ _ _ both (number_behind line (0 + length w) v d s e') (position_format k k' j)
+    front_same line (w ++ (v ++ (d ++ (32 ∷ s)))) _ s _ both (number_behind line (0 + length w) v d s e') (position_format k k' j)
 front-two line o o' (by_format {v = v} {d = d} {n = n} r k j e f) same =
-    front_same line (v ++ (d ++ (32 ∷ r))) _ r _ _ _ e (number_behind line 0 v d r e) (one_format k j)
+    front_same line (v ++ (d ++ (32 ∷ r))) _ r _ e (number_behind line 0 v d r e) (one_format k j)
 front-two line o o' (by_format {v = v} {d = d} {n = n} r k j e f) (by_position {w = w} s k' e' f') =
     let at = number_behind line 0 v d r e in
     let both : line ≡ v ++ (d ++ (32 ∷ w ++ s)) = e ∙ ap (λ z. v ++ (d ++ (32 ∷ z))) (sym at ∙ e') in
-    front_same line (v ++ (d ++ (32 ∷ w ++ s))) _ s _ _ _ both (behind line (0 + length v + length d + 1) w s e') (format_position k j k')
-front-two line o o' (by_format r k j e f) (by_format s k' j' e' f') = absurd (never f')
+    front_same line (v ++ (d ++ (32 ∷ w ++ s))) _ s _ both (behind line (0 + length v + length d + 1) w s e') (format_position k j k')
+front-two line o o' (by_format r k j e f) (by_format s k' j' e' f') = absurd (never-stated _ f')
 
-pub front_of : (line : List ℕ) → let o = option_of line (option_of line no_option) in Front line (drop o.at line) o.position o.formatted o.format
+pub front_of : (line : List ℕ) → let o = option_of line (option_of line no_option) in Front line (drop o.at line) o.options
 front_of line =
     let o = option_of line no_option in
     front-two line o (option_of line o) (stepped line no_option) (stepped (drop o.at line) o)

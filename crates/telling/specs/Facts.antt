@@ -1,6 +1,7 @@
 -- The fact behind a number, in plain words (docs/WHY.md); of an accepted text its count, label and ticks.
 -- Assumes nothing.
-use Rattle.std.specs.Prelude.{ℕ, List, [], ◌∷◌, ◌++◌, Bool, true, false, cond, ℤ, nat_abs}
+use Rattle.answers.specs.declared.Refusal.{Refusal}
+use Rattle.std.specs.Prelude.{ℕ, List, [], ◌∷◌, ◌++◌, Bool, true, false, cond, ℤ, nat_abs, Result, Ok, Err, Some, None, Option}
 use Rattle.laws.specs.Spelt.{spelt}
 use Rattle.numbers.specs.Sign.{is_neg}
 use Rattle.faults.specs.declared.Field.{Field}
@@ -9,12 +10,8 @@ use Rattle.faults.specs.declared.Fault.{Fault}
 use Rattle.timecodes.specs.declared.Timecode.{Timecode}
 use Rattle.written.specs.Parts.{signed_text}
 use Rattle.label_writer.specs.declared.TimecodeSections.{TimecodeSections}
-use Rattle.label_writer.specs.declared.Sectioned.{Sectioned}
-use Rattle.label_writer.specs.declared.Sectioned.TheVariants as sectioned
-use Rattle.label_writer.specs.Sections as sections
+use Rattle.label_writer.specs.Sections.{sectioned}
 use Rattle.label_writer.specs.LabelText.{frames_mark, sections_text}
-use Rattle.time.specs.declared.Ticked.{Ticked}
-use Rattle.time.specs.declared.Ticked.TheVariants as ticked
 use Rattle.time.specs.Ticks.{ticks_of}
 use Rattle.reading.specs.declared.Read.{Read}
 use Rattle.reading.specs.declared.Read.TheVariants as read
@@ -31,13 +28,13 @@ abbrev pub sections_at : (rate : ℕ) → TimecodeSections → List ℕ
 sections_at rate s = sections_text (frames_mark rate) s
 
 -- a timecode's label and its ticks; nothing where it has none
-abbrev pub label_in : (rate : ℕ) → Sectioned → List ℕ
-label_in rate (sectioned.Sections s) = sections_at rate s
-label_in rate (sectioned.Refused e) = []
+abbrev pub label_in : (rate : ℕ) → Result TimecodeSections Refusal → List ℕ
+label_in rate (Ok s) = sections_at rate s
+label_in rate (Err e) = []
 
-abbrev pub ticks_text : Ticked → List ℕ
-ticks_text (ticked.Ticks z) = count_text z
-ticks_text (ticked.Refused e) = []
+abbrev pub ticks_text : Result ℤ Refusal → List ℕ
+ticks_text (Ok z) = count_text z
+ticks_text (Err e) = []
 
 -- ---- a limit
 -- the word of a field
@@ -83,19 +80,19 @@ counted_pieces tc =
     spelt "count "
     ∷ count_text tc.count
     ∷ spelt ", label "
-    ∷ label_in tc.rate (sections.sectioned tc)
+    ∷ label_in tc.rate (sectioned tc)
     ∷ spelt ", ticks "
     ∷ ticks_text (ticks_of tc)
     ∷ line_end
     ∷ []
 
-abbrev pub accepted_pieces : Read → List (List ℕ)
-accepted_pieces (read.Label tc) = counted_pieces tc
-accepted_pieces (read.Footage tc format) = counted_pieces tc
-accepted_pieces (read.Refused e) = []
+abbrev pub accepted_pieces : Result Read Refusal → List (List ℕ)
+accepted_pieces (Ok (read.Label tc)) = counted_pieces tc
+accepted_pieces (Ok (read.Footage tc format)) = counted_pieces tc
+accepted_pieces (Err e) = []
 
 -- ---- the fact; a refusal that has none has no line for it
-abbrev pub fact_pieces : (rate : ℕ) → Read → Fact → List (List ℕ)
-fact_pieces rate r (fact.First s) = first_pieces rate s
-fact_pieces rate r (fact.Limit f) = limit_pieces f
-fact_pieces rate r fact.Nothing = accepted_pieces r
+abbrev pub fact_pieces : (rate : ℕ) → Result Read Refusal → Option Fact → List (List ℕ)
+fact_pieces rate r (Some (fact.First s)) = first_pieces rate s
+fact_pieces rate r (Some (fact.Limit f)) = limit_pieces f
+fact_pieces rate r None = accepted_pieces r

@@ -1,6 +1,7 @@
 -- What holds of what is told (docs/WHY.md). Proofs: proofs/Statements.antt.
 -- Assumes nothing.
-use Rattle.std.specs.Prelude.{ℕ, zero, suc, ◌+◌, ◌≤◌, ◌≡◌, ◌↔◌, Bool, true, false, cond, List, [], ◌∷◌, ◌++◌, map, length, drop}
+use Rattle.answers.specs.Causes.{refusal_number}
+use Rattle.std.specs.Prelude.{ℕ, zero, suc, ◌+◌, ◌≤◌, ◌≡◌, ◌↔◌, Bool, true, false, cond, List, [], ◌∷◌, ◌++◌, map, length, drop, Ok, Err}
 use Rattle.laws.specs.Spelt.{spelt}
 use Rattle.laws.specs.Every.{every}
 use Rattle.answers.specs.declared.Refusal.{Refusal}
@@ -23,8 +24,7 @@ use Rattle.streams.specs.Pieces.{all_on}
 use Rattle.telling.specs.Shown.{is_printable, shown_byte, has_place, caret_pieces}
 use Rattle.telling.specs.Facts.{count_text, label_in, ticks_text, field_word, is_sign, limit_pieces, first_pieces, counted_pieces, fact_pieces}
 use Rattle.telling.specs.Told.{read_in, fact_in, told_pieces, told_text}
-use Rattle.telling.specs.declared.questions.Question.TheVariants.{Asked, NoText}
-use Rattle.telling.specs.Question.{question_of}
+use Rattle.telling.specs.Question.{with_text, no_text, question_of}
 use Rattle.telling.specs.Grammar.{Asks, AsksTexts}
 use Rattle.telling.specs.Answered.{question_pieces, text_pieces}
 use Rattle.telling.specs.Joined.{word_pieces}
@@ -64,26 +64,26 @@ caret_text number place = cond (has_place number) (spaces place ++ (94 ∷ 10 �
 -- of a text that is refused: the text, a caret under the reader's place where it gives one, the reader's number with its phrase, and the fact
 abbrev pub RefusedTold : Type 0
 RefusedTold =
-    (way : Way) (text : List ℕ) (e : Refusal) → read_in way text ≡ read.Refused e → (e.number ≡ 0 → ⊥)
+    (way : Way) (text : List ℕ) (e : Refusal) → read_in way text ≡ Err e → ((refusal_number e) ≡ 0 → ⊥)
     → told_text way text
     ≡ map shown_byte text
-    ++ (10 ∷ (caret_text e.number e.place
+    ++ (10 ∷ (caret_text (refusal_number e) e.place
     ++ (spelt "refused "
-    ++ (signed_text false e.number
+    ++ (signed_text false (refusal_number e)
     ++ (spelt ": "
-    ++ (phrase_of e.number
-    ++ (10 ∷ together (fact_pieces way.rate (read.Refused e) (fact_in way text)))))))))
+    ++ (phrase_of (refusal_number e)
+    ++ (10 ∷ together (fact_pieces way.rate (Err e) (fact_in way text)))))))))
 
 -- of a label that is accepted: the text, `accepted`, and its count, label and ticks
 abbrev pub LabelTold : Type 0
 LabelTold =
-    (way : Way) (text : List ℕ) (tc : Timecode) → read_in way text ≡ read.Label tc
+    (way : Way) (text : List ℕ) (tc : Timecode) → read_in way text ≡ Ok (read.Label tc)
     → told_text way text ≡ map shown_byte text ++ (10 ∷ (spelt "accepted" ++ (10 ∷ together (counted_pieces tc))))
 
 -- and of a footage the same
 abbrev pub FootageTold : Type 0
 FootageTold =
-    (way : Way) (text : List ℕ) (tc : Timecode) (format : FilmFormat) → read_in way text ≡ read.Footage tc format
+    (way : Way) (text : List ℕ) (tc : Timecode) (format : FilmFormat) → read_in way text ≡ Ok (read.Footage tc format)
     → told_text way text ≡ map shown_byte text ++ (10 ∷ (spelt "accepted" ++ (10 ∷ together (counted_pieces tc))))
 
 -- ---- one column for one byte
@@ -138,7 +138,7 @@ pub record FactsRead : Type 0 where
 -- it is understood, and the text is what stands from its place on
 pub record Understood (line : List ℕ) (way : Way) (text : List ℕ) : Type 0 where
   pub at : ℕ
-  pub asked : question_of line ≡ Asked way at
+  pub asked : question_of line ≡ with_text way at
   pub rest : drop at line ≡ text
 
 -- a line is understood as a question exactly when the grammar has it so
@@ -147,4 +147,4 @@ QuestionUnderstood = (line : List ℕ) (way : Way) (text : List ℕ) → Asks li
 
 -- and as options and a rate alone exactly when the grammar has it so
 abbrev pub TextsUnderstood : Type 0
-TextsUnderstood = (line : List ℕ) (way : Way) → AsksTexts line way ↔ (question_of line ≡ NoText way)
+TextsUnderstood = (line : List ℕ) (way : Way) → AsksTexts line way ↔ (question_of line ≡ no_text way)

@@ -1,14 +1,10 @@
 -- What is told of a text (docs/WHY.md): the text, a caret where it has a place, the number with its phrase, and the fact.
 -- Assumes nothing.
-use Rattle.std.specs.Prelude.{ℕ, List, [], ◌∷◌, ◌++◌, Bool, true, false, cond, eqb}
+use Rattle.answers.specs.declared.Refusal.{Refusal}
+use Rattle.std.specs.Prelude.{ℕ, List, [], ◌∷◌, ◌++◌, false, cond, eqb, Option, Result}
 use Rattle.laws.specs.Spelt.{spelt}
-use Rattle.timecodes.specs.declared.kinds.Kind.{Kind}
-use Rattle.timecodes.specs.Kinds.{kind_from}
 use Rattle.written.specs.Parts.{signed_text}
-use Rattle.reading.specs.declared.Stated.{Stated}
-use Rattle.reading.specs.declared.Stated.TheVariants as stated
 use Rattle.reading.specs.declared.Read.{Read}
-use Rattle.reading.specs.declared.Read.TheVariants as read
 use Rattle.reading.specs.Answer.{number_of, place_of}
 use Rattle.reading.specs.For.{read_for}
 use Rattle.reasons.specs.declared.Fact.{Fact}
@@ -20,32 +16,22 @@ use Rattle.telling.specs.Shown.{shown_pieces, place_pieces}
 use Rattle.telling.specs.Facts.{fact_pieces}
 
 -- ---- how a text is read
-abbrev pub kind_in : Way → Kind
-kind_in way = kind_from way.position
-
-abbrev pub stated_from : (formatted : Bool) (format : ℕ) → Stated
-stated_from true format = stated.Format format
-stated_from false format = stated.Nothing
-
-abbrev pub stated_in : Way → Stated
-stated_in way = stated_from way.formatted way.format
-
 -- the reader's answer, the fact behind it and the phrase of its number
-abbrev pub read_in : Way → (text : List ℕ) → Read
-read_in way text = read_for (kind_in way) text (stated_in way) way.rate
+abbrev pub read_in : Way → (text : List ℕ) → Result Read Refusal
+read_in way text = read_for way.options.kind text way.options.format way.rate
 
-abbrev pub fact_in : Way → (text : List ℕ) → Fact
-fact_in way text = fact_of (kind_in way) text (stated_in way) way.rate
+abbrev pub fact_in : Way → (text : List ℕ) → Option Fact
+fact_in way text = fact_of way.options.kind text way.options.format way.rate
 
 abbrev pub phrase_in : Way → (text : List ℕ) → List ℕ
-phrase_in way text = phrase_for (kind_in way) text (stated_in way) way.rate
+phrase_in way text = phrase_for way.options.kind text way.options.format way.rate
 
 -- ---- what is told
 -- before the phrase of a refusal its number
 unfoldable pub front_pieces : (number : ℕ) → List (List ℕ)
 front_pieces number = cond (eqb number 0) [] (spelt "refused " ∷ signed_text false number ∷ spelt ": " ∷ [])
 
-unfoldable pub reason_pieces : (rate : ℕ) (text : List ℕ) → Read → Fact → (phrase : List ℕ) → List (List ℕ)
+unfoldable pub reason_pieces : (rate : ℕ) (text : List ℕ) → Result Read Refusal → Option Fact → (phrase : List ℕ) → List (List ℕ)
 reason_pieces rate text r f phrase =
     shown_pieces text
     ++ (place_pieces (number_of r) (place_of r)

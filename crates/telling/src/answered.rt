@@ -1,74 +1,43 @@
 // What is answered to a line of input: a question's or a text's answer, and an empty line.
-ghost use Rattle.std.specs.Prelude.{◌≡◌, cond};
-ghost use Rattle.streams.specs.Sheet.{sheet};
+ghost use Rattle.std.specs.Prelude.{◌≡◌};
 ghost use Rattle.streams.specs.Pieces.{all_on};
-ghost use Rattle.telling.specs.Told.{told_pieces};
 ghost use Rattle.telling.specs.Question.{question_of};
-ghost use Rattle.telling.specs.Answered.{other_pieces, asked_pieces, question_pieces, text_pieces};
+ghost use Rattle.telling.specs.Answered.{other_pieces, asked_pieces, answer_pieces};
 
 use crate::{Question, Way, pieces, tell, understand};
+use streams::Sheet;
 
 // A line that is no question, and what a question is.
-fn put_other(out: &mut [u8], used: usize, line: &[u8]) -> usize
-    ensures answer { result ≡ (all_on (sheet out.old used) (other_pieces line.now)).used }
-    ensures sheet { out.new ≡ (all_on (sheet out.old used) (other_pieces line.now)).bytes }
+fn put_other<const N: usize>(sheet: &mut Sheet<N>, line: &[u8])
+    ensures { sheet.new ≡ all_on sheet.old (other_pieces line.now) }
 {
-    let a = pieces::put_shown(out, used, line);
-    streams::put_text(
-        out,
-        a,
-        b"not understood: a question is [-p] [-f FORMAT] RATE TEXT\n",
-    )
+    pieces::put_shown(sheet, line);
+    sheet.put_text(b"not understood: a question is [-p] [-f FORMAT] RATE TEXT\n");
 }
 
 // What is told of a question's text.
-fn put_asked(out: &mut [u8], used: usize, line: &[u8]) -> usize
-    ensures answer { result ≡ (all_on (sheet out.old used) (asked_pieces line.now (question_of line.now))).used }
-    ensures sheet { out.new ≡ (all_on (sheet out.old used) (asked_pieces line.now (question_of line.now))).bytes }
+#[tactic(auto, using(crate::proofs::Asked::text_within))]
+fn put_asked<const N: usize>(sheet: &mut Sheet<N>, line: &[u8])
+    ensures { sheet.new ≡ all_on sheet.old (asked_pieces line.now (question_of line.now)) }
 {
     match understand(line) {
-        Question::Asked(way, at) => tell(out, used, way, &line[at..]),
-        Question::NoText(_) => put_other(out, used, line),
-        Question::NotUnderstood => put_other(out, used, line),
+        Some(Question { way, text }) => match text {
+            Some(at) => tell(sheet, way, &line[at..]),
+            None => put_other(sheet, line),
+        },
+        None => put_other(sheet, line),
     }
 }
 
-// A question's answer; `over` where it has more bytes than are kept.
-fn put_question(out: &mut [u8], used: usize, line: &[u8], over: bool) -> usize
-    ensures answer { result ≡ (all_on (sheet out.old used) (cond over (other_pieces line.now) (asked_pieces line.now (question_of line.now)))).used }
-    ensures sheet { out.new ≡ (all_on (sheet out.old used) (cond over (other_pieces line.now) (asked_pieces line.now (question_of line.now)))).bytes }
+// The answer to a line, and an empty line: a text where the way to read it is given, else a question; `over` where it has more bytes than
+// are kept.
+pub fn answer<const N: usize>(sheet: &mut Sheet<N>, way: Option<Way>, line: &[u8], over: bool)
+    ensures { sheet.new ≡ all_on sheet.old (answer_pieces way line.now over) }
 {
-    if over {
-        return put_other(out, used, line);
+    match way {
+        _ if over => put_other(sheet, line),
+        Some(way) => tell(sheet, way, line),
+        None => put_asked(sheet, line),
     }
-    put_asked(out, used, line)
-}
-
-// A text's answer.
-fn put_told(out: &mut [u8], used: usize, way: Way, line: &[u8], over: bool) -> usize
-    ensures answer { result ≡ (all_on (sheet out.old used) (cond over (other_pieces line.now) (told_pieces way line.now))).used }
-    ensures sheet { out.new ≡ (all_on (sheet out.old used) (cond over (other_pieces line.now) (told_pieces way line.now))).bytes }
-{
-    if over {
-        return put_other(out, used, line);
-    }
-    tell(out, used, way, line)
-}
-
-// The answer to a line that is a question, and an empty line; how much the sheet has then.
-pub fn answer_question(out: &mut [u8], used: usize, line: &[u8], over: bool) -> usize
-    ensures answer { result ≡ (all_on (sheet out.old used) (question_pieces line.now over)).used }
-    ensures sheet { out.new ≡ (all_on (sheet out.old used) (question_pieces line.now over)).bytes }
-{
-    let a = put_question(out, used, line, over);
-    streams::put_byte(out, a, b'\n')
-}
-
-// The answer to a line that is a text, and an empty line; how much the sheet has then.
-pub fn answer_text(out: &mut [u8], used: usize, way: Way, line: &[u8], over: bool) -> usize
-    ensures answer { result ≡ (all_on (sheet out.old used) (text_pieces way line.now over)).used }
-    ensures sheet { out.new ≡ (all_on (sheet out.old used) (text_pieces way line.now over)).bytes }
-{
-    let a = put_told(out, used, way, line, over);
-    streams::put_byte(out, a, b'\n')
+    sheet.put_byte(b'\n');
 }

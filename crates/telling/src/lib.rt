@@ -9,7 +9,7 @@ mod pieces;
 mod questions;
 mod told;
 
-pub use answered::{answer_question, answer_text};
-pub use joined::{Words, join};
+pub use answered::answer;
+pub use joined::join;
 pub use questions::{Question, understand};
-pub use told::{Way, tell};
+pub use told::{Options, Way, tell};

@@ -1,139 +1,133 @@
 // A question in a line: options in any order, each at most once, then the rate, and behind one space the text.
-ghost use Rattle.std.specs.Prelude.{◌≡◌, true, false, drop};
+ghost use Rattle.std.specs.Prelude.{◌≡◌, drop};
 ghost use Rattle.telling.specs.Question.{one_of, is_number, format_at, format_in, option_of, rated_of, question_of};
 
-use crate::Way;
+use crate::{Options, Way};
 use digits::Run;
+use timecodes::Kind;
 
 // The options that stand in front, and the place past them.
 #[derive(Clone, Copy)]
-struct Options {
-    position: bool,
-    formatted: bool,
-    format: u64,
+struct Opening {
+    options: Options,
     at: usize,
 }
 
-// How a text is to be read, and the place where it begins; or no text stands there; or the line is no question.
+// How a text is to be read, and the place where it begins, where one stands there.
 #[derive(Clone, Copy)]
-pub enum Question {
-    Asked(Way, usize),
-    NoText(Way),
-    NotUnderstood,
+pub struct Question {
+    pub way: Way,
+    pub text: Option<usize>,
 }
 
-// How many bytes the word has that stands at a place, of a short and a long one; 0: neither.
-fn one_of(line: &[u8], at: usize, short: &[u8], long: &[u8]) -> usize
+// How many bytes the word has that stands at a place, of a short and a long one, if it is one of them.
+#[tactic(auto, unfolding(crate::specs::Question::one_of))]
+fn one_of(line: &[u8], at: usize, short: &[u8], long: &[u8]) -> Option<usize>
     ensures { result ≡ one_of short.now long.now (drop at line.now) }
 {
     if asking::word_stands(line, at, short) {
-        return short.len();
+        return Some(short.len());
     }
     if asking::word_stands(line, at, long) {
-        return long.len();
+        return Some(long.len());
     }
-    0
+    None
 }
 
 // Has a number one to nine digits?
+#[tactic(auto, unfolding(crate::specs::Question::is_number), using(std::proofs::lemmas::Bool::Decides::nat_tests))]
 fn is_number(run: Run) -> bool
     ensures { result ≡ is_number run }
 {
-    if run.count == 0 {
-        return false;
-    }
-    run.count <= 9
+    (1..=9).contains(&run.count)
 }
 
 // The number of a film format at a place, and a space behind it.
-fn format_at(line: &[u8], at: usize, o: Options) -> Options
+fn format_at(line: &[u8], at: usize, o: Opening) -> Opening
     ensures { result ≡ format_at (drop at line.now) o at }
 {
     let run = digits::run_at(line, at);
-    if !is_number(run) {
-        return o;
+    if is_number(run) && asking::stands(line, at + run.count, b' ') {
+        let options = Options {
+            format: Some(run.value),
+            ..o.options
+        };
+        return Opening {
+            options,
+            at: at + run.count + 1,
+        };
     }
-    let next = at + run.count;
-    if !asking::stands(line, next, b' ') {
-        return o;
-    }
-    Options {
-        position: o.position,
-        formatted: true,
-        format: run.value,
-        at: next + 1,
-    }
+    o
 }
 
 // The film format, where its word stands behind the options and none was stated yet.
-fn format_in(line: &[u8], o: Options) -> Options
+#[tactic(auto, unfolding(crate::specs::Question::format_in))]
+fn format_in(line: &[u8], o: Opening) -> Opening
     ensures { result ≡ format_in (drop o.at line.now) o }
 {
-    if o.formatted {
-        return o;
+    match o.options.format {
+        Some(_) => o,
+        None => match one_of(line, o.at, b"-f ", b"--format ") {
+            Some(n) => format_at(line, o.at + n, o),
+            None => o,
+        },
     }
-    let at = o.at;
-    let n = one_of(line, at, b"-f ", b"--format ");
-    if n == 0 {
-        return o;
-    }
-    format_at(line, at + n, o)
 }
 
 // One option more, where one stands behind the others that has not stood yet.
-fn option(line: &[u8], o: Options) -> Options
+#[tactic(auto, unfolding(crate::specs::Question::option_in))]
+fn option(line: &[u8], o: Opening) -> Opening
     ensures { result ≡ option_of line.now o }
 {
-    if o.position {
+    if o.options.kind == Kind::Position {
         return format_in(line, o);
     }
-    let at = o.at;
-    let n = one_of(line, at, b"-p ", b"--position ");
-    if n == 0 {
-        return format_in(line, o);
-    }
-    Options {
-        position: true,
-        formatted: o.formatted,
-        format: o.format,
-        at: at + n,
+    match one_of(line, o.at, b"-p ", b"--position ") {
+        Some(n) => Opening {
+            options: Options {
+                kind: Kind::Position,
+                ..o.options
+            },
+            at: o.at + n,
+        },
+        None => format_in(line, o),
     }
 }
 
 // The rate behind the options, and the text behind it.
-fn rated(line: &[u8], o: Options) -> Question
+fn rated(line: &[u8], o: Opening) -> Option<Question>
     ensures { result ≡ rated_of line.now o }
 {
-    let at = o.at;
-    let run = digits::run_at(line, at);
+    let run = digits::run_at(line, o.at);
     if !is_number(run) {
-        return Question::NotUnderstood;
+        return None;
     }
-    let next = at + run.count;
+    let next = o.at + run.count;
     let way = Way {
-        position: o.position,
-        formatted: o.formatted,
-        format: o.format,
+        options: o.options,
         rate: run.value,
     };
     if line.len() <= next {
-        return Question::NoText(way);
+        return Some(Question { way, text: None });
     }
     if asking::stands(line, next, b' ') {
-        return Question::Asked(way, next + 1);
+        return Some(Question {
+            way,
+            text: Some(next + 1),
+        });
     }
-    Question::NotUnderstood
+    None
 }
 
-// What a line asks.
-pub fn understand(line: &[u8]) -> Question
+// What a line asks, if it is a question.
+#[tactic(auto, unfolding(crate::specs::Question::question_of))]
+pub fn understand(line: &[u8]) -> Option<Question>
     ensures { result ≡ question_of line.now }
 {
-    let none = Options {
-        position: false,
-        formatted: false,
-        format: 0,
-        at: 0,
+    let options = Options {
+        kind: Kind::Length,
+        format: None,
     };
+    let none = Opening { options, at: 0 };
     rated(line, option(line, option(line, none)))
 }

@@ -1,111 +1,89 @@
 // What is told of a text that is read in a way: the text, a caret where it has a place, the number with its phrase, and the fact.
 ghost use Rattle.std.specs.Prelude.{◌≡◌};
-ghost use Rattle.streams.specs.Sheet.{sheet};
-ghost use Rattle.reading.specs.Answer.{place_of};
 ghost use Rattle.streams.specs.Pieces.{all_on};
-ghost use Rattle.telling.specs.Shown.{place_pieces};
-ghost use Rattle.telling.specs.Told.{stated_in, front_pieces, reason_pieces, told_pieces};
+ghost use Rattle.reading.specs.Answer.{number_of, place_of};
+ghost use Rattle.answers.specs.Causes.{cause_number};
+ghost use Rattle.telling.specs.Shown.{has_place, place_pieces};
+ghost use Rattle.telling.specs.Told.{front_pieces, reason_pieces, told_pieces};
 
 use crate::{facts, pieces};
-use reading::{Read, Stated};
-use reasons::{Fact, Reasoned};
+use answers::{Cause, Refusal};
+use reading::Read;
+use reasons::Reason;
+use streams::Sheet;
 use timecodes::Kind;
 
-// How a text is read: as a position or a length, with a film format stated or none, at a rate.
+// How a text is read at any rate: as a length or a position, with a film format stated or none.
+#[derive(Clone, Copy)]
+pub struct Options {
+    pub kind: Kind,
+    pub format: Option<u64>,
+}
+
+// How a text is read.
 #[derive(Clone, Copy)]
 pub struct Way {
-    pub position: bool,
-    pub formatted: bool,
-    pub format: u64,
+    pub options: Options,
     pub rate: u64,
 }
 
-// The film format that is stated.
-fn stated_in(way: Way) -> Stated
-    ensures { result ≡ stated_in way }
+// Has a refusal of this cause a place?
+fn has_place(cause: Cause) -> bool
+    ensures { result ≡ has_place (cause_number cause) }
 {
-    if way.formatted {
-        return Stated::Format(way.format);
-    }
-    Stated::Nothing
-}
-
-// The place of a refusal.
-fn place_of(read: Read) -> usize
-    ensures { result ≡ place_of read }
-{
-    match read {
-        Read::Label(_) => 0,
-        Read::Footage(_, _) => 0,
-        Read::Refused(e) => e.place,
-    }
+    matches!(cause, Cause::NoShape | Cause::TooLong)
 }
 
 // A caret under the place of a refusal, where it has one.
-fn put_place(out: &mut [u8], used: usize, number: u8, place: usize) -> usize
-    ensures answer { result ≡ (all_on (sheet out.old used) (place_pieces number place)).used }
-    ensures sheet { out.new ≡ (all_on (sheet out.old used) (place_pieces number place)).bytes }
+#[tactic(auto, unfolding(crate::specs::Shown::place_pieces))]
+fn put_place<const N: usize>(sheet: &mut Sheet<N>, read: Result<Read, Refusal>)
+    ensures { sheet.new ≡ all_on sheet.old (place_pieces (number_of read) (place_of read)) }
 {
-    if number == 1 {
-        return pieces::put_caret(out, used, place);
+    match read {
+        Err(e) if has_place(e.cause) => pieces::put_caret(sheet, e.place),
+        _ => {}
     }
-    if number == 2 {
-        return pieces::put_caret(out, used, place);
-    }
-    used
 }
 
 // What stands before the phrase of a refusal: its number.
-fn put_front(out: &mut [u8], used: usize, number: u8) -> usize
-    ensures answer { result ≡ (all_on (sheet out.old used) (front_pieces number)).used }
-    ensures sheet { out.new ≡ (all_on (sheet out.old used) (front_pieces number)).bytes }
+#[tactic(auto, unfolding(crate::specs::Told::front_pieces))]
+fn put_front<const N: usize>(sheet: &mut Sheet<N>, read: Result<Read, Refusal>)
+    ensures { sheet.new ≡ all_on sheet.old (front_pieces (number_of read)) }
 {
-    if number == 0 {
-        return used;
+    if let Err(e) = read {
+        sheet.put_text(b"refused ");
+        sheet.put_signed(false, u64::from(e.cause.number()));
+        sheet.put_text(b": ");
     }
-    let a = streams::put_text(out, used, b"refused ");
-    let b = streams::put_signed(out, a, false, number as u64);
-    streams::put_text(out, b, b": ")
 }
 
 // The answer to a text, by its parts.
-fn put_reason(
-    out: &mut [u8],
-    used: usize,
+#[tactic(auto, unfolding(crate::specs::Told::reason_pieces), using(crate::proofs::Cases::all_behind))]
+fn put_reason<const N: usize>(
+    sheet: &mut Sheet<N>,
     rate: u64,
     text: &[u8],
-    read: Read,
-    fact: Fact,
+    reason: Reason,
     phrase: &[u8],
-) -> usize
-    ensures answer { result ≡ (all_on (sheet out.old used) (reason_pieces rate text.now read fact phrase.now)).used }
-    ensures sheet { out.new ≡ (all_on (sheet out.old used) (reason_pieces rate text.now read fact phrase.now)).bytes }
+)
+    ensures { sheet.new ≡ all_on sheet.old (reason_pieces rate text.now reason.read reason.fact phrase.now) }
 {
-    let number = reading::number(read);
-    let place = place_of(read);
-    let a = pieces::put_shown(out, used, text);
-    let b = put_place(out, a, number, place);
-    let c = put_front(out, b, number);
-    let d = streams::put_text(out, c, phrase);
-    let e = streams::put_byte(out, d, b'\n');
-    facts::put_fact(out, e, rate, read, fact)
+    pieces::put_shown(sheet, text);
+    put_place(sheet, reason.read);
+    put_front(sheet, reason.read);
+    sheet.put_text(phrase);
+    sheet.put_byte(b'\n');
+    facts::put_fact(sheet, rate, reason.read, reason.fact);
 }
 
-// What is told of a text behind what the sheet has; and how much it has then. (That a phrase has over 128 bytes cannot be.)
-pub fn tell(out: &mut [u8], used: usize, way: Way, text: &[u8]) -> usize
-    ensures answer { result ≡ (all_on (sheet out.old used) (told_pieces way text.now)).used }
-    ensures sheet { out.new ≡ (all_on (sheet out.old used) (told_pieces way text.now)).bytes }
+// What is told of a text, behind what the sheet has. (That a phrase has over 128 bytes cannot be.)
+pub fn tell<const N: usize>(sheet: &mut Sheet<N>, way: Way, text: &[u8])
+    ensures { sheet.new ≡ all_on sheet.old (told_pieces way text.now) }
 {
-    let mut line = [0u8; 128];
-    let stated = stated_in(way);
-    let kind = Kind::from(way.position);
-    match reasons::why(text, stated, way.rate, kind, &mut line, 0) {
-        Reasoned::Told(reason) => {
-            let n = reason.length;
-            let read = reason.read;
-            let fact = reason.fact;
-            put_reason(out, used, way.rate, text, read, fact, &line[0..n])
-        }
-        Reasoned::Refused(_) => used,
+    let mut line = [0; 128];
+    let Options { kind, format } = way.options;
+    if let Ok(reason) = reasons::why(text, format, way.rate, kind, &mut line, 0) {
+        let phrase = &line[..reason.length];
+        put_reason(sheet, way.rate, text, reason, phrase);
     }
 }

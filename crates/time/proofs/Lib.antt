@@ -1,3 +1,4 @@
 pub mod Back
+pub mod Steps
 pub mod Statements
 pub mod Determined

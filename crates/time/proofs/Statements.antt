@@ -1,7 +1,8 @@
 -- The statements of specs/Statements.antt, proved: by what an answer tells of its conditions, and the laws of the nearest.
 -- Assumes nothing.
+use Rattle.std.specs.Prelude.{Result, Ok, Err}
 use Prim.Native.Nat.{ℕ, ◌*◌}
-use mathlib.Core.Path.{◌≡◌, refl, sym, ◌∙◌, ap, subst}
+use mathlib.Core.Path.{◌≡◌, sym, ◌∙◌, ap, subst}
 use native.Mathlib.Nat.{mul-pos}
 use native.Mathlib.Omega.{arith}
 use lib.IntN.{ℤ, pos, ◌*ℤ◌}
@@ -15,14 +16,12 @@ use Rattle.answers.specs.Refusals.{is_count}
 use Rattle.rates.specs.Rates.{rate_row, frame_ticks}
 use Rattle.rates.proofs.Sound.{sound, frame_ticks-pos}
 use Rattle.timecodes.specs.declared.Timecode.{Timecode}
-use Rattle.timecodes.specs.declared.Answer.TheVariants.{At, Refused}
 use Rattle.timecodes.specs.Timecode.{timecode}
 use Rattle.timecodes.specs.Made.{settled}
 use Rattle.timecodes.specs.Admitted.{admits, Valid}
 use Rattle.timecodes.specs.AdmittedLaws.{admits-valid, valid-count, at_told}
 use Rattle.timecodes.specs.KindLaws.{made-own}
 use Rattle.timecodes.specs.Instant.{instant}
-use Rattle.time.specs.declared.Ticked.TheVariants as ticked
 use Rattle.time.specs.Bounds.{most_seconds}
 use Rattle.time.specs.BoundsLaws.{is_fraction-told}
 use Rattle.time.specs.Frames.{ticks_frame, ticks_when, ticks_at, seconds_frame, seconds_when, seconds_at}
@@ -53,13 +52,13 @@ seconds_nearest p q rate tc h =
     )
 
 -- what an answer of ticks tells
-module _ (tc : Timecode) (t : ℤ) (h : ticks_of tc ≡ ticked.Ticks t) where
-  ticks-apart : (e : Refusal) → ticked.Refused e ≡ ticked.Ticks t → ⊥
+module _ (tc : Timecode) (t : ℤ) (h : ticks_of tc ≡ Ok t) where
+  ticks-apart : (e : Refusal) → ◌≡◌ {A = Result ℤ Refusal} (Err e) (Ok t) → ⊥
   ticks-apart e k = let clash : ◌≡◌ {A = ℕ} 0 1 = cc in omega arith
 
-  ticks-told : Clear (admits tc) × (ticked.Ticks (instant tc) ≡ ticked.Ticks t)
+  ticks-told : Clear (admits tc) × (◌≡◌ {A = Result ℤ Refusal} (Ok (instant tc)) (Ok t))
   unfolding ticks_of
-  ticks-told = unless-told ticked.Refused (admits tc) (ticked.Ticks (instant tc)) (ticked.Ticks t) ticks-apart h
+  ticks-told = unless-told Err (admits tc) (Ok (instant tc)) (Ok t) ticks-apart h
 
   ticks-valid : Valid tc
   ticks-valid = admits-valid tc ticks-told.0
@@ -69,8 +68,8 @@ module _ (tc : Timecode) (t : ℤ) (h : ticks_of tc ≡ ticked.Ticks t) where
 
 -- an exact frame is its count
 module _ (z count : ℤ) (rate : ℕ) (same : z ≡ count) where
-  same-timecode : At (timecode z rate) ≡ At (timecode count rate)
-  same-timecode = ap (λ (k : ℤ). At (timecode k rate)) same
+  same-timecode : ◌≡◌ {A = Result Timecode Refusal} (Ok (timecode z rate)) (Ok (timecode count rate))
+  same-timecode = ap (λ (k : ℤ). Ok (timecode k rate)) same
 
 pub ticks_back : TicksBack
 unfolding ticks_at instant
@@ -79,7 +78,7 @@ ticks_back tc t h =
     let n = frame_ticks tc.rate in
     let same : ticks_frame t tc.rate ≡ tc.count =
     ap (λ (z : ℤ). nearest_z z n) (ticks-are tc t h) ∙ exact tc.count n (frame_ticks-pos tc.rate v.rate) in
-    unless-clear Refused (ticks_when t tc.rate) (At (timecode (ticks_frame t tc.rate) tc.rate))
+    unless-clear Err (ticks_when t tc.rate) (Ok (timecode (ticks_frame t tc.rate) tc.rate))
     (in-not v.rate, (in-not (ap is_count same ∙ valid-count tc v), tt))
     ∙ same-timecode (ticks_frame t tc.rate) tc.count tc.rate same
 
@@ -92,19 +91,19 @@ seconds_back tc p q h =
     let above = mul-pos x.lowest.positive (sound tc.rate v.rate).denominator_pos in
     let same : seconds_frame p q tc.rate ≡ tc.count =
     ap (λ (z : ℤ). nearest_z z d) (seconds-whole tc p q v x) ∙ exact tc.count d above in
-    unless-clear Refused (seconds_when p q tc.rate) (At (timecode (seconds_frame p q tc.rate) tc.rate))
+    unless-clear Err (seconds_when p q tc.rate) (Ok (timecode (seconds_frame p q tc.rate) tc.rate))
     (in-not v.rate, (in-not (seconds-within tc p q v x), (in-not (ap is_count same ∙ valid-count tc v), tt)))
     ∙ same-timecode (seconds_frame p q tc.rate) tc.count tc.rate same
 
 pub ticks_back_as : TicksBackAs
 ticks_back_as tc t h =
     let v = ticks-valid tc t h in
-    ap (settled tc.kind) (ticks_back tc t h) ∙ ap At (made-own tc.kind tc.count tc.rate v.rate v.within)
+    ap (settled tc.kind) (ticks_back tc t h) ∙ ap Ok (made-own tc.kind tc.count tc.rate v.rate v.within)
 
 pub seconds_back_as : SecondsBackAs
 seconds_back_as tc p q h =
     let v = seconds-valid tc p q h in
-    ap (settled tc.kind) (seconds_back tc p q h) ∙ ap At (made-own tc.kind tc.count tc.rate v.rate v.within)
+    ap (settled tc.kind) (seconds_back tc p q h) ∙ ap Ok (made-own tc.kind tc.count tc.rate v.rate v.within)
 
 pub seconds_instant : SecondsInstant
 seconds_instant tc t p q h k =

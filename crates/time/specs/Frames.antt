@@ -1,12 +1,12 @@
 -- Time, in (BEHAVIOUR: Time): a count, ticks and seconds become a length. Each has its conditions in order, and its frame. Positions: `settled`.
 -- Assumes nothing.
-use Rattle.std.specs.Prelude.{ℕ, ◌*◌, List, [], ◌∷◌, ℤ, pos, ◌*ℤ◌}
+use Rattle.timecodes.specs.declared.Timecode.{Timecode}
+use Rattle.answers.specs.declared.Refusal.{Refusal}
+use Rattle.std.specs.Prelude.{ℕ, ◌*◌, List, [], ◌∷◌, ℤ, pos, ◌*ℤ◌, Result, Ok, Err}
 use Rattle.numbers.specs.Nearest.{nearest_z}
 use Rattle.answers.specs.Order.{Condition, unless}
 use Rattle.answers.specs.Refusals.{bad_count}
 use Rattle.rates.specs.Rates.{rate_row, frame_ticks, bad_rate}
-use Rattle.timecodes.specs.declared.Answer.{Answer}
-use Rattle.timecodes.specs.declared.Answer.TheVariants.{At, Refused}
 use Rattle.timecodes.specs.Timecode.{timecode}
 use Rattle.timecodes.specs.Admitted.{admits}
 use Rattle.time.specs.Bounds.{bad_seconds}
@@ -16,8 +16,8 @@ abbrev pub frames_when : (count : ℤ) (rate : ℕ) → List Condition
 frames_when count rate = admits (timecode count rate)
 
 -- else the count
-unfoldable pub frames_at : (count : ℤ) (rate : ℕ) → Answer
-frames_at count rate = unless Refused (frames_when count rate) (At (timecode count rate))
+unfoldable pub frames_at : (count : ℤ) (rate : ℕ) → Result Timecode Refusal
+frames_at count rate = unless Err (frames_when count rate) (Ok (timecode count rate))
 
 -- ticks become the nearest frame, halves away from zero; any 64-bit signed number of ticks
 abbrev pub ticks_frame : (ticks : ℤ) (rate : ℕ) → ℤ
@@ -27,8 +27,8 @@ ticks_frame ticks rate = nearest_z ticks (frame_ticks rate)
 abbrev pub ticks_when : (ticks : ℤ) (rate : ℕ) → List Condition
 ticks_when ticks rate = bad_rate rate ∷ bad_count (ticks_frame ticks rate) ∷ []
 
-unfoldable pub ticks_at : (ticks : ℤ) (rate : ℕ) → Answer
-ticks_at ticks rate = unless Refused (ticks_when ticks rate) (At (timecode (ticks_frame ticks rate) rate))
+unfoldable pub ticks_at : (ticks : ℤ) (rate : ℕ) → Result Timecode Refusal
+ticks_at ticks rate = unless Err (ticks_when ticks rate) (Ok (timecode (ticks_frame ticks rate) rate))
 
 -- p/q seconds become the nearest frame, halves away from zero: p/q times the frames of a second, rounded once
 abbrev pub seconds_frame : (p : ℤ) (q rate : ℕ) → ℤ
@@ -38,5 +38,5 @@ seconds_frame p q rate = nearest_z (p *ℤ pos (rate_row rate).numerator) (q * (
 abbrev pub seconds_when : (p : ℤ) (q rate : ℕ) → List Condition
 seconds_when p q rate = bad_rate rate ∷ bad_seconds p q ∷ bad_count (seconds_frame p q rate) ∷ []
 
-unfoldable pub seconds_at : (p : ℤ) (q rate : ℕ) → Answer
-seconds_at p q rate = unless Refused (seconds_when p q rate) (At (timecode (seconds_frame p q rate) rate))
+unfoldable pub seconds_at : (p : ℤ) (q rate : ℕ) → Result Timecode Refusal
+seconds_at p q rate = unless Err (seconds_when p q rate) (Ok (timecode (seconds_frame p q rate) rate))

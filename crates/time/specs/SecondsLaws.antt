@@ -1,14 +1,13 @@
 -- Laws of seconds (BEHAVIOUR: Time): lowest terms with the ticks' sign are such, an answer of seconds tells of its timecode, and there is one answer.
 -- Assumes nothing.
-use Rattle.std.specs.Prelude.{ℕ, ◌≡◌, refl, ℤ, pos, negsuc, neg_ℤ, nat_abs, ◌*ℤ◌}
+use Rattle.answers.specs.declared.Refusal.{Refusal}
+use Rattle.std.specs.Prelude.{ℕ, ◌≡◌, refl, ℤ, pos, negsuc, neg_ℤ, nat_abs, ◌*ℤ◌, Result, Ok, Err}
 use Rattle.std.proofs.Common.{sym, ◌∙◌, ap, ap₂, subst, arith}
 use Rattle.numbers.specs.Sign.{is_neg, signed}
 use Rattle.numbers.specs.SignLaws.{abs-signed, neg-mul}
 use Rattle.numbers.specs.Lowest.{Lowest}
 use Rattle.numbers.specs.LowestLaws.{den-one}
 use Rattle.numbers.specs.MultipleLaws.{mul-cancel}
-use Rattle.answers.specs.declared.Verdict.{Verdict}
-use Rattle.answers.specs.declared.Verdict.TheVariants as verdict
 use Rattle.answers.specs.Order.{judged}
 use Rattle.answers.specs.OrderLaws.{judged-clear}
 use Rattle.rates.specs.Rates.{second_ticks}
@@ -16,9 +15,8 @@ use Rattle.timecodes.specs.declared.Timecode.{Timecode}
 use Rattle.timecodes.specs.Admitted.{admits, Valid}
 use Rattle.timecodes.specs.AdmittedLaws.{admits-valid}
 use Rattle.timecodes.specs.Instant.{instant}
-use Rattle.time.specs.declared.Timed.{Timed}
-use Rattle.time.specs.declared.Timed.TheVariants.{Seconds, Refused}
-use Rattle.time.specs.Seconds.{InSeconds, IsSeconds, SecondsOf}
+use Rattle.time.specs.declared.Fraction.{Fraction}
+use Rattle.time.specs.Seconds.{fraction, InSeconds, IsSeconds, SecondsOf}
 
 -- the magnitudes' lowest terms with the ticks' sign are the seconds
 pub in_seconds-signed : (t : ℤ) (n d : ℕ) → Lowest (nat_abs t) second_ticks n d → InSeconds t (signed (is_neg t) n) d
@@ -34,13 +32,13 @@ in_seconds-signed t n d x =
 
 -- ---- what an answer of seconds tells
 
-module _ (tc : Timecode) (p : ℤ) (q : ℕ) (h : SecondsOf tc (Seconds p q)) where
-  pub seconds-passed : judged (admits tc) ≡ verdict.Passed
+module _ (tc : Timecode) (p : ℤ) (q : ℕ) (h : SecondsOf tc (Ok (fraction p q))) where
+  pub seconds-passed : judged (admits tc) ≡ (Ok tt)
   seconds-passed = by (judged (admits tc)) refl
     where
-      by : (v : Verdict) → judged (admits tc) ≡ v → judged (admits tc) ≡ verdict.Passed
-      by verdict.Passed e = e
-      by (verdict.Refused r) e =
+      by : (v : Result (Unit {0}) Refusal) → judged (admits tc) ≡ v → judged (admits tc) ≡ (Ok tt)
+      by (Ok tt) e = e
+      by (Err r) e =
           let told = h.refused r e in
           let clash : ◌≡◌ {A = ℕ} 0 1 = cc in
           absurd (omega arith)
@@ -61,14 +59,14 @@ module _ {t p p' : ℤ} {q q' : ℕ} (x : InSeconds t p q) (y : InSeconds t p' q
   p-one =
       mul-cancel p p' second_ticks (omega arith) (x.exact ∙ ap (λ (k : ℕ). t *ℤ pos k) q-one ∙ sym y.exact)
 
-is_seconds-one : (t : ℤ) (x y : Timed) → IsSeconds t x → IsSeconds t y → x ≡ y
-is_seconds-one t (Seconds p q) (Seconds p' q') h k = ap₂ Seconds (p-one h k) (q-one h k)
-is_seconds-one t (Seconds p q) (Refused e) h k = absurd k
-is_seconds-one t (Refused e) y h k = absurd h
+is_seconds-one : (t : ℤ) (x y : Result Fraction Refusal) → IsSeconds t x → IsSeconds t y → x ≡ y
+is_seconds-one t (Ok x) (Ok y) h k = ap Ok (ap₂ fraction (p-one h k) (q-one h k))
+is_seconds-one t (Ok x) (Err e) h k = absurd k
+is_seconds-one t (Err e) y h k = absurd h
 
-pub seconds-one : (tc : Timecode) (x y : Timed) → SecondsOf tc x → SecondsOf tc y → x ≡ y
+pub seconds-one : (tc : Timecode) (x y : Result Fraction Refusal) → SecondsOf tc x → SecondsOf tc y → x ≡ y
 seconds-one tc x y h k = by (judged (admits tc)) refl
   where
-    by : (v : Verdict) → judged (admits tc) ≡ v → x ≡ y
-    by verdict.Passed e = is_seconds-one (instant tc) x y (h.seconds e) (k.seconds e)
-    by (verdict.Refused r) e = h.refused r e ∙ sym (k.refused r e)
+    by : (v : Result (Unit {0}) Refusal) → judged (admits tc) ≡ v → x ≡ y
+    by (Ok tt) e = is_seconds-one (instant tc) x y (h.seconds e) (k.seconds e)
+    by (Err r) e = h.refused r e ∙ sym (k.refused r e)

@@ -1,3 +1,2 @@
-pub mod Mixing
 pub mod Determined
 pub mod Statements

@@ -1,21 +1,18 @@
 -- The statements of specs/Statements.antt, proved.
 -- Assumes nothing.
+use Rattle.std.specs.Prelude.{Ok, Err}
 use Prim.Native.Nat.{ℕ, ◌<◌}
 use mathlib.Core.Path.{◌≡◌, refl, sym, ◌∙◌, ap, subst}
 use mathlib.Core.List.{[], ◌∷◌}
-use mathlib.Core.Bool.{true, false}
+use mathlib.Core.Bool.{false}
 use lib.Dec.{T}
 use lib.IntN.{ℤ, pos, negsuc, nat_abs}
 use Rattle.numbers.specs.Sign.{is_neg}
-use Rattle.answers.specs.declared.Verdict.TheVariants.{Passed, Refused}
 use Rattle.answers.specs.Order.{judged}
 use Rattle.answers.specs.OrderLaws.{judged-clear, unless-clear, not_in, in-not}
-use Rattle.answers.specs.declared.Counted.TheVariants as counted
 use Rattle.answers.specs.Refusals.{bad_count}
-use Rattle.rates.specs.Rates.{is_rate}
 use Rattle.rates.specs.Day.{day_frames}
 use Rattle.timecodes.specs.declared.Timecode.{Timecode}
-use Rattle.timecodes.specs.declared.Answer.TheVariants as answer
 use Rattle.timecodes.specs.declared.kinds.Kind.TheVariants.{Position}
 use Rattle.timecodes.specs.Made.{OfDay, in_day, made}
 use Rattle.timecodes.specs.Timecode.{timecode, position, timecode_of}
@@ -36,17 +33,17 @@ under rate (pos n) e l = record { number = n; is = refl; under = l }
 under rate (negsuc n) e l = absurd (subst T e tt)
 
 -- admitted is valid
-passed-valid : (tc : Timecode) → judged (admits tc) ≡ Passed → Valid tc
+passed-valid : (tc : Timecode) → judged (admits tc) ≡ (Ok tt) → Valid tc
 passed-valid tc h = admits-valid tc (judged-clear (admits tc) h)
 
-valid-passed : (tc : Timecode) → Valid tc → judged (admits tc) ≡ Passed
-valid-passed tc v = unless-clear Refused (admits tc) Passed (valid-admits tc v)
+valid-passed : (tc : Timecode) → Valid tc → judged (admits tc) ≡ (Ok tt)
+valid-passed tc v = unless-clear Err (admits tc) (Ok tt) (valid-admits tc v)
 
 pub position_within : PositionWithin
 position_within rate count h = (
   λ p. let told = of_day-told rate count (passed-valid (position count rate) p).within in under rate count told.0 told.1,
   λ u.
-      subst (λ (z : ℤ). judged (admits (position z rate)) ≡ Passed) (sym u.is)
+      subst (λ (z : ℤ). judged (admits (position z rate)) ≡ (Ok tt)) (sym u.is)
       (valid-passed (position (pos u.number) rate) (record { rate = h; within = under-day rate h u.number u.under })),
 )
 
@@ -64,13 +61,13 @@ settled_position rate count z h = (
       (not_in _ told.0.0, subst (OfDay rate count) is (in_day-is rate h count)),
   λ x.
       settled-held Position rate count
-      ∙ unless-clear answer.Refused (bad_count count ∷ []) (answer.At (made Position count rate)) (in-not x.0, tt)
-      ∙ ap (λ (y : ℤ). answer.At (position y rate)) (sym (in_day-one rate h count z x.1)),
+      ∙ unless-clear Err (bad_count count ∷ []) (Ok (made Position count rate)) (in-not x.0, tt)
+      ∙ ap (λ (y : ℤ). Ok (position y rate)) (sym (in_day-one rate h count z x.1)),
 )
 
 pub settled_length : SettledLength
-settled_length rate (counted.Count count) = refl
-settled_length rate (counted.Refused e) = refl
+settled_length rate (Ok count) = refl
+settled_length rate (Err e) = refl
 
 pub settled_valid : SettledValid
 settled_valid kind tc end v l e =

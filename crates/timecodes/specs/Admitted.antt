@@ -33,7 +33,7 @@ admits tc = bad_rate tc.rate ∷ bad_input tc ∷ []
 abbrev pub admits_length : Timecode → List Condition
 admits_length tc = bad_rate tc.rate ∷ when wrong_kind (is_position tc.kind) ∷ bad_input tc ∷ []
 
--- both in one, as the code has it: with `lengths` the second, else the first
+-- both in one: with `lengths` the second, else the first
 abbrev pub admits_only : (lengths : Bool) → Timecode → List Condition
 admits_only lengths tc = bad_rate tc.rate ∷ when wrong_kind (lengths && is_position tc.kind) ∷ bad_input tc ∷ []
 

@@ -1,20 +1,16 @@
 -- What the admission of a timecode tells, and what follows where it is admitted (BEHAVIOUR: Refusals).
 -- Assumes nothing.
-use Rattle.std.specs.Prelude.{◌≡◌, refl, true, false, not, List, [], ◌∷◌, ◌++◌, ℕ, ◌≤◌, ◌<◌, T, ltb, ℤ, nat_abs}
+use Rattle.std.specs.Prelude.{◌≡◌, refl, true, false, not, List, [], ◌∷◌, ◌++◌, ℕ, ◌≤◌, ◌<◌, T, ltb, ℤ, nat_abs, Result, Ok, Err}
 use Rattle.std.proofs.Common.{sym, ◌∙◌, ap, subst, arith, leb-true, le-leb, ltb-true}
 use Rattle.std.proofs.Math.Bool.{and-eq-true_iff}
 use Rattle.numbers.specs.Sign.{is_neg}
 use Rattle.answers.specs.declared.Refusal.{Refusal}
-use Rattle.answers.specs.declared.Counted.TheVariants as counted
-use Rattle.answers.specs.declared.Verdict.TheVariants as verdict
 use Rattle.answers.specs.Order.{Condition, unless, judged, Clear}
 use Rattle.answers.specs.OrderLaws.{judged-refused, judged-clear, unless-map, unless-append, unless-clear, unless-told, not_in, not-out, in-not}
 use Rattle.answers.specs.Refusals.{most_count, is_count, bad_count, held}
 use Rattle.rates.specs.Day.{day_frames}
 use Rattle.rates.proofs.Days.{day-le}
 use Rattle.timecodes.specs.declared.Timecode.{Timecode}
-use Rattle.timecodes.specs.declared.Answer.{Answer}
-use Rattle.timecodes.specs.declared.Answer.TheVariants.{At, Refused}
 use Rattle.timecodes.specs.declared.kinds.Kind.{Kind}
 use Rattle.timecodes.specs.declared.kinds.Kind.TheVariants.{Length, Position}
 use Rattle.timecodes.specs.declared.kinds.Joining.{Joining}
@@ -88,48 +84,48 @@ valid-count tc v = le-leb (nat_abs tc.count) most_count (valid-count-le tc v)
 -- ---- a count's conditions are the timecode's
 
 pub placed-unless : (rate : ℕ) (conditions : List Condition) (count : ℤ)
-    → placed rate (unless counted.Refused conditions (counted.Count count)) ≡ unless Refused conditions (At (timecode count rate))
-placed-unless rate conditions count = unless-map (placed rate) counted.Refused Refused (λ e. refl) conditions (counted.Count count)
+    → placed rate (unless Err conditions (Ok count)) ≡ unless Err conditions (Ok (timecode count rate))
+placed-unless rate conditions count = unless-map (placed rate) Err Err (λ e. refl) conditions (Ok count)
 
 pub moved-unless : (tc : Timecode) (rate : ℕ) (conditions : List Condition) (count : ℤ)
-    → moved_to tc rate (unless counted.Refused conditions (counted.Count count)) ≡ unless Refused conditions (At (moved tc count rate))
-moved-unless tc rate conditions count = unless-map (moved_to tc rate) counted.Refused Refused (λ e. refl) conditions (counted.Count count)
+    → moved_to tc rate (unless Err conditions (Ok count)) ≡ unless Err conditions (Ok (moved tc count rate))
+moved-unless tc rate conditions count = unless-map (moved_to tc rate) Err Err (λ e. refl) conditions (Ok count)
 
 -- a held count, as a timecode
-pub placed-held : (rate : ℕ) (count : ℤ) → placed rate (held count) ≡ unless Refused (bad_count count ∷ []) (At (timecode count rate))
+pub placed-held : (rate : ℕ) (count : ℤ) → placed rate (held count) ≡ unless Err (bad_count count ∷ []) (Ok (timecode count rate))
 unfolding held
 placed-held rate count = placed-unless rate (bad_count count ∷ []) count
 
-pub moved-held : (tc : Timecode) (rate : ℕ) (count : ℤ) → moved_to tc rate (held count) ≡ unless Refused (bad_count count ∷ []) (At (moved tc count rate))
+pub moved-held : (tc : Timecode) (rate : ℕ) (count : ℤ) → moved_to tc rate (held count) ≡ unless Err (bad_count count ∷ []) (Ok (moved tc count rate))
 unfolding held
 moved-held tc rate count = moved-unless tc rate (bad_count count ∷ []) count
 
 -- ---- an operation: its timecodes are admitted, then counts are worked on
 
 -- what is admitted is counted, behind more conditions
-pub operated : (conditions more : List Condition) (tc : Timecode) (rate : ℕ) (count : ℤ) → judged conditions ≡ verdict.Passed
-    → moved_to tc rate (unless counted.Refused more (counted.Count count)) ≡ unless Refused (conditions ++ more) (At (moved tc count rate))
+pub operated : (conditions more : List Condition) (tc : Timecode) (rate : ℕ) (count : ℤ) → judged conditions ≡ (Ok tt)
+    → moved_to tc rate (unless Err more (Ok count)) ≡ unless Err (conditions ++ more) (Ok (moved tc count rate))
 operated conditions more tc rate count h =
     moved-unless tc rate more count
     ∙ sym
-    (unless-append Refused conditions more (At (moved tc count rate))
-    ∙ unless-clear Refused conditions (unless Refused more (At (moved tc count rate))) (judged-clear conditions h))
+    (unless-append Err conditions more (Ok (moved tc count rate))
+    ∙ unless-clear Err conditions (unless Err more (Ok (moved tc count rate))) (judged-clear conditions h))
 
 -- what is not admitted is refused, whatever comes behind
-pub not-operated : (conditions more : List Condition) (answer : Answer) (e : Refusal) → judged conditions ≡ verdict.Refused e
-    → unless Refused (conditions ++ more) answer ≡ Refused e
+pub not-operated : (conditions more : List Condition) (answer : Result Timecode Refusal) (e : Refusal) → judged conditions ≡ Err e
+    → unless Err (conditions ++ more) answer ≡ Err e
 not-operated conditions more answer e h =
-    unless-append Refused conditions more answer ∙ judged-refused conditions e h Refused (unless Refused more answer)
+    unless-append Err conditions more answer ∙ judged-refused conditions e h Err (unless Err more answer)
 
 -- ---- what an answer tells
 
 -- a timecode is no refusal
-pub at-apart : (tc : Timecode) (e : Refusal) → Refused e ≡ At tc → ⊥
+pub at-apart : (tc : Timecode) (e : Refusal) → Err e ≡ Ok tc → ⊥
 at-apart tc e h = let clash : ◌≡◌ {A = ℕ} 0 1 = cc in omega arith
 
 -- an answered timecode tells that no condition held, and is the answer
-pub at_told : (conditions : List Condition) (tc end : Timecode) → unless Refused conditions (At tc) ≡ At end → Clear conditions × (tc ≡ end)
+pub at_told : (conditions : List Condition) (tc end : Timecode) → unless Err conditions (Ok tc) ≡ Ok end → Clear conditions × (tc ≡ end)
 at_told conditions tc end h =
-    let told = unless-told Refused conditions (At tc) (At end) (at-apart end) h in
+    let told = unless-told Err conditions (Ok tc) (Ok end) (at-apart end) h in
     let same = told.1 in
     (told.0, cc)

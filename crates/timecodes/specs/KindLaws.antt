@@ -1,24 +1,19 @@
 -- Laws of the two kinds (BEHAVIOUR: Positions, Refusals): a timecode as its own kind, what admitting two tells, and when exactly 15 is given.
 -- Assumes nothing.
-use Rattle.std.specs.Prelude.{ℕ, ◌<◌, ◌≡◌, refl, ◌↔◌, Bool, true, false, cond, not, ◌&&◌, List, [], ◌∷◌, ◌++◌, T, ltb, ℤ, pos, negsuc}
+use Rattle.std.specs.Prelude.{ℕ, ◌<◌, ◌≡◌, refl, ◌↔◌, Bool, true, false, cond, not, ◌&&◌, List, [], ◌∷◌, ◌++◌, T, ltb, ℤ, pos, negsuc, Option, Some, None, Result, Ok, Err}
 use Rattle.std.proofs.Common.{arith, sym, ◌∙◌, ap, subst, ltb-true}
 use Rattle.std.proofs.Math.Bool.{and-eq-true_iff}
 use Rattle.answers.specs.declared.Refusal.{Refusal}
-use Rattle.answers.specs.declared.Verdict.{Verdict}
-use Rattle.answers.specs.declared.Verdict.TheVariants as verdict
+use Rattle.answers.specs.Causes.{refusal_number}
 use Rattle.answers.specs.Order.{Condition, when, unless, first, judged, Clear}
 use Rattle.answers.specs.OrderLaws.{unless-map, unless-told, unless-number}
 use Rattle.answers.specs.Refusals.{out_of_bounds, wrong_kind}
 use Rattle.rates.specs.Rates.{is_rate}
 use Rattle.rates.specs.Rates.{is_rate}
 use Rattle.timecodes.specs.declared.Timecode.{Timecode}
-use Rattle.timecodes.specs.declared.Admitted.{Admitted}
-use Rattle.timecodes.specs.declared.Admitted.TheVariants.{As, Refused}
 use Rattle.timecodes.specs.declared.kinds.Kind.{Kind}
 use Rattle.timecodes.specs.declared.kinds.Kind.TheVariants.{Length, Position}
 use Rattle.timecodes.specs.declared.kinds.Joining.{Joining}
-use Rattle.timecodes.specs.declared.kinds.Mixed.{Mixed}
-use Rattle.timecodes.specs.declared.kinds.Mixed.TheVariants.{Of, Never}
 use Rattle.timecodes.specs.Kinds.{is_position, mixed_kinds, is_never, kind_in}
 use Rattle.timecodes.specs.Timecode.{timecode_as, position}
 use Rattle.timecodes.specs.Made.{made}
@@ -33,9 +28,9 @@ position-told Length e = absurd (subst T (sym e) tt)
 position-told Position e = refl
 
 -- what is mixed is of some kind
-pub mixed-told : (m : Mixed) → is_never m ≡ false → m ≡ Of (kind_in m)
-mixed-told (Of kind) e = refl
-mixed-told Never e = absurd (subst T e tt)
+pub mixed-told : (m : Option Kind) → is_never m ≡ false → m ≡ Some (kind_in m)
+mixed-told (Some kind) e = refl
+mixed-told None e = absurd (subst T e tt)
 
 -- ---- a timecode as its own kind
 
@@ -48,33 +43,33 @@ made-own Position (negsuc n) rate h w = absurd (subst T (of_day-told rate (negsu
 
 -- ---- what admitting two tells
 
-abbrev verdict_of : Admitted → Verdict
-verdict_of (As kind) = verdict.Passed
-verdict_of (Refused e) = verdict.Refused e
+abbrev verdict_of : Result Kind Refusal → Result (Unit {0}) Refusal
+verdict_of (Ok kind) = (Ok tt)
+verdict_of (Err e) = Err e
 
 module _ (joining : Joining) (a b : Timecode) where
   -- two that are taken are clear of every condition, and the kind is theirs
-  pub admitted-told : (kind : Kind) → unless Refused (admits_both joining a b) (As (joined_kind joining a b)) ≡ As kind
+  pub admitted-told : (kind : Kind) → unless Err (admits_both joining a b) (Ok (joined_kind joining a b)) ≡ Ok kind
       → Clear (admits_both joining a b) × (joined_kind joining a b ≡ kind)
   admitted-told kind h =
-      let told = unless-told Refused (admits_both joining a b) (As (joined_kind joining a b)) (As kind) apart h in
+      let told = unless-told Err (admits_both joining a b) (Ok (joined_kind joining a b)) (Ok kind) apart h in
       let same = told.1 in
       (told.0, cc)
     where
-      apart : (e : Refusal) → Refused e ≡ As kind → ⊥
+      apart : (e : Refusal) → Err e ≡ Ok kind → ⊥
       apart e k = let clash : ◌≡◌ {A = ℕ} 0 1 = cc in omega arith
 
   -- and two that are not are refused by their conditions
-  pub admitted-refused : (e : Refusal) → unless Refused (admits_both joining a b) (As (joined_kind joining a b)) ≡ Refused e
-      → judged (admits_both joining a b) ≡ verdict.Refused e
+  pub admitted-refused : (e : Refusal) → unless Err (admits_both joining a b) (Ok (joined_kind joining a b)) ≡ Err e
+      → judged (admits_both joining a b) ≡ Err e
   admitted-refused e h =
-      sym (unless-map verdict_of Refused verdict.Refused (λ r. refl) (admits_both joining a b) (As (joined_kind joining a b))) ∙ ap verdict_of h
+      sym (unless-map verdict_of Err Err (λ r. refl) (admits_both joining a b) (Ok (joined_kind joining a b))) ∙ ap verdict_of h
 
   -- at two rates, mixed, the bounds decide: the left one's first
-  pub both-within : (kind : Kind) → is_rate a.rate ≡ true → is_rate b.rate ≡ true → mixed_kinds joining a.kind b.kind ≡ Of kind
+  pub both-within : (kind : Kind) → is_rate a.rate ≡ true → is_rate b.rate ≡ true → mixed_kinds joining a.kind b.kind ≡ Some kind
       → (s t : Bool) → is_within a.kind a.rate a.count ≡ s → is_within b.kind b.rate b.count ≡ t
-      → unless Refused (admits_both joining a b) (As (joined_kind joining a b))
-      ≡ cond (not s) (Refused out_of_bounds) (cond (not t) (Refused out_of_bounds) (As kind))
+      → unless Err (admits_both joining a b) (Ok (joined_kind joining a b))
+      ≡ cond (not s) (Err out_of_bounds) (cond (not t) (Err out_of_bounds) (Ok kind))
   both-within kind r q m s t e f = simp (r, q, m, e, f)
 
 -- ---- when 15 is given
@@ -82,15 +77,15 @@ module _ (joining : Joining) (a b : Timecode) where
 -- every number of a list is below 15
 abbrev pub below15 : List Condition → Bool
 below15 [] = true
-below15 (c ∷ rest) = ltb c.refusal.number 15 && below15 rest
+below15 (c ∷ rest) = ltb (refusal_number c.refusal) 15 && below15 rest
 
 first_below : (conditions : List Condition) → below15 conditions ≡ true → first conditions < 15
 first_below [] h = omega arith
 first_below (c ∷ rest) h =
-    let both = (and-eq-true_iff (ltb c.refusal.number 15) (below15 rest)).0 h in
-    by c.holds (ltb-true c.refusal.number 15 both.0) (first_below rest both.1)
+    let both = (and-eq-true_iff (ltb (refusal_number c.refusal) 15) (below15 rest)).0 h in
+    by c.holds (ltb-true (refusal_number c.refusal) 15 both.0) (first_below rest both.1)
   where
-    by : (t : Bool) → c.refusal.number < 15 → first rest < 15 → cond t c.refusal.number (first rest) < 15
+    by : (t : Bool) → refusal_number c.refusal < 15 → first rest < 15 → cond t (refusal_number c.refusal) (first rest) < 15
     by true l later = l
     by false l later = later
 
@@ -98,11 +93,11 @@ first_below (c ∷ rest) h =
 front-exactly : (front back : List Condition) → below15 front ≡ true → (first (front ++ back) ≡ 15) ↔ (Clear front × (first back ≡ 15))
 front-exactly [] back h = (λ e. (tt, e), λ x. x.1)
 front-exactly (c ∷ rest) back h =
-    let both = (and-eq-true_iff (ltb c.refusal.number 15) (below15 rest)).0 h in
-    by c.holds (ltb-true c.refusal.number 15 both.0) (front-exactly rest back both.1)
+    let both = (and-eq-true_iff (ltb (refusal_number c.refusal) 15) (below15 rest)).0 h in
+    by c.holds (ltb-true (refusal_number c.refusal) 15 both.0) (front-exactly rest back both.1)
   where
-    by : (t : Bool) → c.refusal.number < 15 → ((first (rest ++ back) ≡ 15) ↔ (Clear rest × (first back ≡ 15)))
-        → (cond t c.refusal.number (first (rest ++ back)) ≡ 15) ↔ (((t ≡ false) × Clear rest) × (first back ≡ 15))
+    by : (t : Bool) → refusal_number c.refusal < 15 → ((first (rest ++ back) ≡ 15) ↔ (Clear rest × (first back ≡ 15)))
+        → (cond t (refusal_number c.refusal) (first (rest ++ back)) ≡ 15) ↔ (((t ≡ false) × Clear rest) × (first back ≡ 15))
     by true l later = (λ e. absurd (omega (arith, l, e)), λ x. absurd (subst T x.0.0 tt))
     by false l later = (λ e. let r = later.0 e in ((refl, r.0), r.1), λ x. later.1 (x.0.1, x.1))
 
@@ -111,7 +106,7 @@ fifteen true back h = (λ e. refl, λ e. refl)
 fifteen false back h = (λ e. absurd (omega (arith, first_below back h)), λ e. absurd (subst T (sym e) tt))
 
 -- 15 exactly when what stands before it is clear and the kinds are barred, for every type of answers
-module _ {A : Type 0} (number_of : A → ℕ) (refused : Refusal → A) (told : (e : Refusal) → number_of (refused e) ≡ e.number)
+module _ {A : Type 0} (number_of : A → ℕ) (refused : Refusal → A) (told : (e : Refusal) → number_of (refused e) ≡ refusal_number e)
     (front back : List Condition) (smaller : below15 front ≡ true) (below : below15 back ≡ true) (answer : A) (none : number_of answer ≡ 0) where
   pub barred-exactly : (barred : Bool)
       → (number_of (unless refused (front ++ (when wrong_kind barred ∷ back)) answer) ≡ 15) ↔ (Clear front × (barred ≡ true))

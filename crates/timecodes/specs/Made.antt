@@ -1,11 +1,10 @@
 -- Making a position (BEHAVIOUR: Positions): what is made as a length, rounded and held to its bounds, is then reduced by whole days.
 -- Assumes nothing.
-use Rattle.std.specs.Prelude.{ℕ, ◌≡◌, ℤ, pos}
+use Rattle.answers.specs.declared.Refusal.{Refusal}
+use Rattle.std.specs.Prelude.{ℕ, ◌≡◌, ℤ, pos, Result, Ok, Err}
 use Rattle.numbers.specs.Modulo.{Reduced, reduced_z}
 use Rattle.rates.specs.Day.{day_frames}
 use Rattle.timecodes.specs.declared.Timecode.{Timecode}
-use Rattle.timecodes.specs.declared.Answer.{Answer}
-use Rattle.timecodes.specs.declared.Answer.TheVariants.{At, Refused}
 use Rattle.timecodes.specs.declared.kinds.Kind.{Kind}
 use Rattle.timecodes.specs.declared.kinds.Kind.TheVariants.{Length, Position}
 use Rattle.timecodes.specs.Timecode.{timecode, position}
@@ -26,6 +25,6 @@ made Length count rate = timecode count rate
 made Position count rate = position (in_day rate count) rate
 
 -- what was made as a length, made a timecode of a kind; what is refused stays so
-abbrev pub settled : Kind → Answer → Answer
-settled kind (At tc) = At (made kind tc.count tc.rate)
-settled kind (Refused e) = Refused e
+abbrev pub settled : Kind → Result Timecode Refusal → Result Timecode Refusal
+settled kind (Ok tc) = Ok (made kind tc.count tc.rate)
+settled kind (Err e) = Err e

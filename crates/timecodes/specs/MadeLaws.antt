@@ -1,6 +1,6 @@
 -- Laws of making a position (BEHAVIOUR: Positions): what it comes to, that it is of the day, and that refusals stay before it.
 -- Assumes nothing.
-use Rattle.std.specs.Prelude.{ℕ, ◌≤◌, ◌<◌, ◌≡◌, refl, true, false, List, [], ◌∷◌, T, ℤ, nat_abs}
+use Rattle.std.specs.Prelude.{ℕ, ◌<◌, ◌≡◌, refl, true, false, List, [], ◌∷◌, T, ℤ, Ok, Err}
 use Rattle.std.proofs.Common.{sym, ◌∙◌, subst, arith}
 use Rattle.std.proofs.Math.Path.{ap}
 use borrow.Author.Tests.{lt-ltb}
@@ -13,7 +13,6 @@ use Rattle.answers.specs.Refusals.{is_count, bad_count, held}
 use Rattle.rates.specs.Rates.{is_rate}
 use Rattle.rates.specs.Day.{day_frames}
 use Rattle.rates.proofs.Days.{day-pos}
-use Rattle.timecodes.specs.declared.Answer.TheVariants.{At, Refused}
 use Rattle.timecodes.specs.declared.kinds.Kind.{Kind}
 use Rattle.timecodes.specs.declared.kinds.Kind.TheVariants.{Length, Position}
 use Rattle.timecodes.specs.Kinds.{is_position}
@@ -70,9 +69,9 @@ made-valid Position count rate h c = record { rate = h; within = in_day-under ra
 
 -- ---- refusals stay before it
 pub settled-unless : (kind : Kind) (conditions : List Condition) (count : ℤ) (rate : ℕ)
-    → settled kind (unless Refused conditions (At (timecode count rate))) ≡ unless Refused conditions (At (made kind count rate))
-settled-unless kind conditions count rate = unless-map (settled kind) Refused Refused (λ e. refl) conditions (At (timecode count rate))
+    → settled kind (unless Err conditions (Ok (timecode count rate))) ≡ unless Err conditions (Ok (made kind count rate))
+settled-unless kind conditions count rate = unless-map (settled kind) Err Err (λ e. refl) conditions (Ok (timecode count rate))
 
 pub settled-held : (kind : Kind) (rate : ℕ) (count : ℤ)
-    → settled kind (placed rate (held count)) ≡ unless Refused (bad_count count ∷ []) (At (made kind count rate))
+    → settled kind (placed rate (held count)) ≡ unless Err (bad_count count ∷ []) (Ok (made kind count rate))
 settled-held kind rate count = ap (settled kind) (placed-held rate count) ∙ settled-unless kind (bad_count count ∷ []) count rate

@@ -1,14 +1,12 @@
 -- What holds of timecodes beyond one call (BEHAVIOUR: Positions): the number of the day, and the bounds of each kind. Proofs: proofs/Statements.antt.
 -- Assumes nothing.
-use Rattle.std.specs.Prelude.{ℕ, ◌<◌, ◌≡◌, ◌↔◌, true, false, ℤ, pos}
-use Rattle.answers.specs.declared.Verdict.TheVariants.{Passed}
+use Rattle.answers.specs.declared.Refusal.{Refusal}
+use Rattle.std.specs.Prelude.{ℕ, ◌<◌, ◌≡◌, ◌↔◌, true, false, ℤ, pos, Result, Ok}
 use Rattle.answers.specs.Order.{judged}
-use Rattle.answers.specs.declared.Counted.{Counted}
 use Rattle.answers.specs.Refusals.{is_count, held}
 use Rattle.rates.specs.Rates.{is_rate}
 use Rattle.rates.specs.Day.{day_frames}
 use Rattle.timecodes.specs.declared.Timecode.{Timecode}
-use Rattle.timecodes.specs.declared.Answer.TheVariants.{At}
 use Rattle.timecodes.specs.declared.kinds.Kind.{Kind}
 use Rattle.timecodes.specs.declared.kinds.Kind.TheVariants.{Length, Position}
 use Rattle.timecodes.specs.Kinds.{kind_from}
@@ -32,26 +30,26 @@ pub record CountUnder (whole : ℕ) (z : ℤ) : Type 0 where
 
 -- what takes both kinds admits a position at a rate exactly when its count is a number from 0 up to the rate's day
 abbrev pub PositionWithin : Type 0
-PositionWithin = (rate : ℕ) (count : ℤ) → is_rate rate ≡ true → (judged (admits (position count rate)) ≡ Passed) ↔ CountUnder (day_frames rate) count
+PositionWithin = (rate : ℕ) (count : ℤ) → is_rate rate ≡ true → (judged (admits (position count rate)) ≡ (Ok tt)) ↔ CountUnder (day_frames rate) count
 
 -- and a length exactly when its count is from -400,000,000 to 400,000,000
 abbrev pub LengthWithin : Type 0
-LengthWithin = (rate : ℕ) (count : ℤ) → is_rate rate ≡ true → (judged (admits (timecode count rate)) ≡ Passed) ↔ (is_count count ≡ true)
+LengthWithin = (rate : ℕ) (count : ℤ) → is_rate rate ≡ true → (judged (admits (timecode count rate)) ≡ (Ok tt)) ↔ (is_count count ≡ true)
 
 -- what a length is made of is made a position exactly where it is within a count's bounds: first held to them, then the number of the day
 abbrev pub SettledPosition : Type 0
 SettledPosition =
     (rate : ℕ) (count z : ℤ) → is_rate rate ≡ true
-    → (settled Position (placed rate (held count)) ≡ At (position z rate)) ↔ ((is_count count ≡ true) × OfDay rate count z)
+    → (settled Position (placed rate (held count)) ≡ Ok (position z rate)) ↔ ((is_count count ≡ true) × OfDay rate count z)
 
 -- made a length it stays as it is
 abbrev pub SettledLength : Type 0
-SettledLength = (rate : ℕ) (counted : Counted) → settled Length (placed rate counted) ≡ placed rate counted
+SettledLength = (rate : ℕ) (counted : Result ℤ Refusal) → settled Length (placed rate counted) ≡ placed rate counted
 
 -- and what is made of a length that is within its bounds is of the kind that was asked for, at its rate, and within its bounds
 abbrev pub SettledValid : Type 0
 SettledValid =
-    (kind : Kind) (tc end : Timecode) → Valid tc → tc.kind ≡ Length → settled kind (At tc) ≡ At end
+    (kind : Kind) (tc end : Timecode) → Valid tc → tc.kind ≡ Length → settled kind (Ok tc) ≡ Ok end
     → Valid end × (end.kind ≡ kind) × (end.rate ≡ tc.rate)
 
 -- a timecode is a position where that is said, else a length

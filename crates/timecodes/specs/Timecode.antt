@@ -1,11 +1,9 @@
 -- A timecode is a count and a rate, a length or a position (BEHAVIOUR: Rates, Positions): how one is moved, and the answer that is one.
 -- Assumes nothing.
-use Rattle.std.specs.Prelude.{ℕ, ℤ, pos}
-use Rattle.answers.specs.declared.Counted.{Counted}
-use Rattle.answers.specs.declared.Counted.TheVariants as counted
+use Rattle.answers.specs.declared.Refusal.{Refusal}
+pub use Rattle.answers.specs.Refusals.{number_of}
+use Rattle.std.specs.Prelude.{ℕ, ℤ, pos, Result, Ok, Err}
 use Rattle.timecodes.specs.declared.Timecode.{Timecode}
-use Rattle.timecodes.specs.declared.Answer.{Answer}
-use Rattle.timecodes.specs.declared.Answer.TheVariants.{At, Refused}
 use Rattle.timecodes.specs.declared.kinds.Kind.{Kind}
 use Rattle.timecodes.specs.declared.kinds.Kind.TheVariants.{Length, Position}
 
@@ -29,19 +27,15 @@ abbrev pub recounted : Timecode → (count : ℤ) → Timecode
 recounted tc count = moved tc count tc.rate
 
 -- a count within its bounds as a new length at a rate, and as another timecode at another rate
-abbrev pub placed : (rate : ℕ) → Counted → Answer
-placed rate (counted.Count count) = At (timecode count rate)
-placed rate (counted.Refused e) = Refused e
+abbrev pub placed : (rate : ℕ) → Result ℤ Refusal → Result Timecode Refusal
+placed rate (Ok count) = Ok (timecode count rate)
+placed rate (Err e) = Err e
 
-abbrev pub moved_to : Timecode → (rate : ℕ) → Counted → Answer
-moved_to tc rate (counted.Count count) = At (moved tc count rate)
-moved_to tc rate (counted.Refused e) = Refused e
+abbrev pub moved_to : Timecode → (rate : ℕ) → Result ℤ Refusal → Result Timecode Refusal
+moved_to tc rate (Ok count) = Ok (moved tc count rate)
+moved_to tc rate (Err e) = Err e
 
--- the number of an answer (0: not refused), and its timecode (a refusal's numbers are 0)
-abbrev pub number_of : Answer → ℕ
-number_of (At tc) = 0
-number_of (Refused e) = e.number
-
-abbrev pub timecode_of : Answer → Timecode
-timecode_of (At tc) = tc
-timecode_of (Refused e) = timecode (pos 0) 0
+-- the timecode of an answer (a refusal's numbers are 0); its number is that of any answer
+abbrev pub timecode_of : Result Timecode Refusal → Timecode
+timecode_of (Ok tc) = tc
+timecode_of (Err e) = timecode (pos 0) 0

@@ -1,55 +1,23 @@
 // The lines of standard input, each a question, or each a text that is read in one way.
-ghost use Rattle.std.specs.Prelude.{◌≡◌, ℕ, ◌≤◌, length, take, IfOk, OnOk, OnErr};
-ghost use Rattle.streams.specs.Turns.{waiting_behind};
+ghost use Rattle.inputs.specs.Lines.{Leaves};
 
-use crate::sheet;
+use inputs::Waiting;
 use std::io;
 use std::io::Read;
-use streams::{Gathered, Step};
+use streams::Sheet;
 use telling::Way;
 
-// What is gathered of the next line, and whether more may come.
-#[derive(Clone, Copy)]
-struct Turn {
-    gathered: Gathered,
-    more: bool,
-}
-
-// The answer to a line. (That more is gathered than the buffer holds cannot be.)
+// The answer to a line, behind those that are kept.
 fn answer(
     rt: &impl Print,
-    g: Gathered,
-    texts: bool,
-    way: Way,
-    buffer: &[u8],
-    out: &mut [u8],
-    used: usize,
-) -> io::Result<usize> {
-    let u = sheet::with_room(rt, out, used)?;
-    let n = g.len;
-    if buffer.len() < n {
-        return Ok(u);
-    }
-    if texts {
-        return Ok(telling::answer_text(out, u, way, &buffer[0..n], g.over));
-    }
-    Ok(telling::answer_question(out, u, &buffer[0..n], g.over))
-}
-
-// The answer to a line that has ended, behind those that are kept.
-fn answered(
-    rt: &impl Print,
-    t: Step,
-    texts: bool,
-    way: Way,
-    buffer: &[u8],
-    out: &mut [u8],
-    used: usize,
-) -> io::Result<usize> {
-    if t.ended {
-        return answer(rt, t.gathered, texts, way, buffer, out, used);
-    }
-    Ok(used)
+    way: Option<Way>,
+    line: &[u8],
+    over: bool,
+    sheet: &mut Sheet<65536>,
+) -> io::Result<()> {
+    inputs::make_room(rt, sheet, 16384)?;
+    telling::answer(sheet, way, line, over);
+    Ok(())
 }
 
 // A chunk of input, line by line; its answers are written before the next one is read.
@@ -57,99 +25,27 @@ fn answered(
 fn feed(
     rt: &impl Print,
     chunk: &[u8],
-    texts: bool,
-    way: Way,
-    buffer: &mut [u8],
-    out: &mut [u8],
-    first: Gathered,
-) -> io::Result<Gathered>
-    ensures gathered { IfOk result (λ last. last ≡ (waiting_behind buffer.old first chunk.now).gathered) }
-    ensures buffer { OnOk result (buffer.new ≡ (waiting_behind buffer.old first chunk.now).buffer) }
-    ensures left { OnErr result ((k : ℕ) × (k ≤ length chunk.now) × (buffer.new ≡ (waiting_behind buffer.old first (take k chunk.now)).buffer)) }
+    way: Option<Way>,
+    waiting: &mut Waiting<4096>,
+    sheet: &mut Sheet<65536>,
+) -> io::Result<()>
+    ensures { Leaves result waiting.old.buffer waiting.old.gathered chunk.now waiting.new.buffer waiting.new.gathered }
 {
-    let mut g = first;
-    let mut used = 0;
-    let mut next = 0;
-    while next < chunk.len() {
-        let t = streams::gather(chunk, next, buffer, g);
-        used = answered(rt, t, texts, way, buffer, out, used)?;
-        g = streams::gone_on(t);
-        next = t.next;
-    }
-    sheet::write(rt, out, used)?;
-    Ok(g)
+    waiting.each_line(chunk, |line, over| answer(rt, way, line, over, sheet))?;
+    inputs::write_out(rt, sheet)
 }
 
-// How many bytes a read put at the chunk's start: none at the input's end, nor where it cannot be read.
-fn read_some(input: &mut impl Read, chunk: &mut [u8]) -> usize
-    ensures in_bounds { result ≤ length chunk.new }
-{
-    match input.read(chunk) {
-        Ok(n) => n,
-        Err(_) => 0,
-    }
-}
-
-// One read, and what came of it.
-fn one_read(
-    rt: &impl Print,
-    input: &mut impl Read,
-    texts: bool,
-    way: Way,
-    buffer: &mut [u8],
-    out: &mut [u8],
-    g: Gathered,
-) -> io::Result<Turn> {
-    let mut chunk = [0u8; 65536];
-    let n = read_some(input, &mut chunk);
-    if n == 0 {
-        return Ok(Turn {
-            gathered: g,
-            more: false,
-        });
-    }
-    Ok(Turn {
-        gathered: feed(rt, &chunk[..n], texts, way, buffer, out, g)?,
-        more: true,
-    })
-}
-
-// A proved loop ends: the turns are counted down from a number that no run uses up.
-fn read_all(
-    rt: &impl Print,
-    input: &mut impl Read,
-    texts: bool,
-    way: Way,
-    buffer: &mut [u8],
-    out: &mut [u8],
-) -> io::Result<Gathered> {
-    let mut g = Gathered::new();
-    let mut turns = u64::MAX;
-    while 0 < turns {
-        let t = one_read(rt, input, texts, way, buffer, out, g)?;
-        g = t.gathered;
-        if !t.more {
-            return Ok(g);
-        }
-        turns -= 1;
-    }
-    Ok(g)
-}
-
-// All lines; a last one without its newline counts.
+// All lines, each a text where the way to read it is given, else a question; a last one without its newline counts.
 pub(crate) fn answer_all(
     rt: &impl Print,
     input: &mut impl Read,
-    texts: bool,
-    way: Way,
+    way: Option<Way>,
 ) -> io::Result<()> {
-    let mut buffer = [0u8; 4096];
-    let mut out = [0u8; 65536];
-    let g = read_all(rt, input, texts, way, &mut buffer, &mut out)?;
-    if g.is_empty() {
-        return Ok(());
-    }
-    let used = answer(rt, g, texts, way, &buffer, &mut out, 0)?;
-    sheet::write(rt, &out, used)?;
-    Ok(())
+    let mut waiting = Waiting::<4096>::new();
+    let mut sheet = Sheet::<65536>::new();
+    inputs::each_chunk(input, &mut [0; 65536], |chunk| {
+        feed(rt, chunk, way, &mut waiting, &mut sheet)
+    })?;
+    waiting.last_line(|line, over| answer(rt, way, line, over, &mut sheet))?;
+    inputs::write_out(rt, &mut sheet)
 }

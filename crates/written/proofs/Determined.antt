@@ -1,9 +1,11 @@
 -- Each public function's contract allows one outcome: two that meet its equations are equal.
 -- Assumes nothing.
 use mathlib.Core.Path.{sym, ap, ◌∙◌}
+use denote.RattleType.{RattleType}
+use denote.Param.Laws.{Laws}
+use mir.Syntax.{Dict}
+use Rattle.written.specs.declared.Writable.{Ghosts}
 use Rattle.outcomes.specs.Outcome.{Determined}
-use Rattle.written.specs.contracts.number as number
-use Rattle.written.proofs.number.Reads as number-reads
 use Rattle.written.specs.contracts.length as length
 use Rattle.written.proofs.length.Reads as length-reads
 use Rattle.written.specs.contracts.put_marked as put-marked
@@ -20,11 +22,10 @@ use Rattle.written.specs.contracts.clock_length as clock-length
 use Rattle.written.proofs.clock_length.Reads as clock-length-reads
 use Rattle.written.specs.contracts.put_clock as put-clock
 use Rattle.written.proofs.put_clock.Reads as put-clock-reads
+use Rattle.written.specs.contracts.write as write
+use Rattle.written.proofs.write.Reads as write-reads
 use Rattle.written.specs.contracts.write_text as write-text
 use Rattle.written.proofs.write_text.Reads as write-text-reads
-
-pub number-determined : Determined number.ended number-reads.Asked number-reads.Learnt
-number-determined κs a asked x y p q = ap (λ z. (z, x.1)) (p ∙ sym q)
 
 pub length-determined : Determined length.ended length-reads.Asked length-reads.Learnt
 length-determined κs a asked x y p q = ap (λ z. (z, x.1)) (p ∙ sym q)
@@ -52,3 +53,7 @@ put-clock-determined κs a asked x y p q = ap (λ z. (x.0, (z, x.1.1))) (p ∙ s
 
 pub write-text-determined : Determined write-text.ended write-text-reads.Asked write-text-reads.Learnt
 write-text-determined κs a asked x y p q = ap (λ z. (z, x.1)) (p.0 ∙ sym q.0) ∙ ap (λ z. (y.0, (x.1.0, (z, x.1.1.1)))) (p.1 ∙ sym q.1)
+
+pub write-determined : (T : RattleType) (laws : Laws T) (text : Ghosts T.Denot) (code : Dict)
+    → Determined (write.ended T text code) (write-reads.Asked T laws text code) (write-reads.Learnt T laws text code)
+write-determined T laws text code κs a asked x y p q = ap (λ z. (z, x.1)) (p.0 ∙ sym q.0) ∙ ap (λ z. (y.0, (x.1.0, (z, x.1.1.1)))) (p.1 ∙ sym q.1)

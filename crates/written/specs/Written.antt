@@ -1,12 +1,10 @@
 -- What a writer answers, and the caller's line afterwards (BEHAVIOUR: Refusals): one definition of each, for every text that is written.
 -- Assumes nothing.
-use Rattle.std.specs.Prelude.{ℕ, List, [], ◌∷◌, ◌++◌, not, length}
+use Rattle.std.specs.Prelude.{ℕ, List, [], ◌∷◌, ◌++◌, not, length, Result, Ok, Err}
 use Rattle.lent.specs.Line.{fits, line_after}
 use Rattle.answers.specs.declared.Refusal.{Refusal}
 use Rattle.answers.specs.Order.{Condition, when, unless}
 use Rattle.answers.specs.Refusals.{no_room}
-use Rattle.written.specs.declared.Written.{Written}
-use Rattle.written.specs.declared.Written.TheVariants.{Length, Refused}
 
 -- what is to be laid down: a text, or the refusal that leaves none
 pub data Draft : Type 0 where
@@ -22,20 +20,16 @@ abbrev pub written_when : List Condition → (line : List ℕ) (place : ℕ) (te
 written_when conditions line place text = conditions ++ (bad_room line place text ∷ [])
 
 -- the answer: 8 comes after every refusal of the draft; else the text's length
-unfoldable pub answer_to : (line : List ℕ) (place : ℕ) → Draft → Written
-answer_to line place (Text text) = unless Refused (bad_room line place text ∷ []) (Length (length text))
-answer_to line place (NoText e) = Refused e
+unfoldable pub answer_to : (line : List ℕ) (place : ℕ) → Draft → Result ℕ Refusal
+answer_to line place (Text text) = unless Err (bad_room line place text ∷ []) (Ok (length text))
+answer_to line place (NoText e) = Err e
 
 -- every byte of the line afterwards: the text from its place on; a refusal changes no lent byte
 unfoldable pub line_to : (line : List ℕ) (place : ℕ) → Draft → List ℕ
 line_to line place (Text text) = line_after line place text
 line_to line place (NoText e) = line
 
--- the number of an answer (0: not refused), and its length (a refusal's is 0)
-abbrev pub number_of : Written → ℕ
-number_of (Length n) = 0
-number_of (Refused e) = e.number
-
-abbrev pub length_of : Written → ℕ
-length_of (Length n) = n
-length_of (Refused e) = 0
+-- the length of an answer; a refusal's is 0
+abbrev pub length_of : Result ℕ Refusal → ℕ
+length_of (Ok n) = n
+length_of (Err e) = 0

@@ -2,52 +2,66 @@
 // number behind its sign or behind a mark. Refuses 8, after all that speaks against a text.
 #![tactic(auto)]
 
-ghost use Rattle.std.specs.Prelude.{◌≡◌, ◌∷◌, ◌+◌, ◌≤◌, length};
+ghost use Rattle.std.specs.Prelude.{ℕ, List, ◌≡◌, ◌∷◌, ◌+◌, ◌≤◌, length};
 ghost use Rattle.lent.specs.Line.{laid};
 ghost use Rattle.digits.specs.Digits.{digits_of, decimal};
-ghost use Rattle.written.specs.Written.{Text, answer_to, line_to, number_of, length_of};
+ghost use Rattle.written.specs.Written.{Text, answer_to, line_to, length_of};
 ghost use Rattle.written.specs.Parts.{sign_text, padded_text, signed_text, field_text};
 ghost use Rattle.written.specs.Clock.{clock_text};
 
-use answers::Refusal;
-
-// The length of the text that was laid down, or why there is none; then no byte of the line has changed.
-#[derive(Clone, Copy)]
-pub enum Written {
-    Length(usize),
-    Refused(Refusal),
-}
-
-// The number of an answer; 0 where a text was laid down.
-pub fn number(w: Written) -> u8
-    ensures { result ≡ number_of w }
-{
-    match w {
-        Written::Length(_) => 0,
-        Written::Refused(e) => e.number,
-    }
-}
+use answers::{Cause, Refusal};
 
 // How many bytes were laid down; 0 where a refusal was given.
-pub fn length(w: Written) -> usize
+pub fn length(w: Result<usize, Refusal>) -> usize
     ensures { result ≡ length_of w }
 {
-    match w {
-        Written::Length(n) => n,
-        Written::Refused(_) => 0,
+    w.unwrap_or(0)
+}
+
+// A text that can be laid into a line: how many bytes it has, and the bytes at the front of a part that has room for them.
+pub trait Writable {
+    ghost text: { Self → List ℕ };
+
+    fn length(&self) -> usize
+        ensures { result ≡ length (text self.now) };
+
+    fn put(&self, part: &mut [u8])
+        requires { length (text self.now) ≤ length part.old }
+        ensures { part.new ≡ laid part.old (text self.now) };
+}
+
+// A text laid down from `place` on, whole: its length first, one test of room, then the rest of the line is lent on. Refuses 8: place
+// plus text length exceeds the line's length.
+pub fn write<T: Writable>(text: &T, line: &mut [u8], place: usize) -> Result<usize, Refusal>
+    ensures answer { result ≡ answer_to line.old place (Text (T.text text.now)) }
+    ensures line { line.new ≡ line_to line.old place (Text (T.text text.now)) }
+{
+    let need = text.length();
+    if lent::room(line.len(), place, need) {
+        text.put(&mut line[place..]);
+        return Ok(need);
+    }
+    Err(Cause::NoRoom.into())
+}
+
+impl<'a> Writable for &'a [u8] {
+    ghost text = { λ bytes. bytes.now };
+
+    fn length(&self) -> usize {
+        self.len()
+    }
+
+    fn put(&self, part: &mut [u8]) {
+        lent::put_text(part, self);
     }
 }
 
-// A text laid down from `place` on, whole. Refuses 8: place plus text length exceeds the line's length.
-pub fn write_text(text: &[u8], line: &mut [u8], place: usize) -> Written
+// A text of bytes laid down from `place` on, whole. Refuses 8: place plus text length exceeds the line's length.
+pub fn write_text(text: &[u8], line: &mut [u8], place: usize) -> Result<usize, Refusal>
     ensures answer { result ≡ answer_to line.old place (Text text.now) }
     ensures line { line.new ≡ line_to line.old place (Text text.now) }
 {
-    if lent::room(line.len(), place, text.len()) {
-        lent::put_text(&mut line[place..], text);
-        return Written::Length(text.len());
-    }
-    Written::Refused(answers::NO_ROOM)
+    write(&text, line, place)
 }
 
 // How many bytes a sign takes: one for '-', else none.

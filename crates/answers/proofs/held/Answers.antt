@@ -1,5 +1,6 @@
 -- `answers::held` meets its contract: the magnitude that is tested is that of the number.
 -- Assumes nothing.
+use Rattle.std.specs.Prelude.{Ok, Err}
 use mir.Syntax.{w64}
 use mathlib.Core.Path.{sym, ◌∙◌, ap}
 use native.Mathlib.Omega.{arith}
@@ -9,16 +10,15 @@ use mir.Facts.{to_z-of_z}
 use Rattle.numbers.specs.Sign.{signed}
 use Rattle.numbers.specs.SignLaws.{abs-signed}
 use Rattle.numbers.specs.Total.{fitted-in}
-use Rattle.answers.specs.declared.Counted.TheVariants.{Count}
 use Rattle.answers.specs.Refusals.{most_count}
 use Rattle.answers.specs.Laws.{held_in, held_out}
 use Rattle.answers.proofs.held.Goals as goal
 
 pub returns-then-m-gt-MOST_COUNT : goal.returns-then-m-gt-MOST_COUNT
 returns-then-m-gt-MOST_COUNT c =
-    sym (held_out (signed c.args.minus c.args.m) (lt-leb (nat_abs (signed c.args.minus c.args.m)) most_count (omega (arith, abs-signed c.args.minus c.args.m))))
+    ap Err c.into.ensures ∙ sym (held_out (signed c.args.minus c.args.m) (lt-leb (nat_abs (signed c.args.minus c.args.m)) most_count (omega (arith, abs-signed c.args.minus c.args.m))))
 
 pub returns : goal.returns
 returns c =
-    ap Count (to_z-of_z {w = w64} (record { sfits = c.with_sign-z.type_inv }) ∙ c.with_sign-z.ensures ∙ fitted-in c.args.m (signed c.args.minus c.args.m) (omega arith))
+    ap Ok (to_z-of_z {w = w64} (record { sfits = c.with_sign.type_inv }) ∙ c.with_sign.ensures ∙ fitted-in c.args.m (signed c.args.minus c.args.m) (omega arith))
     ∙ sym (held_in (signed c.args.minus c.args.m) (le-leb (nat_abs (signed c.args.minus c.args.m)) most_count (omega (arith, abs-signed c.args.minus c.args.m))))

@@ -1,5 +1,7 @@
 -- `arithmetic::rem` meets its contract: what is admitted is counted, and what is refused is refused.
 -- Assumes nothing.
+use Rattle.std.specs.Prelude.{Ok, Err}
+use Rattle.std.proofs.lemmas.Result.{err_from_is_err_and}
 use mathlib.Core.Path.{◌≡◌, sym, ◌∙◌, ap, ap₂}
 use borrow.Author.Rules.{rules}
 use mathlib.Core.List.{[], ◌∷◌}
@@ -7,39 +9,34 @@ use lib.Signed.{rem_z}
 use mir.Syntax.{w64}
 use mir.Val.{to_z, of_z}
 use mir.Facts.{to_z-of_z}
-use Rattle.answers.specs.declared.Verdict.TheVariants as verdict
 use Rattle.answers.specs.Order.{judged}
-use Rattle.answers.specs.OrderLaws.{judged-clear}
 use Rattle.timecodes.specs.Timecode.{moved_to}
 use Rattle.timecodes.specs.Admitted.{admits_length}
-use Rattle.timecodes.specs.AdmittedLaws.{admits_length-valid, valid-count-le, operated, not-operated}
+use Rattle.timecodes.specs.AdmittedLaws.{operated, not-operated}
 use Rattle.arithmetic.specs.Truncating.{remainder_counted, rem_of}
 use Rattle.arithmetic.specs.Divisor.{bad_divisor}
 use Rattle.arithmetic.proofs.rem.Goals as goal
-use Rattle.arithmetic.proofs.rem.Goals.{After-struct_told-1, In-Passed}
+use Rattle.arithmetic.proofs.rem.Goals.{After-admit_length, In_ok-admit_length}
 
-passed : (c : In-Passed) → judged (admits_length c.args.tc) ≡ verdict.Passed
+passed : (c : In_ok-admit_length) → judged (admits_length c.args.tc) ≡ (Ok tt)
 passed c =
-    sym c.admit_length.ensures ∙ c.in-Passed.is
+    sym c.admit_length.ensures ∙ c.in_ok-admit_length.was
 
 -- the count, as the machine reads it
-count_is : (c : After-struct_told-1)
+count_is : (c : After-admit_length)
     → to_z w64 (of_z w64 c.args.tc.count) ≡ c.args.tc.count
 count_is c =
     search rules
 
-pub remainder-requires : goal.remainder-requires
-remainder-requires c =
-    rw (count_is (goal.at.remainder-requires c).After-struct_told-1) (valid-count-le c.args.tc (admits_length-valid c.args.tc (judged-clear (admits_length c.args.tc) (passed (goal.at.remainder-requires c).In-Passed))))
-
-pub returns-in-Passed : goal.returns-in-Passed
+pub returns : goal.returns
 unfolding rem_of remainder_counted
-returns-in-Passed c =
+returns c =
     c.moved.ensures
-    ∙ ap (moved_to c.args.tc c.args.tc.rate) (c.remainder.ensures ∙ ap₂ remainder_counted (count_is (goal.at.returns-in-Passed c).After-struct_told-1) (to_z-of_z c.ranges.n))
-    ∙ operated (admits_length c.args.tc) (bad_divisor c.args.n ∷ []) c.args.tc c.args.tc.rate (rem_z c.args.tc.count c.args.n) (passed (goal.at.returns-in-Passed c).In-Passed)
+    ∙ ap (moved_to c.args.tc c.args.tc.rate) (c.remainder.ensures ∙ ap₂ remainder_counted (c.new.ensures ∙ count_is (goal.at.returns c).After-admit_length) (to_z-of_z c.ranges.n))
+    ∙ operated (admits_length c.args.tc) (bad_divisor c.args.n ∷ []) c.args.tc c.args.tc.rate (rem_z c.args.tc.count c.args.n) (passed (goal.at.returns c).In_ok-admit_length)
 
-pub returns-in-Refused : goal.returns-in-Refused
+pub returns-in_err-admit_length : goal.returns-in_err-admit_length
 unfolding rem_of
-returns-in-Refused c =
-    sym (not-operated (admits_length c.args.tc) (bad_divisor c.args.n ∷ []) _ _ (sym c.admit_length.ensures ∙ c.in-Refused.is))
+returns-in_err-admit_length c =
+    let p = err_from_is_err_and c.from_residual.result c.from_residual.ensures.1 in
+    p.1 ∙ ap Err p.2 ∙ sym (not-operated (admits_length c.args.tc) (bad_divisor c.args.n ∷ []) _ _ (sym c.admit_length.ensures ∙ c.in_err-admit_length.was))

@@ -1,44 +1,41 @@
 -- `arithmetic::remq` meets its contract: what is admitted is counted, and what is refused is refused.
 -- Assumes nothing.
+use Rattle.std.specs.Prelude.{Ok, Err}
+use Rattle.std.proofs.lemmas.Result.{err_from_is_err_and}
 use mathlib.Core.Path.{◌≡◌, sym, ◌∙◌, ap, ap₂}
 use borrow.Author.Rules.{rules}
 use lib.IntN.{ℤ}
 use mir.Syntax.{w64}
 use mir.Val.{to_z, of_z}
 use mir.Facts.{to_z-of_z}
-use Rattle.answers.specs.declared.Verdict.TheVariants as verdict
 use Rattle.answers.specs.Order.{judged}
-use Rattle.answers.specs.OrderLaws.{judged-clear}
 use Rattle.timecodes.specs.Timecode.{moved_to}
 use Rattle.timecodes.specs.Admitted.{admits_length}
-use Rattle.timecodes.specs.AdmittedLaws.{admits_length-valid, valid-count-le, operated, not-operated}
+use Rattle.timecodes.specs.AdmittedLaws.{operated, not-operated}
 use Rattle.arithmetic.specs.Remainder.{left_of, left_when, left_counted, remq_of}
 use Rattle.arithmetic.proofs.remq.Goals as goal
-use Rattle.arithmetic.proofs.remq.Goals.{After-struct_told-1, In-Passed}
+use Rattle.arithmetic.proofs.remq.Goals.{After-admit_length, In_ok-admit_length}
 
-passed : (c : In-Passed) → judged (admits_length c.args.tc) ≡ verdict.Passed
+passed : (c : In_ok-admit_length) → judged (admits_length c.args.tc) ≡ (Ok tt)
 passed c =
-    sym c.admit_length.ensures ∙ c.in-Passed.is
+    sym c.admit_length.ensures ∙ c.in_ok-admit_length.was
 
 -- the count, as the machine reads it
-count_is : (c : After-struct_told-1)
+count_is : (c : After-admit_length)
     → to_z w64 (of_z w64 c.args.tc.count) ≡ c.args.tc.count
 count_is c =
     search rules
 
-pub remainder_by-requires : goal.remainder_by-requires
-remainder_by-requires c =
-    rw (count_is (goal.at.remainder_by-requires c).After-struct_told-1) (valid-count-le c.args.tc (admits_length-valid c.args.tc (judged-clear (admits_length c.args.tc) (passed (goal.at.remainder_by-requires c).In-Passed))))
-
-pub returns-in-Passed : goal.returns-in-Passed
+pub returns : goal.returns
 unfolding remq_of left_counted
-returns-in-Passed c =
+returns c =
     c.moved.ensures
-    ∙ ap (moved_to c.args.tc c.args.tc.rate) (c.remainder_by.ensures ∙ ap₂ (λ (x y : ℤ). left_counted x y c.args.q) (count_is (goal.at.returns-in-Passed c).After-struct_told-1) (to_z-of_z c.ranges.p))
+    ∙ ap (moved_to c.args.tc c.args.tc.rate) (c.remainder_by.ensures ∙ ap₂ (λ (x y : ℤ). left_counted x y c.args.q) (c.new.ensures ∙ count_is (goal.at.returns c).After-admit_length) (to_z-of_z c.ranges.p))
     ∙ operated (admits_length c.args.tc) (left_when c.args.tc.count c.args.p c.args.q) c.args.tc c.args.tc.rate (left_of c.args.tc.count c.args.p c.args.q)
-    (passed (goal.at.returns-in-Passed c).In-Passed)
+    (passed (goal.at.returns c).In_ok-admit_length)
 
-pub returns-in-Refused : goal.returns-in-Refused
+pub returns-in_err-admit_length : goal.returns-in_err-admit_length
 unfolding remq_of
-returns-in-Refused c =
-    sym (not-operated (admits_length c.args.tc) (left_when c.args.tc.count c.args.p c.args.q) _ _ (sym c.admit_length.ensures ∙ c.in-Refused.is))
+returns-in_err-admit_length c =
+    let p = err_from_is_err_and c.from_residual.result c.from_residual.ensures.1 in
+    p.1 ∙ ap Err p.2 ∙ sym (not-operated (admits_length c.args.tc) (left_when c.args.tc.count c.args.p c.args.q) _ _ (sym c.admit_length.ensures ∙ c.in_err-admit_length.was))

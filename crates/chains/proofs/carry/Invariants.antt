@@ -1,15 +1,15 @@
--- What each turn of the loop keeps, and what gets smaller.
+-- What each turn of the loop keeps.
 -- Assumes nothing.
 use mathlib.Core.Path.{◌≡◌}
-use Prim.Native.Nat.{◌-◌, ◌≤◌}
-use lib.ListN.{length, drop}
+use lib.ListN.{drop}
 use Rattle.timecodes.specs.declared.kinds.Kind.TheVariants.{Length}
 use Rattle.timecodes.specs.Admitted.{Valid}
 use Rattle.chains.specs.Chain.{carried}
 use Rattle.chains.proofs.carry.Given as goal
 
-abbrev pub invariant-loop-i : goal.invariant-loop-i
-invariant-loop-i l = (l.i ≤ length l.list) × Valid l.at × (carried l.at (drop l.i l.list) ≡ carried l.initial.at l.list) × (l.at.kind ≡ Length)
-
-abbrev pub decreases-loop-i : goal.decreases-loop-i
-decreases-loop-i l = length l.list - l.i
+abbrev pub invariant-loop-next : goal.invariant-loop-next
+invariant-loop-next l = record {
+  valid : Valid l.at;
+  length : l.at.kind ≡ Length;
+  same_end : carried l.at (drop l.next-index l.list) ≡ carried l.initial.at l.list;
+}

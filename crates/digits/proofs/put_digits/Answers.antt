@@ -1,9 +1,6 @@
 -- `digits::put_digits` meets its contract: each turn sets the last two digits that are left, and what is left then makes the same line.
 -- Assumes nothing.
-use native.Mathlib.Omega.{arith}
-use mathlib.Core.Path.{refl, sym}
-use borrow.Author.Rules.{rules}
-use lib.ListN.{length-set}
+use Rattle.std.proofs.Common.{arith, sym, ◌≡◌, ◌-◌, ◌*◌, ◌+◌}
 use Rattle.lent.proofs.Laws.{laid_out}
 use Rattle.digits.specs.Digits.{digits_of}
 use Rattle.digits.proofs.Values.{digits-length}
@@ -14,30 +11,15 @@ pub returns-then-part-k : goal.returns-then-part-k
 returns-then-part-k c =
     sym (laid_out _ (digits_of c.args.k c.args.n) (omega (arith, digits-length c.args.k c.args.n)))
 
-pub loop-i-init : goal.loop-i-init
-loop-i-init c =
-    record { long = refl; room = search rules; inside = search rules; left = refl }
+pub loop-j-preserved : goal.loop-j-preserved
+loop-j-preserved c =
+    let e : c.args.k - 2 * (c.loop-j.j + 1) ≡ c.args.k - 2 * c.loop-j.j - 2 = omega arith in
+    rw e (spelling-pair _ _ _ _ _ _ _ _ c.loop-j.invariant (omega arith) c.entry-pair.ensures.tens c.entry-pair.ensures.ones)
 
-pub bounds-part-i-in-loop-i : goal.bounds-part-i-in-loop-i
-bounds-part-i-in-loop-i c =
-    simp length-set (omega arith)
+pub returns-then-k-eq1 : goal.returns-then-k-eq1
+returns-then-k-eq1 c =
+    spelling-first _ _ _ _ _ _ c.loop-j.invariant (omega arith) (omega arith)
 
-pub loop-i-preserved : goal.loop-i-preserved
-loop-i-preserved c =
-    spelling-pair _ _ _ _ _ _ _ _ c.loop-i.invariant c.loop-i-test.true c.entry-pair.ensures.tens c.entry-pair.ensures.ones
-
-pub shape_of-part-then-i-gt0 : goal.shape_of-part-then-i-gt0
-shape_of-part-then-i-gt0 c =
-    simp length-set c.loop-i.invariant.long
-
-pub returns-then-i-gt0 : goal.returns-then-i-gt0
-returns-then-i-gt0 c =
-    spelling-first _ _ _ _ _ _ c.loop-i.invariant (omega arith) (omega arith)
-
-pub shape_of-part-else-i-gt0 : goal.shape_of-part-else-i-gt0
-shape_of-part-else-i-gt0 c =
-    c.loop-i.invariant.long
-
-pub returns-else-i-gt0 : goal.returns-else-i-gt0
-returns-else-i-gt0 c =
-    spelling-done _ _ _ _ _ _ c.loop-i.invariant (omega arith)
+pub returns-else-k-eq1 : goal.returns-else-k-eq1
+returns-else-k-eq1 c =
+    spelling-done _ _ _ _ _ _ c.loop-j.invariant (omega arith)

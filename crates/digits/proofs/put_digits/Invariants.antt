@@ -1,10 +1,8 @@
--- What each turn of the loop keeps, and what gets smaller.
+-- What each turn of the loop keeps: two digits fewer are left.
 -- Assumes nothing.
+use Rattle.std.proofs.Common.{◌*◌, ◌-◌}
 use Rattle.digits.proofs.Spelling.{Spelling}
 use Rattle.digits.proofs.put_digits.Given as goal
 
-abbrev pub invariant-loop-i : goal.invariant-loop-i
-invariant-loop-i l = Spelling l.initial.part l.k l.n l.part l.i l.rest
-
-abbrev pub decreases-loop-i : goal.decreases-loop-i
-decreases-loop-i l = l.i
+abbrev pub invariant-loop-j : goal.invariant-loop-j
+invariant-loop-j l = Spelling l.initial.part l.k l.n l.part (l.k - 2 * l.j) l.rest

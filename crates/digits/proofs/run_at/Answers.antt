@@ -1,53 +1,39 @@
 -- `digits::run_at` meets its contract: each turn takes one digit of the run, and the loop ends where none stands.
 -- Assumes nothing.
-use native.Mathlib.Omega.{arith}
-use mathlib.Core.Path.{◌≡◌, sym, ◌∙◌}
-use mathlib.Core.Bool.{true}
-use Prim.Native.Nat.{◌-◌, ◌<◌}
-use lib.ListN.{length, drop}
-use Rattle.digits.specs.Digits.{digit_first}
-use Rattle.digits.proofs.Taking.{within, digit-here, taking-start, taking-turn, taking-done}
+use Rattle.std.proofs.Common.{arith, sym, ap, ◌≡◌, ◌∙◌, [], ℕ, length, drop, take_all, length-drop}
+use Rattle.std.proofs.Math.ListN.{drop_of_length-le}
+use Rattle.digits.specs.Digits.{run_of}
+use Rattle.digits.proofs.Taking.{first-here, taking-start, taking-turn, taking-done, taking-all}
 use Rattle.digits.proofs.run_at.Goals as goal
-use Rattle.digits.proofs.run_at.Goals.{In-loop-value}
+use Rattle.digits.proofs.run_at.Goals.{In-Some}
 
-pub loop-value-init : goal.loop-value-init
-loop-value-init c =
-    taking-start _ _
+pub returns-in_default : goal.returns-in_default
+returns-in_default c =
+    let h = c.in_default.ensures.lookup in
+    let none : drop c.args.at c.args.s.now ≡ [] = drop_of_length-le c.args.s.now (omega (arith, h.0)) in
+    rw none (taking-all [] 0 0 (taking-start []) (omega arith))
 
--- in a turn a digit stands at i, so i is within the text
-stands : (c : In-loop-value)
-    → digit_first (drop c.loop-value.i c.args.s.now) ≡ true
-stands c =
-    sym c.digit_at.ensures ∙ c.loop-value-test.true
+-- the rest that is gone over
+rest-is : (c : In-Some) → c.in-Some.rest.now ≡ drop c.args.at c.args.s.now
+rest-is c =
+    let h = c.in-Some.ensures.lookup.0 in
+    h.2 ∙ take_all _ _ (omega (arith, length-drop c.args.at c.args.s.now))
 
-inside : (c : In-loop-value) → c.loop-value.i < length c.args.s.now
-inside c =
-    within _ _ (stands c)
+pub loop-count-init : goal.loop-count-init
+loop-count-init c = taking-start c.in-Some.rest.now
 
-pub bounds-s-i : goal.bounds-s-i
-bounds-s-i c =
-    inside (goal.at.bounds-s-i c).In-loop-value
+pub loop-count-preserved : goal.loop-count-preserved
+loop-count-preserved c =
+    rw c.push-value.ensures (taking-turn c.in-Some.rest.now c.loop-count.count c.loop-count.value c.loop-count.invariant (omega arith) (sym c.is_digit.ensures ∙ c.if-not-is_digit.false))
 
-pub push-value-requires : goal.push-value-requires
-push-value-requires c =
-    record { value = c.loop-value.invariant.below; digit = digit-here c.args.s.now c.loop-value.i (stands (goal.at.push-value-requires c).In-loop-value) }
-
-pub overflow_add-count : goal.overflow_add-count
-overflow_add-count c =
-    omega (arith, inside (goal.at.overflow_add-count c).In-loop-value)
-
-pub overflow_add-i : goal.overflow_add-i
-overflow_add-i c =
-    omega (arith, inside (goal.at.overflow_add-i c).In-loop-value)
-
-pub loop-value-smaller : goal.loop-value-smaller
-loop-value-smaller c =
-    omega (arith, inside (goal.at.loop-value-smaller c).In-loop-value)
-
-pub loop-value-preserved : goal.loop-value-preserved
-loop-value-preserved c =
-    rw c.push-value.ensures (taking-turn _ _ _ _ _ c.loop-value.invariant (stands (goal.at.loop-value-preserved c).In-loop-value))
+pub returns-then-not-is_digit : goal.returns-then-not-is_digit
+returns-then-not-is_digit c =
+    let no = first-here c.in-Some.rest.now c.loop-count.count (omega arith) ∙ sym c.is_digit.ensures ∙ c.if-not-is_digit.true in
+    taking-done c.in-Some.rest.now c.loop-count.count c.loop-count.value c.loop-count.invariant no ∙ ap run_of (rest-is (goal.at.returns-then-not-is_digit c).In-Some)
 
 pub returns : goal.returns
 returns c =
-    taking-done _ _ _ _ _ c.loop-value.invariant (sym c.digit_at.ensures ∙ c.loop-value-test.false)
+    let end : ◌≡◌ {A = ℕ} c.loop-count.count (length c.in-Some.rest.now) = omega arith in
+    ap (λ (n : ℕ). record { value = c.loop-count.value; count = n }) (sym end)
+    ∙ taking-all c.in-Some.rest.now c.loop-count.count c.loop-count.value c.loop-count.invariant (omega arith)
+    ∙ ap run_of (rest-is (goal.at.returns c).In-Some)

@@ -2,12 +2,13 @@
 -- Assumes nothing.
 use Prim.Native.Nat.{◌-◌}
 use lib.ListN.{length}
-use Rattle.feeding.specs.Feeding.{fed_at}
+use Rattle.feeding.specs.Feeding.{machine, taken_to}
 use Rattle.feeding.proofs.Following.{Run}
 use Rattle.feeding.proofs.feed.Given as goal
 
 abbrev pub invariant-loop-buffer : goal.invariant-loop-buffer
-invariant-loop-buffer l = Run l.chunk (fed_at l.initial.buffer l.initial.out l.initial.f).machine (fed_at l.buffer l.out l.f)
+invariant-loop-buffer g l =
+    Run l.chunk (machine l.initial.buffer l.initial.gathered l.initial.sheet) (taken_to (machine l.buffer l.gathered l.sheet) l.eaten)
 
 abbrev pub decreases-loop-buffer : goal.decreases-loop-buffer
-decreases-loop-buffer l = length l.chunk - l.f.eaten
+decreases-loop-buffer g l = length l.chunk - l.eaten

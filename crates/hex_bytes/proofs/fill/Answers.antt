@@ -1,6 +1,5 @@
 -- `hex_bytes::fill` meets its contract: each turn lays the byte of two digits down.
 -- Assumes nothing.
-use Prim.Native.Nat.{◌-◌}
 use mathlib.Core.Path.{refl}
 use native.Mathlib.Omega.{arith}
 use Rattle.lent.proofs.Copying.{copying-done}
@@ -20,18 +19,10 @@ byte_of-requires c =
     let pair = hex-pair c.args.text.now c.loop-i.i c.requires.hex c.loop-i-test.true in
     record { high = omega arith; low = omega arith }
 
-pub bounds-into-i : goal.bounds-into-i
-bounds-into-i c =
-    omega (arith, pair-bytes-length c.args.text.now, c.loop-i.invariant)
-
 pub loop-i-preserved : goal.loop-i-preserved
 loop-i-preserved c =
     filling-turn c.args.text.now c.args.into.now c.loop-i.into c.loop-i.i c.byte_of.result _ _ c.loop-i.invariant c.loop-i-test.true
     c.hex_value-high.ensures c.hex_value-low.ensures c.byte_of.ensures
-
-pub shape_of-into : goal.shape_of-into
-shape_of-into c =
-    c.loop-i.invariant.long
 
 pub returns : goal.returns
 returns c =

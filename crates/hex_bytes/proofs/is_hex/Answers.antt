@@ -2,21 +2,18 @@
 -- Assumes nothing.
 use mathlib.Core.Path.{sym, ◌∙◌}
 use native.Mathlib.Omega.{arith}
+use borrow.Author.Tests.{ne_eqb}
 use Rattle.hex_bytes.proofs.Taking.{hex-empty, hex-single, hex-odd, hex-even}
 use Rattle.hex_bytes.proofs.is_hex.Goals as goal
 
+pub returns-in-empty : goal.returns-in-empty
+returns-in-empty c = sym (hex-empty c.args.text.now (omega arith))
+
+pub returns-in-len1 : goal.returns-in-len1
+returns-in-len1 c = sym (hex-single c.args.text.now (omega arith))
+
 pub returns-then-text-eq0 : goal.returns-then-text-eq0
-returns-then-text-eq0 c =
-    sym (hex-empty c.args.text.now c.if-text-eq0.true)
+returns-then-text-eq0 c = c.all_hex_digits.ensures ∙ sym (hex-even c.args.text.now (omega arith) c.if-text-eq0.true)
 
-pub returns-then-text-eq1 : goal.returns-then-text-eq1
-returns-then-text-eq1 c =
-    sym (hex-single c.args.text.now c.if-text-eq1.true)
-
-pub returns-then-text-eq1-2 : goal.returns-then-text-eq1-2
-returns-then-text-eq1-2 c =
-    sym (hex-odd c.args.text.now (omega arith) c.if-text-eq1-2.true)
-
-pub returns : goal.returns
-returns c =
-    c.all_hex_digits.ensures ∙ sym (hex-even c.args.text.now (omega arith) (omega arith))
+pub returns-else-text-eq0 : goal.returns-else-text-eq0
+returns-else-text-eq0 c = ne_eqb _ 0 c.if-text-eq0.false ∙ sym (hex-odd c.args.text.now (omega arith) (omega arith))

@@ -1,9 +1,8 @@
 -- `hex_bytes::put_pairs` meets its contract: each turn lays the two digits of a byte down.
 -- Assumes nothing.
-use Prim.Native.Nat.{◌*◌, ◌-◌}
+use Prim.Native.Nat.{◌*◌}
 use mathlib.Core.Path.{refl}
 use native.Mathlib.Omega.{arith}
-use lib.ListN.{length-set}
 use Rattle.lent.proofs.Copying.{copying-done}
 use Rattle.hex_bytes.specs.Hex.{digit_pairs}
 use Rattle.hex_bytes.proofs.Pairs.{digit-pairs-length}
@@ -15,30 +14,10 @@ loop-i-init c =
     let long = digit-pairs-length c.args.bytes.now in
     record { room = omega (arith, c.requires); within = omega arith; long = refl; is = refl }
 
-pub lower_digit-requires : goal.lower_digit-requires
-lower_digit-requires c =
-    omega (arith, c.shared_slice_known-in-loop-i-1.given c.loop-i.i)
-
-pub bounds-part-i : goal.bounds-part-i
-bounds-part-i c =
-    omega (arith, c.loop-i.invariant)
-
-pub lower_digit-requires-in-loop-i : goal.lower_digit-requires-in-loop-i
-lower_digit-requires-in-loop-i c =
-    omega arith
-
-pub bounds-part-i-in-loop-i : goal.bounds-part-i-in-loop-i
-bounds-part-i-in-loop-i c =
-    simp length-set (omega (arith, c.loop-i.invariant))
-
 pub loop-i-preserved : goal.loop-i-preserved
 loop-i-preserved c =
     putting-turn c.args.bytes.now c.args.part.now c.loop-i.part c.loop-i.i _ _ c.loop-i.invariant c.loop-i-test.true
     c.lower_digit.ensures c.lower_digit-in-loop-i.ensures
-
-pub shape_of-part : goal.shape_of-part
-shape_of-part c =
-    c.loop-i.invariant.long
 
 pub returns : goal.returns
 returns c =

@@ -1,5 +1,6 @@
 -- `labels::label_count` meets its contract: the exact count is held to the bounds, and what stands for a longer one is above them as that is.
 -- Assumes nothing.
+use Rattle.std.specs.Prelude.{Err}
 use Rattle.std.proofs.lemmas.Bool.{not_from_false, not_from_true}
 use mathlib.Core.Path.{◌≡◌, refl, sym, ◌∙◌, ap}
 use mathlib.Core.Bool.{Bool, true, false}
@@ -19,7 +20,8 @@ use Rattle.labels.proofs.label_count.Goals as goal
 
 pub returns-then-not-is_rate : goal.returns-then-not-is_rate
 returns-then-not-is_rate c =
-    sym (label_counted-out _ _ _ (fails c.is_rate.ensures (not_from_false _ c.if-not-is_rate.true)))
+    ap Err c.into.ensures
+    ∙ (sym (label_counted-out _ _ _ (fails c.is_rate.ensures (not_from_false _ c.if-not-is_rate.true))))
 
 -- what is answered is held as the count is
 held_same : (rate : ℕ) (minus : Bool) (fields : List ℕ) → is_rate rate ≡ true

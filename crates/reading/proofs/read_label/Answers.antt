@@ -1,5 +1,6 @@
 -- `reading::read_label` meets its contract: a dropped label is refused, and any other has its count at the rate.
 -- Assumes nothing.
+use Rattle.std.specs.Prelude.{Err}
 use Prim.Native.Nat.{ℕ}
 use mathlib.Core.Path.{◌≡◌, sym, ap, ◌∙◌}
 use Rattle.rates.specs.Rates.{drop_frames}
@@ -18,7 +19,8 @@ told c =
 
 pub returns-then-is_dropped : goal.returns-then-is_dropped
 returns-then-is_dropped c =
-    sym (label-dropped c.args.rate c.args.minus c.args.fields (sym (told (goal.at.returns-then-is_dropped c).After-is_dropped) ∙ c.if-is_dropped.true))
+    ap Err c.into.ensures
+    ∙ (sym (label-dropped c.args.rate c.args.minus c.args.fields (sym (told (goal.at.returns-then-is_dropped c).After-is_dropped) ∙ c.if-is_dropped.true)))
 
 pub returns : goal.returns
 returns c =

@@ -1,24 +1,29 @@
--- `reasons::footage_fact` meets its contract: each arm is the definition by the number that led there.
+-- `reasons::footage_fact` meets its contract: each arm is the definition by the number of the cause that led there.
 -- Assumes nothing.
-use native.Mathlib.Omega.{arith}
 use mathlib.Core.Path.{sym, ap, ◌∙◌}
+use Rattle.answers.specs.Causes.{cause_number}
 use Rattle.faults.specs.Faults.{count_fault}
 use Rattle.reasons.specs.Facts.{limit_from}
-use Rattle.reasons.proofs.Facts.{footage-five, footage-thirteen, footage-none}
+use Rattle.reasons.proofs.Facts.{footage-five, footage-thirteen, footage-none, number_apart}
 use Rattle.reasons.proofs.footage_fact.Goals as goal
 
-pub returns-in-5 : goal.returns-in-5
-returns-in-5 c =
+pub returns-in-OutOfBounds : goal.returns-in-OutOfBounds
+returns-in-OutOfBounds c =
+    let s = c.args.scan in
     c.limit_from.ensures
-    ∙ ap limit_from (c.count_fault.ensures ∙ ap (count_fault c.args.minus) c.footage_frames.ensures)
-    ∙ sym (footage-five c.args.number c.args.format c.args.minus c.args.feet c.args.frames c.args.perf c.args.marker (omega arith))
+    ∙ ap limit_from (c.count_fault.ensures ∙ ap (count_fault s.minus) c.footage_frames-frames.ensures)
+    ∙ sym (footage-five (cause_number c.args.cause) c.args.format s.minus s.feet s.frames s.perf s.marker (ap cause_number c.in-OutOfBounds.is))
 
-pub returns-in-13 : goal.returns-in-13
-returns-in-13 c =
-    c.limit_from-in-13.ensures
+pub returns-in-NotOnFilm : goal.returns-in-NotOnFilm
+returns-in-NotOnFilm c =
+    let s = c.args.scan in
+    c.limit_from-in-NotOnFilm.ensures
     ∙ ap limit_from c.film_fault.ensures
-    ∙ sym (footage-thirteen c.args.number c.args.format c.args.minus c.args.feet c.args.frames c.args.perf c.args.marker (omega arith))
+    ∙ sym (footage-thirteen (cause_number c.args.cause) c.args.format s.minus s.feet s.frames s.perf s.marker (ap cause_number c.in-NotOnFilm.is))
 
 pub returns-in_default : goal.returns-in_default
 returns-in_default c =
-    sym (footage-none c.args.number c.args.format c.args.minus c.args.feet c.args.frames c.args.perf c.args.marker (λ e. absurd (omega arith)) (λ e. absurd (omega arith)))
+    let s = c.args.scan in
+    sym (footage-none (cause_number c.args.cause) c.args.format s.minus s.feet s.frames s.perf s.marker
+    (number_apart c.args.cause 5 c.in_default.not-OutOfBounds)
+    (number_apart c.args.cause 13 c.in_default.not-NotOnFilm))

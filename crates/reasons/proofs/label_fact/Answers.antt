@@ -1,31 +1,36 @@
--- `reasons::label_fact` meets its contract: each arm is the definition by the number that led there.
+-- `reasons::label_fact` meets its contract: each arm is the definition by the number of the cause that led there.
 -- Assumes nothing.
+use Rattle.std.specs.Prelude.{Some}
 use Prim.Native.Nat.{ℕ}
-use native.Mathlib.Omega.{arith}
 use mathlib.Core.Path.{sym, ap, ◌∙◌}
+use Rattle.answers.specs.Causes.{cause_number}
 use Rattle.faults.specs.Faults.{count_fault}
+use Rattle.label_writer.specs.declared.TimecodeSections.{TimecodeSections}
 use Rattle.reasons.specs.declared.Fact.TheVariants.{First}
 use Rattle.reasons.specs.Facts.{limit_from, first_label}
-use Rattle.reasons.proofs.Facts.{label-three, label-five, label-fourteen, label_none}
+use Rattle.reasons.proofs.Facts.{label-three, label-five, label-fourteen, label_none, number_apart}
 use Rattle.reasons.proofs.label_fact.Goals as goal
 
-pub returns-in-3 : goal.returns-in-3
-returns-in-3 c =
-    ap First (c.first_label.ensures ∙ ap (λ (d : ℕ). first_label d c.args.minus c.args.fields) c.drop_frames_per_minute.ensures)
-    ∙ sym (label-three c.args.number c.args.rate c.args.minus c.args.fields (omega arith))
+pub returns-in-DroppedLabel : goal.returns-in-DroppedLabel
+returns-in-DroppedLabel c =
+    ap (λ (s : TimecodeSections). Some (First s)) (c.first_label.ensures ∙ ap (λ (d : ℕ). first_label d c.args.scan.minus c.args.scan.fields) c.drop_frames_per_minute-d.ensures)
+    ∙ sym (label-three (cause_number c.args.cause) c.args.rate c.args.scan.minus c.args.scan.fields (ap cause_number c.in-DroppedLabel.is))
 
-pub returns-in-5 : goal.returns-in-5
-returns-in-5 c =
+pub returns-in-OutOfBounds : goal.returns-in-OutOfBounds
+returns-in-OutOfBounds c =
     c.limit_from.ensures
-    ∙ ap limit_from (c.count_fault.ensures ∙ ap (count_fault c.args.minus) c.label_frames.ensures)
-    ∙ sym (label-five c.args.number c.args.rate c.args.minus c.args.fields (omega arith))
+    ∙ ap limit_from (c.count_fault.ensures ∙ ap (count_fault c.args.scan.minus) c.label_frames-frames.ensures)
+    ∙ sym (label-five (cause_number c.args.cause) c.args.rate c.args.scan.minus c.args.scan.fields (ap cause_number c.in-OutOfBounds.is))
 
-pub returns-in-14 : goal.returns-in-14
-returns-in-14 c =
-    c.limit_from-in-14.ensures
+pub returns-in-NotStrict : goal.returns-in-NotStrict
+returns-in-NotStrict c =
+    c.limit_from-in-NotStrict.ensures
     ∙ ap limit_from c.position_fault.ensures
-    ∙ sym (label-fourteen c.args.number c.args.rate c.args.minus c.args.fields (omega arith))
+    ∙ sym (label-fourteen (cause_number c.args.cause) c.args.rate c.args.scan.minus c.args.scan.fields (ap cause_number c.in-NotStrict.is))
 
 pub returns-in_default : goal.returns-in_default
 returns-in_default c =
-    sym (label_none c.args.number c.args.rate c.args.minus c.args.fields (λ e. absurd (omega arith)) (λ e. absurd (omega arith)) (λ e. absurd (omega arith)))
+    sym (label_none (cause_number c.args.cause) c.args.rate c.args.scan.minus c.args.scan.fields
+    (number_apart c.args.cause 3 c.in_default.not-DroppedLabel)
+    (number_apart c.args.cause 5 c.in_default.not-OutOfBounds)
+    (number_apart c.args.cause 14 c.in_default.not-NotStrict))

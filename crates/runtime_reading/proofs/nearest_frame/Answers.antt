@@ -1,5 +1,6 @@
 -- `runtime_reading::nearest_frame` meets its contract: a long time is beyond the bounds, and of any other both terms of the exact value fit.
 -- Assumes nothing.
+use Rattle.std.specs.Prelude.{Err}
 use mir.Syntax.{w64}
 use mathlib.Core.Path.{◌≡◌, sym, ap, ap₂, ◌∙◌}
 use Prim.Native.Nat.{ℕ, ◌*◌, ◌<◌}
@@ -36,7 +37,8 @@ overflow_add-seconds-2 c =
 
 pub returns-then-seconds-gt-MOST_RUNTIME : goal.returns-then-seconds-gt-MOST_RUNTIME
 returns-then-seconds-gt-MOST_RUNTIME c =
-    sym (held-beyond c.args.rate c.args.minus (whole_seconds c.args.fields) (time_in c.args.fields c.args.millionths) c.requires.rate (omega arith) c.if-seconds-gt-MOST_RUNTIME.true)
+    ap Err c.into.ensures
+    ∙ (sym (held-beyond c.args.rate c.args.minus (whole_seconds c.args.fields) (time_in c.args.fields c.args.millionths) c.requires.rate (omega arith) c.if-seconds-gt-MOST_RUNTIME.true))
 
 -- the row's numbers
 numerator-is : (c : After-row-row) → c.row-row.result.numerator ≡ (rate_row c.args.rate).numerator

@@ -3,8 +3,8 @@
 use Rattle.runtime_writer.proofs.Fraction.{Dropping}
 use Rattle.runtime_writer.proofs.shortest.Given as goal
 
-abbrev pub invariant-loop-w : goal.invariant-loop-w
-invariant-loop-w l = Dropping l.k l.n l.w l.v
+abbrev pub invariant-loop-tail : goal.invariant-loop-tail
+invariant-loop-tail l = Dropping l.k l.n l.tail.width l.tail.value
 
-abbrev pub decreases-loop-w : goal.decreases-loop-w
-decreases-loop-w l = l.w
+abbrev pub decreases-loop-tail : goal.decreases-loop-tail
+decreases-loop-tail l = l.tail.width

@@ -21,10 +21,10 @@ overflow_mul-f c =
 
 pub overflow_mul-f-2 : goal.overflow_mul-f-2
 overflow_mul-f-2 c =
-    rw c.power_of_ten-unit.ensures
+    rw c.pow.ensures
     (record { fits = omega (arith, units-most c.args.f _ c.args.precision c.requires.count (den (goal.at.overflow_mul-f-2 c).After-row-row) c.requires.precision) })
 
 pub returns : goal.returns
 unfolding runtime_units
 returns c =
-    c.nearest.ensures ∙ ap₂ (λ r u. nearest_n (c.args.f * r.denominator * u) r.numerator) c.row-row.ensures c.power_of_ten-unit.ensures
+    c.nearest.ensures ∙ ap₂ (λ r u. nearest_n (c.args.f * r.denominator * u) r.numerator) c.row-row.ensures c.pow.ensures

@@ -9,8 +9,8 @@ use Rattle.shot_writer.specs.ListText.{measured_of}
 use Rattle.shot_writer.proofs.Measuring.{measured}
 use Rattle.shot_writer.proofs.measure.Given as goal
 
-abbrev pub invariant-loop-at : goal.invariant-loop-at
-invariant-loop-at l = (l.n ≤ 3 * l.at) × Going in_numbers l.given (measured_of (read_of in_numbers l.given)) (measured l.n) l.at l.held
+abbrev pub invariant-loop-record : goal.invariant-loop-record
+invariant-loop-record l = (l.n ≤ 3 * l.at) × Going in_numbers l.given (measured_of (read_of in_numbers l.given)) (measured l.n) l.at l.held
 
-abbrev pub decreases-loop-at : goal.decreases-loop-at
-decreases-loop-at l = length l.given - l.at
+abbrev pub decreases-loop-record : goal.decreases-loop-record
+decreases-loop-record l = length l.given - l.at

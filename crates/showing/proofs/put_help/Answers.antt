@@ -5,5 +5,4 @@ use Rattle.showing.proofs.put_help.Goals as goal
 
 pub returns : goal.returns
 unfolding help_text
-returns c =
-    record { answer = c.put_text.ensures.answer; sheet = c.put_text.ensures.sheet }
+returns g c = c.put_text.ensures

@@ -1,29 +1,28 @@
--- `time::seconds` meets its contract: what is admitted has the seconds of its instant, and what is refused is refused.
+-- `time::seconds` meets its contract: what is admitted has the seconds of its instant.
 -- Assumes nothing.
+use Rattle.std.specs.Prelude.{Ok}
 use Prim.Native.Nat.{ℕ}
-use mathlib.Core.Path.{◌≡◌, sym, ◌∙◌, ap, subst}
+use mathlib.Core.Path.{◌≡◌, sym, ◌∙◌, subst}
 use native.Mathlib.Omega.{arith}
 use lib.IntN.{ℤ}
 use mir.Syntax.{w64}
 use mir.Val.{to_z, of_z}
 use mir.Facts.{to_z-of_z}
-use Rattle.answers.specs.declared.Verdict.TheVariants as verdict
 use Rattle.answers.specs.Order.{judged}
 use Rattle.answers.specs.OrderLaws.{judged-clear}
 use Rattle.timecodes.specs.Admitted.{admits, Valid}
 use Rattle.timecodes.specs.AdmittedLaws.{admits-valid}
 use Rattle.timecodes.specs.Instant.{instant}
 use Rattle.timecodes.specs.InstantLaws.{instant-abs-le, instant_in-valid}
-use Rattle.time.specs.declared.Timed.TheVariants.{Refused}
-use Rattle.time.specs.Seconds.{IsSeconds}
+use Rattle.time.specs.Seconds.{InSeconds}
 use Rattle.time.proofs.seconds.Goals as goal
-use Rattle.time.proofs.seconds.Goals.{After-instant_of, In-Passed}
+use Rattle.time.proofs.seconds.Goals.{After-instant_of, In_ok-admit}
 
-passed : (c : In-Passed) → judged (admits c.args.tc) ≡ verdict.Passed
+passed : (c : In_ok-admit) → judged (admits c.args.tc) ≡ (Ok tt)
 passed c =
-    sym c.admit.ensures ∙ c.in-Passed.is
+    sym c.admit.ensures ∙ c.in_ok-admit.was
 
-valid : (c : In-Passed) → Valid c.args.tc
+valid : (c : In_ok-admit) → Valid c.args.tc
 valid c =
     admits-valid c.args.tc (judged-clear (admits c.args.tc) (passed c))
 
@@ -34,21 +33,12 @@ ticks-is c =
 
 pub in_seconds-requires : goal.in_seconds-requires
 in_seconds-requires c =
-    rw (ticks-is c) (omega (arith, instant-abs-le _ (valid (goal.at.in_seconds-requires c).In-Passed)))
+    rw (ticks-is c) (omega (arith, instant-abs-le _ (valid (goal.at.in_seconds-requires c).In_ok-admit)))
 
-pub returns-in-Passed : goal.returns-in-Passed
-returns-in-Passed c =
-    let h = passed (goal.at.returns-in-Passed c).In-Passed in
+pub returns : goal.returns
+returns c =
+    let h = passed (goal.at.returns c).In_ok-admit in
     record {
       refused = λ e k. let clash : ◌≡◌ {A = ℕ} 0 1 = cc in absurd (omega arith);
-      seconds = λ k. subst (λ (t : ℤ). IsSeconds t c.in_seconds.result) (ticks-is (goal.at.returns-in-Passed c).After-instant_of) c.in_seconds.ensures;
-    }
-
-pub returns-in-Refused : goal.returns-in-Refused
-returns-in-Refused c =
-    let h : judged (admits c.args.tc) ≡ verdict.Refused _ =
-    sym c.admit.ensures ∙ c.in-Refused.is in
-    record {
-      refused = λ e k. let same : c.in-Refused.e ≡ e = cc in ap Refused same;
-      seconds = λ k. let clash : ◌≡◌ {A = ℕ} 0 1 = cc in absurd (omega arith);
+      seconds = λ k. subst (λ (t : ℤ). InSeconds t c.in_seconds.result.p c.in_seconds.result.q) (ticks-is (goal.at.returns c).After-instant_of) c.in_seconds.ensures;
     }

@@ -1,9 +1,6 @@
 -- `asking::recorded::records` meets its contract: what is wanted from here is what is wanted from the start.
 -- Assumes nothing.
-use Prim.Native.Nat.{◌-◌}
 use mathlib.Core.Path.{◌≡◌, sym, ap, ◌∙◌}
-use native.Mathlib.Omega.{arith}
-use lib.ListN.{length-set}
 use borrow.Author.Rules.{rules}
 use mir.Syntax.{w64}
 use mir.Val.{to_z, of_z}
@@ -11,46 +8,22 @@ use Rattle.asking.specs.RecordWords.{due_behind}
 use Rattle.asking.proofs.Recording.{recording-start, recording-other, recording-full, recording-turn}
 use Rattle.outcomes.proofs.Clauses.{answer_list}
 use Rattle.asking.proofs.recorded.records.Goals as goal
-use Rattle.asking.proofs.recorded.records.Goals.{In-Number}
+use Rattle.asking.proofs.recorded.records.Goals.{else-loop-n-test, then-loop-n-test+in_default}
 
 pub loop-n-init : goal.loop-n-init
-loop-n-init c =
-    recording-start _ _ _
-
-pub enum_told-1 : goal.enum_told-1
-enum_told-1 c =
-    search rules
-
-pub shape_of-list-in_default : goal.shape_of-list-in_default
-shape_of-list-in_default c =
-    c.loop-n.invariant.long
-
-pub returns-in_default : goal.returns-in_default
-returns-in_default c =
-    answer_list
-    (recording-other _ _ _ _ _ _ _ c.loop-n.invariant _ c.is_done.ensures
-    (sym c.next_at-w.ensures ∙ c.in_default.is))
-
-pub loop-n-smaller : goal.loop-n-smaller
-loop-n-smaller c =
-    simp length-set (omega arith)
-
--- the number, read back
-back : (c : In-Number) → to_z w64 (of_z w64 c.in-Number.z) ≡ c.in-Number.z
-back c =
-    search rules
+loop-n-init c = recording-start _ _ _
 
 pub loop-n-preserved : goal.loop-n-preserved
 loop-n-preserved c =
-    rw (back (goal.at.loop-n-preserved c).In-Number)
-    (recording-turn _ _ _ _ _ _ _ c.loop-n.invariant _ _ _ c.loop-n-test.true
-    (sym c.next_at-w.ensures ∙ c.in-Number.is) (c.due_behind-due.ensures ∙ ap (due_behind _) (back (goal.at.loop-n-preserved c).In-Number)))
-
-pub shape_of-list : goal.shape_of-list
-shape_of-list c =
-    c.loop-n.invariant.long
+    let back : to_z w64 (of_z w64 c.in-Some.w.number) ≡ c.in-Some.w.number = search rules in
+    rw back
+    (recording-turn _ _ _ _ _ _ _ c.loop-n.invariant c.in-Some.w.number c.in-Some.w.next _ c.loop-n-test.true
+    (sym c.next_at.ensures ∙ c.in-Some.is) (c.due_behind-due.ensures ∙ ap (due_behind _) back))
 
 pub returns : goal.returns
 returns c =
-    answer_list
-    (recording-full _ _ _ _ _ _ _ c.loop-n.invariant _ c.is_done-2.ensures c.loop-n-test.false)
+    elim c.loop-n-test.branch [
+      | else-loop-n-test w ↦ answer_list (recording-full _ _ _ _ _ _ _ c.loop-n.invariant _ c.is_done.ensures w.loop-n-test.false)
+      | then-loop-n-test+in_default w ↦
+          answer_list (recording-other _ _ _ _ _ _ _ c.loop-n.invariant _ c.is_done.ensures (sym w.next_at.ensures ∙ w.in_default.is))
+    ]

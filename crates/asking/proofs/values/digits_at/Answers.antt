@@ -8,21 +8,21 @@ use Rattle.asking.proofs.values.digits_at.Goals as goal
 
 pub returns-then-n-eq0 : goal.returns-then-n-eq0
 returns-then-n-eq0 c =
-    digits-none _ _ _ (ap (λ z. z.count) c.run_at-run.ensures ∙ run-count _) _ c.if-n-eq0.true
+    digits-none _ _ _ (ap (λ z. z.count) c.run_at-n.ensures ∙ run-count _) _ c.if-n-eq0.true
 
 pub overflow_add-end : goal.overflow_add-end
 overflow_add-end c =
-    omega (arith, digits-within c.args.line.now c.args.at _ (ap (λ z. z.count) c.run_at-run.ensures ∙ run-count _) c.if-n-eq0.false)
+    omega (arith, digits-within c.args.line.now c.args.at _ (ap (λ z. z.count) c.run_at-n.ensures ∙ run-count _) c.if-n-eq0.false)
 
 pub slice_bounds-magnitude-end : goal.slice_bounds-magnitude-end
 slice_bounds-magnitude-end c =
-    digits-within _ _ _ (ap (λ z. z.count) c.run_at-run.ensures ∙ run-count _) c.if-n-eq0.false
+    digits-within _ _ _ (ap (λ z. z.count) c.run_at-n.ensures ∙ run-count _) c.if-n-eq0.false
 
 pub magnitude-requires : goal.magnitude-requires
 magnitude-requires c =
-    part-digits _ _ _ (ap (λ z. z.count) c.run_at-run.ensures ∙ run-count _)
+    part-digits _ _ _ (ap (λ z. z.count) c.run_at-n.ensures ∙ run-count _)
 
 pub returns : goal.returns
 returns c =
     c.signed.ensures
-    ∙ digits-some _ _ _ (ap (λ z. z.count) c.run_at-run.ensures ∙ run-count _) _ _ c.if-n-eq0.false c.magnitude.ensures
+    ∙ digits-some _ _ _ (ap (λ z. z.count) c.run_at-n.ensures ∙ run-count _) _ _ c.if-n-eq0.false c.magnitude.ensures

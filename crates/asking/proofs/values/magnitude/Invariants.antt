@@ -1,12 +1,7 @@
 -- What each turn of the loop keeps, and what gets smaller.
 -- Assumes nothing.
-use Prim.Native.Nat.{◌-◌}
-use lib.ListN.{length}
 use Rattle.asking.proofs.NumberLaws.{Valuing}
 use Rattle.asking.proofs.values.magnitude.Given as goal
 
-abbrev pub invariant-loop-i : goal.invariant-loop-i
-invariant-loop-i l = Valuing l.d l.m l.i
-
-abbrev pub decreases-loop-i : goal.decreases-loop-i
-decreases-loop-i l = length l.d - l.i
+abbrev pub invariant-loop-b : goal.invariant-loop-b
+invariant-loop-b l = Valuing l.d l.m l.b-index

@@ -2,14 +2,14 @@
 -- Assumes nothing.
 use mathlib.Core.Path.{ap, ◌∙◌}
 use native.Mathlib.Omega.{arith}
+use lib.ListN.{length-take}
 use Rattle.asking.specs.Table.{row_named}
 use Rattle.asking.specs.Asked.{words_from, no_values}
 use Rattle.asking.proofs.Taken.{word-within, word-part, part-plain, asked-known, asked-unknown}
 use Rattle.asking.proofs.words.understand.Goals as goal
 
 pub slice_bounds-row_named-end : goal.slice_bounds-row_named-end
-slice_bounds-row_named-end c =
-    omega (arith, c.word_end-end.ensures, word-within c.args.line.now)
+slice_bounds-row_named-end c = simp length-take (omega (arith, c.word_end-end.ensures, word-within c.args.line.now))
 
 pub row_named-row-requires : goal.row_named-row-requires
 row_named-row-requires c =

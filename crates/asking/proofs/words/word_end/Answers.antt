@@ -1,21 +1,16 @@
--- `asking::words::word_end` meets its contract: no space stands before.
+-- `asking::words::word_end` meets its contract: the place of the first space, or the line's end.
 -- Assumes nothing.
-use Prim.Native.Nat.{◌-◌}
-use Rattle.asking.proofs.Taken.{ending-start, ending-found, ending-turn, ending-none}
+use Rattle.std.proofs.Common.{ℕ, ◌==◌, length, sym, ◌∙◌, arith, rules}
+use Rattle.std.proofs.lemmas.List.Sums.{position_or_len_is}
+use Rattle.asking.proofs.Taken.{first-space}
 use Rattle.asking.proofs.words.word_end.Goals as goal
 
-pub loop-i-init : goal.loop-i-init
-loop-i-init c =
-    ending-start _
+pub returns-in-Some : goal.returns-in-Some
+returns-in-Some c =
+    let line = c.args.line.now in
+    sym (position_or_len_is (λ (b : ℕ). b == 32) line c.in-Some.end 0 (search rules) (search rules) (search rules)) ∙ first-space line
 
-pub returns-then-line-i-eq32 : goal.returns-then-line-i-eq32
-returns-then-line-i-eq32 c =
-    ending-found _ _ c.loop-i.invariant c.loop-i-test.true c.if-line-i-eq32.true
-
-pub loop-i-preserved : goal.loop-i-preserved
-loop-i-preserved c =
-    ending-turn _ _ c.loop-i.invariant c.loop-i-test.true c.if-line-i-eq32.false
-
-pub returns : goal.returns
-returns c =
-    ending-none _ _ c.loop-i.invariant c.loop-i-test.false
+pub returns-in-None : goal.returns-in-None
+returns-in-None c =
+    let line = c.args.line.now in
+    sym (position_or_len_is (λ (b : ℕ). b == 32) line (length line) 0 (omega arith) (search rules) (search rules)) ∙ first-space line

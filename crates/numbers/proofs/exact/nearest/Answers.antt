@@ -2,18 +2,10 @@
 -- Assumes nothing.
 use mathlib.Core.Path.{sym}
 use Prim.Native.Nat.{◌+◌, ◌/◌}
-use native.Mathlib.Nat.{div-add-mod', mod-lt, le-mul_of_pos_right}
+use native.Mathlib.Nat.{div-add-mod', mod-lt}
 use native.Mathlib.Omega.{arith}
 use Rattle.numbers.specs.NearestLaws.{near-is}
 use Rattle.numbers.proofs.exact.nearest.Goals as goal
-
-pub overflow_sub-n : goal.overflow_sub-n
-overflow_sub-n c =
-    omega (arith, mod-lt c.args.a c.requires)
-
-pub overflow_add-result : goal.overflow_add-result
-overflow_add-result c =
-    omega (arith, div-add-mod' c.args.a c.args.n, le-mul_of_pos_right (c.args.a / c.args.n) c.requires, mod-lt c.args.a c.requires)
 
 pub returns-then-n-r : goal.returns-then-n-r
 returns-then-n-r c =

@@ -3,17 +3,12 @@
 use mathlib.Core.Path.{sym, ap, ◌∙◌}
 use mathlib.Core.Bool.{Bool}
 use Prim.Native.Nat.{◌%◌, ◌<◌}
-use native.Mathlib.Nat.{mod-lt}
 use native.Mathlib.Omega.{arith}
 use Rattle.numbers.specs.Sign.{signed}
 use Rattle.numbers.specs.Modulo.{reduced_z}
 use Rattle.numbers.specs.ModuloLaws.{reduced-plain, reduced-below, reduced-whole}
 use Rattle.numbers.proofs.exact.reduced.Goals as goal
 use Rattle.numbers.proofs.exact.reduced.Goals.{Else-r-eq0}
-
-pub overflow_sub-result : goal.overflow_sub-result
-overflow_sub-result c =
-    omega (arith, mod-lt c.args.m c.requires)
 
 pub returns-then-r-eq0 : goal.returns-then-r-eq0
 returns-then-r-eq0 c =

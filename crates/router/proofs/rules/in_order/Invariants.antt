@@ -1,13 +1,12 @@
--- What each turn of the loop keeps, and what gets smaller.
+-- What each turn of the loop keeps: what is wanted of all shards is what is wanted of those that are left.
 -- Assumes nothing.
-use Prim.Native.Nat.{◌-◌, ◌≤◌}
-use lib.ListN.{length, drop}
-use Rattle.router.specs.Directory.{in_order}
 use mathlib.Core.Path.{◌≡◌}
+use lib.ListN.{length}
+use Rattle.router.specs.Directory.{in_order}
 use Rattle.router.proofs.rules.in_order.Given as goal
 
-abbrev pub invariant-loop-i : goal.invariant-loop-i
-invariant-loop-i l = (l.i ≤ length l.firsts) × (length l.firsts ≡ length l.ends) × (in_order l.day 0 l.firsts l.ends ≡ in_order l.day l.low (drop l.i l.firsts) (drop l.i l.ends))
-
-abbrev pub decreases-loop-i : goal.decreases-loop-i
-decreases-loop-i l = length l.firsts - l.i
+abbrev pub invariant-loop-first : goal.invariant-loop-first
+invariant-loop-first l =
+    let firsts = l.first-iterator.a.rest.now in
+    let ends = l.first-iterator.b.rest.now in
+    (length firsts ≡ length ends) × (in_order l.day 0 l.firsts l.ends ≡ in_order l.day l.low firsts ends)

@@ -1,15 +1,10 @@
 -- `routing::entries::past_blanks` meets its contract: what is left behind the blanks from here is what is left behind them from the start.
 -- Assumes nothing.
 use Rattle.std.proofs.lemmas.Bool.{not_from_false, not_from_true}
-use Prim.Native.Nat.{◌-◌}
-use mathlib.Core.Path.{refl, sym, ◌∙◌}
+use mathlib.Core.Path.{sym, ◌∙◌}
 use borrow.Author.Tests.{not-true, not-false}
 use Rattle.routing.proofs.Reading.{blanks-turn, blanks-stop, blanks-end}
 use Rattle.routing.proofs.entries.past_blanks.Goals as goal
-
-pub loop-i-init : goal.loop-i-init
-loop-i-init c =
-    refl
 
 pub returns-then-not-is_blank : goal.returns-then-not-is_blank
 returns-then-not-is_blank c =

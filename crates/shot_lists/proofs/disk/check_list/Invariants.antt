@@ -8,8 +8,8 @@ use Rattle.shot_lists.specs.Walk.{Going}
 use Rattle.shot_lists.proofs.Counting.{counted}
 use Rattle.shot_lists.proofs.disk.check_list.Given as goal
 
-abbrev pub invariant-loop-at : goal.invariant-loop-at
-invariant-loop-at l = (l.n ≤ l.at) × Going on_disk l.list (checked_of (read_of on_disk l.list)) (counted l.n) l.at l.held
+abbrev pub invariant-loop-record : goal.invariant-loop-record
+invariant-loop-record l = (l.n ≤ l.at) × Going on_disk l.list (checked_of (read_of on_disk l.list)) (counted l.n) l.at l.held
 
-abbrev pub decreases-loop-at : goal.decreases-loop-at
-decreases-loop-at l = length l.list - l.at
+abbrev pub decreases-loop-record : goal.decreases-loop-record
+decreases-loop-record l = length l.list - l.at

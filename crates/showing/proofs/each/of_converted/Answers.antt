@@ -4,10 +4,10 @@ use mathlib.Core.Path.{sym, ap, ◌∙◌}
 use Rattle.showing.specs.Each.{of_converted}
 use Rattle.showing.proofs.each.of_converted.Goals as goal
 
-pub returns-in-At : goal.returns-in-At
-returns-in-At c =
-    c.count_and.ensures ∙ sym (ap of_converted c.in-At.is)
+pub returns-in-Ok : goal.returns-in-Ok
+returns-in-Ok c =
+    c.count_and.ensures ∙ sym (ap of_converted c.in-Ok.is)
 
-pub returns-in-Refused : goal.returns-in-Refused
-returns-in-Refused c =
-    c.of_refusal.ensures ∙ sym (ap of_converted c.in-Refused.is)
+pub returns-in-Err : goal.returns-in-Err
+returns-in-Err c =
+    c.of_refusal.ensures ∙ sym (ap of_converted c.in-Err.is)

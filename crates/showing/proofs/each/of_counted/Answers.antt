@@ -6,16 +6,16 @@ use mathlib.Core.Path.{◌≡◌, sym, ap, ◌∙◌}
 use borrow.Author.Rules.{rules}
 use Rattle.showing.specs.Each.{one_number, of_counted}
 use Rattle.showing.proofs.each.of_counted.Goals as goal
-use Rattle.showing.proofs.each.of_counted.Goals.{In-Count}
+use Rattle.showing.proofs.each.of_counted.Goals.{In-Ok}
 
-back : (c : In-Count) → to_z w64 (of_z w64 c.in-Count.z) ≡ c.in-Count.z
+back : (c : In-Ok) → to_z w64 (of_z w64 c.in-Ok.z) ≡ c.in-Ok.z
 back c =
     search rules
 
-pub returns-in-Count : goal.returns-in-Count
-returns-in-Count c =
-    c.one_number.ensures ∙ ap (one_number 0) (back (goal.at.returns-in-Count c).In-Count) ∙ sym (ap of_counted c.in-Count.is)
+pub returns-in-Ok : goal.returns-in-Ok
+returns-in-Ok c =
+    c.one_number.ensures ∙ ap (one_number 0) (back (goal.at.returns-in-Ok c).In-Ok) ∙ sym (ap of_counted c.in-Ok.is)
 
-pub returns-in-Refused : goal.returns-in-Refused
-returns-in-Refused c =
-    c.of_refusal.ensures ∙ sym (ap of_counted c.in-Refused.is)
+pub returns-in-Err : goal.returns-in-Err
+returns-in-Err c =
+    c.of_refusal.ensures ∙ sym (ap of_counted c.in-Err.is)

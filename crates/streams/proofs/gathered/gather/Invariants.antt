@@ -1,12 +1,9 @@
--- What each turn of the loop keeps, and what gets smaller.
+-- What each turn of the loop keeps, and how far it goes.
 -- Assumes nothing.
-use Prim.Native.Nat.{◌-◌}
+use Prim.Native.Nat.{◌≤◌, max}
 use lib.ListN.{length}
 use Rattle.streams.proofs.Gathering.{Running}
 use Rattle.streams.proofs.gathered.gather.Given as goal
 
 abbrev pub invariant-loop-i : goal.invariant-loop-i
-invariant-loop-i l = Running l.chunk l.from l.initial.buffer l.initial.h l.buffer l.h l.i
-
-abbrev pub decreases-loop-i : goal.decreases-loop-i
-decreases-loop-i l = length l.chunk - l.i
+invariant-loop-i l = record { running : Running l.chunk l.from l.initial.buffer l.initial.h l.buffer l.h l.i; end : l.i ≤ max l.from (length l.chunk) }

@@ -1,28 +1,17 @@
 -- `telling::pieces::put_caret` meets its contract: what is wanted is what the sheet has, with the spaces that are left.
 -- Assumes nothing.
-use Rattle.streams.specs.Sheet.{sheet}
-use Rattle.streams.proofs.Pieces.{leaves-same}
-use Rattle.telling.proofs.Lines.{spacing-start, spacing-turn, spacing-done}
-use borrow.Author.Rules.{rules}
-use Rattle.outcomes.proofs.Clauses.{answer_sheet}
+use Prim.Native.Nat.{◌-◌}
+use mathlib.Core.Path.{◌≡◌, ◌∙◌}
+use native.Mathlib.Omega.{arith}
+use Rattle.telling.proofs.Lines.{spacing-turn, spacing-done}
 use Rattle.telling.proofs.pieces.put_caret.Goals as goal
 
-pub loop-left-init : goal.loop-left-init
-loop-left-init c =
-    spacing-start _ _
+pub loop-init : goal.loop-init
+loop-init g c = let e : c.args.place - 0 ≡ c.args.place = omega arith in rw e
 
-pub loop-left-preserved : goal.loop-left-preserved
-loop-left-preserved c =
-    spacing-turn c.args.place (sheet c.args.out.now c.args.used) (sheet c.loop-left.out c.loop-left.u) c.loop-left.left c.loop-left.invariant _ _
-    c.loop-left-test.true (c.put_byte-u.ensures.answer, c.put_byte-u.ensures.sheet)
-
-pub shape_of-out : goal.shape_of-out
-shape_of-out c =
-    search rules
+pub loop-preserved : goal.loop-preserved
+loop-preserved g c =
+    spacing-turn c.args.place c.args.sheet.now c.loop.sheet c.loop.counter c.loop.invariant _ c.loop-test.true c.put_byte.ensures
 
 pub returns : goal.returns
-returns c =
-    answer_sheet
-    (leaves-same _ _ _ _
-    (spacing-done c.args.place (sheet c.args.out.now c.args.used) (sheet c.loop-left.out c.loop-left.u) c.loop-left.left c.loop-left.invariant c.loop-left-test.false)
-    (c.put_text.ensures.answer, c.put_text.ensures.sheet))
+returns g c = c.put_text.ensures ∙ spacing-done c.args.place c.args.sheet.now c.loop.sheet c.loop.counter c.loop.invariant c.loop-test.false

@@ -1,13 +1,7 @@
--- What each turn of the loop keeps, and what gets smaller.
+-- What each turn of the loop keeps: what is wanted is what the sheet has, with the bytes that are left.
 -- Assumes nothing.
-use Prim.Native.Nat.{◌-◌}
-use lib.ListN.{length}
-use Rattle.streams.specs.Sheet.{sheet}
 use Rattle.telling.proofs.Lines.{Showing}
 use Rattle.telling.proofs.pieces.put_shown.Given as goal
 
-abbrev pub invariant-loop-i : goal.invariant-loop-i
-invariant-loop-i l = Showing l.text (sheet l.initial.out l.used) (sheet l.out l.u) l.i
-
-abbrev pub decreases-loop-i : goal.decreases-loop-i
-decreases-loop-i l = length l.text - l.i
+abbrev pub invariant-loop-b : goal.invariant-loop-b
+invariant-loop-b g l = Showing l.text l.initial.sheet l.sheet l.b-index

@@ -1,32 +1,26 @@
 -- `telling::questions::format_at` meets its contract: a number, and a space behind it.
 -- Assumes nothing.
-use Rattle.std.proofs.lemmas.Bool.{not_from_false, not_from_true}
 use mathlib.Core.Path.{sym, ◌∙◌}
-use Prim.Native.Nat.{◌+◌}
 use native.Mathlib.Omega.{arith}
-use borrow.Author.Tests.{not-true, not-false}
-use Rattle.asking.proofs.NumberLaws.{stands-within}
 use Rattle.telling.proofs.WordLaws.{number-within, format-none, format-other, format-some}
 use Rattle.telling.proofs.questions.format_at.Goals as goal
+use Rattle.telling.proofs.questions.format_at.Goals.{else-is_number-via-then-is_number+else-stands, else-is_number-via-else-is_number}
 
-pub returns-then-not-is_number : goal.returns-then-not-is_number
-returns-then-not-is_number c =
-    format-none c.args.line.now c.args.at _ c.run_at-run.ensures c.args.o (sym c.is_number.ensures ∙ not-true _ (not_from_false _ c.if-not-is_number.true))
+pub overflow_add-at : goal.overflow_add-at
+overflow_add-at c =
+    omega (arith, number-within c.args.line.now c.args.at _ c.run_at-run.ensures (sym c.is_number.ensures ∙ c.if-is_number.true))
 
-pub overflow_add-next : goal.overflow_add-next
-overflow_add-next c =
-    omega (arith, number-within c.args.line.now c.args.at _ c.run_at-run.ensures (sym c.is_number.ensures ∙ not-false _ (not_from_true _ c.if-not-is_number.false)))
-
-pub returns-then-not-stands : goal.returns-then-not-stands
-returns-then-not-stands c =
-    format-other c.args.line.now c.args.at _ c.run_at-run.ensures c.args.o (sym c.is_number.ensures ∙ not-false _ (not_from_true _ c.if-not-is_number.false))
-    (sym c.stands.ensures ∙ not-true _ (not_from_false _ c.if-not-stands.true))
-
-pub overflow_add-result : goal.overflow_add-result
-overflow_add-result c =
-    omega (arith, stands-within c.args.line.now (c.args.at + c.run_at-run.result.count) 32 (sym c.stands.ensures ∙ not-false _ (not_from_true _ c.if-not-stands.false)))
+pub returns-then-stands : goal.returns-then-stands
+returns-then-stands c =
+    format-some c.args.line.now c.args.at _ c.run_at-run.ensures c.args.o (sym c.is_number.ensures ∙ c.if-is_number.true)
+    (sym c.stands.ensures ∙ c.if-stands.true)
 
 pub returns : goal.returns
 returns c =
-    format-some c.args.line.now c.args.at _ c.run_at-run.ensures c.args.o (sym c.is_number.ensures ∙ not-false _ (not_from_true _ c.if-not-is_number.false))
-    (sym c.stands.ensures ∙ not-false _ (not_from_true _ c.if-not-stands.false))
+    elim c.else-is_number.branch [
+      | else-is_number-via-then-is_number+else-stands w ↦
+          format-other c.args.line.now c.args.at _ c.run_at-run.ensures c.args.o (sym c.is_number.ensures ∙ w.if-is_number.true)
+          (sym w.stands.ensures ∙ w.if-stands.false)
+      | else-is_number-via-else-is_number w ↦
+          format-none c.args.line.now c.args.at _ c.run_at-run.ensures c.args.o (sym c.is_number.ensures ∙ w.if-is_number.false)
+    ]

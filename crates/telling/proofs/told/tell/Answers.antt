@@ -1,26 +1,29 @@
 -- `telling::told::tell` meets its contract: the phrase has room, and is told with the reader's answer.
 -- Assumes nothing.
-use mathlib.Core.Path.{refl, ◌∙◌}
-use Rattle.streams.specs.Sheet.{sheet}
-use Rattle.streams.proofs.Pieces.{pieces-same}
-use Rattle.telling.proofs.Telling.{never-refused, told-within, told-pieces, told-so}
-use Rattle.outcomes.proofs.Clauses.{answer_sheet}
+use mathlib.Core.Path.{refl, ap, ◌∙◌}
+use native.Mathlib.Omega.{arith}
+use lib.ListN.{length-take}
+use Rattle.streams.specs.Pieces.{all_on}
+use Rattle.telling.proofs.Telling.{never-refused, told-within, told-so}
 use Rattle.telling.proofs.told.tell.Goals as goal
 
-pub slice_bounds-put_reason-end : goal.slice_bounds-put_reason-end
-slice_bounds-put_reason-end c =
-    told-within c.from-kind.result c.args.text.now c.stated_in-stated.result c.args.way.rate _ refl _ c.why.ensures.answer _ c.in-Told.is _ c.why.ensures.line
+pub slice_bounds-line-end : goal.slice_bounds-line-end
+slice_bounds-line-end g c =
+    told-within c.args.way.options.kind c.args.text.now c.args.way.options.format c.args.way.rate _ refl _ c.why.ensures.answer _ c.in-Ok.is _ c.why.ensures.line
 
-pub returns-in-Told : goal.returns-in-Told
-returns-in-Told c =
-    answer_sheet
-    (pieces-same (sheet c.args.out.now c.args.used) _ _ _ _
-    (told-pieces c.from-kind.result c.args.text.now c.stated_in-stated.result c.args.way.rate _ refl _ c.why.ensures.answer _ c.in-Told.is _
-    c.why.ensures.line
-    ∙ told-so c.args.way c.args.text.now _ _ c.from-kind.ensures c.stated_in-stated.ensures)
-    (c.put_reason.ensures.answer, c.put_reason.ensures.sheet))
+pub slice_bounds-phrase-end : goal.slice_bounds-phrase-end
+slice_bounds-phrase-end g c =
+    omega (
+      arith,
+      length-take c.in-Ok.reason.length c.why.new.line,
+      told-within c.args.way.options.kind c.args.text.now c.args.way.options.format c.args.way.rate _ refl _ c.why.ensures.answer _ c.in-Ok.is _ c.why.ensures.line,
+    )
 
-pub returns-in-Refused : goal.returns-in-Refused
-returns-in-Refused c =
-    answer_sheet
-    (absurd (never-refused c.from-kind.result c.args.text.now c.stated_in-stated.result c.args.way.rate _ refl _ c.why.ensures.answer _ c.in-Refused.is))
+pub returns-in-Ok : goal.returns-in-Ok
+returns-in-Ok g c =
+    c.put_reason.ensures
+    ∙ ap (all_on c.args.sheet.now) (told-so c.args.way c.args.text.now _ _ _ _ refl c.why.ensures.answer c.in-Ok.is c.why.ensures.line)
+
+pub returns-in_default : goal.returns-in_default
+returns-in_default g c =
+    absurd (never-refused c.args.way.options.kind c.args.text.now c.args.way.options.format c.args.way.rate _ refl _ c.why.ensures.answer _ c.in_default.is)

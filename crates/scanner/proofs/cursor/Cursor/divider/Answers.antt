@@ -1,35 +1,27 @@
 -- `scanner::Cursor::divider` meets its contract: where no field may come and past the end none stands, and else the byte there decides.
 -- Assumes nothing.
-use mathlib.Core.Path.{◌≡◌, sym, ap, ◌∙◌}
-use mathlib.Core.Bool.{Bool, true, false}
-use Prim.Native.Nat.{ℕ}
-use lib.ListN.{drop, get_or}
+use Rattle.std.proofs.Common.{◌≡◌, ◌∙◌, sym, ap, arith, ℕ, ◌<◌, Bool, true, false, drop}
+use Rattle.scanner.specs.declared.fields.Dividers.{Dividers}
 use Rattle.scanner.specs.Scan.{divider_of, looked_for}
 use Rattle.scanner.proofs.Answers.{past-here, past_end, past-closed, looked-some}
 use Rattle.scanner.proofs.cursor.Cursor.divider.Goals as goal
-use Rattle.scanner.proofs.cursor.Cursor.divider.Goals.{After-divides}
-
-pub returns-then-left-eq0 : goal.returns-then-left-eq0
-returns-then-left-eq0 c =
-    past-closed (divider_of c.args.dividers) c.args.left c.args.self.at (drop c.args.self.at c.args.s.now) c.if-left-eq0.true
-
-pub returns-then-s-at : goal.returns-then-s-at
-returns-then-s-at c =
-    past_end (looked_for c.args.left (divider_of c.args.dividers)) c.args.s.now c.args.self.at c.if-s-at.true
+use Rattle.scanner.proofs.cursor.Cursor.divider.Goals.{else-left-gt0-via-then-left-gt0+then-at-s+else-divides, else-left-gt0-via-then-left-gt0+else-at-s, else-left-gt0-via-else-left-gt0}
 
 -- what the byte at the cursor is, it is as one that is looked for
-looked : (c : After-divides) (t : Bool) → c.divides.result ≡ t
-    → looked_for c.args.left (divider_of c.args.dividers)
-    (get_or c.args.s.now c.args.self.at 0) ≡ t
-looked c t e =
-    ap (λ (test : ℕ → Bool). test (get_or c.args.s.now c.args.self.at 0)) (looked-some c.args.left (divider_of c.args.dividers) c.if-left-eq0.false)
-    ∙ sym c.divides.ensures
-    ∙ e
+looked : (d : Dividers) (left b : ℕ) (r t : Bool) → 0 < left → r ≡ divider_of d b → r ≡ t → looked_for left (divider_of d) b ≡ t
+looked d left b r t h is e = ap (λ (test : ℕ → Bool). test b) (looked-some left (divider_of d) (λ z. omega arith)) ∙ sym is ∙ e
 
 pub returns-then-divides : goal.returns-then-divides
 returns-then-divides c =
-    past-here (looked_for c.args.left (divider_of c.args.dividers)) c.args.s.now c.args.self.at true c.if-s-at.false (looked (goal.at.returns-then-divides c).After-divides true c.if-divides.true)
+    past-here (looked_for c.args.left (divider_of c.args.dividers)) c.args.s.now c.args.self.at true c.if-at-s.true
+    (looked c.args.dividers c.args.left _ c.divides.result true c.if-left-gt0.true c.divides.ensures c.if-divides.true)
 
-pub returns : goal.returns
-returns c =
-    past-here (looked_for c.args.left (divider_of c.args.dividers)) c.args.s.now c.args.self.at false c.if-s-at.false (looked (goal.at.returns c).After-divides false c.if-divides.false)
+pub returns-else-left-gt0 : goal.returns-else-left-gt0
+returns-else-left-gt0 c =
+    elim c.else-left-gt0.branch [
+      | else-left-gt0-via-then-left-gt0+then-at-s+else-divides w ↦
+          past-here (looked_for c.args.left (divider_of c.args.dividers)) c.args.s.now c.args.self.at false w.if-at-s.true
+          (looked c.args.dividers c.args.left _ w.divides.result false w.if-left-gt0.true w.divides.ensures w.if-divides.false)
+      | else-left-gt0-via-then-left-gt0+else-at-s w ↦ past_end (looked_for c.args.left (divider_of c.args.dividers)) c.args.s.now c.args.self.at w.if-at-s.false
+      | else-left-gt0-via-else-left-gt0 w ↦ past-closed (divider_of c.args.dividers) c.args.left c.args.self.at (drop c.args.self.at c.args.s.now) (omega (arith, w.if-left-gt0.false))
+    ]

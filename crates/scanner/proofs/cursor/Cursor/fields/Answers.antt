@@ -1,6 +1,7 @@
 -- `scanner::Cursor::fields` meets its contract: with each turn a field more is kept, and what is found from the cursor on is the rest.
 -- Assumes nothing.
 use mathlib.Core.Path.{◌≡◌, refl, sym, ap, ◌∙◌}
+use native.Mathlib.Omega.{arith}
 use Rattle.scanner.specs.declared.fields.Scanned.{Scanned}
 use Rattle.scanner.specs.Fields.{none_taken, fields_found}
 use Rattle.scanner.proofs.Keeping.{keeping_start, keeping-over, keeping-missing, keeping-last, keeping-turn}
@@ -23,19 +24,23 @@ returns-then-field-eq0 c =
     ∙ keeping-missing c.args.dividers c.args.most c.args.s.now c.new-taken.result.next.at c.loop-left.taken c.loop-left.left c.loop-left.invariant
     c.loop-left-test.true c.field-field.result c.field-field.ensures c.if-field-eq0.true)
 
+pub keep-taken-requires : goal.keep-taken-requires
+keep-taken-requires c =
+    omega (arith, c.loop-left.invariant.room)
+
 pub returns-in_default : goal.returns-in_default
 returns-in_default c =
     sym
     (from_first (goal.at.returns-in_default c).After-new-taken
     ∙ keeping-last c.args.dividers c.args.most c.args.s.now c.new-taken.result.next.at c.loop-left.taken c.loop-left.left c.loop-left.invariant
     c.loop-left-test.true c.field-field.result c.field-field.ensures c.if-field-eq0.false c.keep-taken.result c.keep-taken.ensures
-    (sym c.in_default.is ∙ c.divider-divider.ensures))
+    c.in_default.ensures)
 
 pub loop-left-preserved : goal.loop-left-preserved
 loop-left-preserved c =
     keeping-turn c.args.dividers c.args.most c.args.s.now c.new-taken.result.next.at c.loop-left.taken c.loop-left.left c.loop-left.invariant
     c.loop-left-test.true c.field-field.result c.field-field.ensures c.if-field-eq0.false c.keep-taken.result c.keep-taken.ensures
-    c.in-Next.next (sym c.in-Next.is ∙ c.divider-divider.ensures) c.begin-taken.result c.begin-taken.ensures
+    c.in-Some.next c.in-Some.ensures c.begin-taken.result c.begin-taken.ensures
 
 pub returns : goal.returns
 returns c =

@@ -1,6 +1,0 @@
--- What gets smaller: the turns that are left.
--- Assumes nothing.
-use Rattle.ask.proofs.read_all.Given as goal
-
-abbrev pub decreases-loop-turns : goal.decreases-loop-turns
-decreases-loop-turns g l = l.turns

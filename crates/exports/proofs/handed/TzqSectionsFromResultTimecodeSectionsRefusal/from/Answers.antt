@@ -1,0 +1,14 @@
+-- `exports::TzqSectionsFromResultTimecodeSectionsRefusal::from` meets its contract: each arm gives the numbers of its case.
+-- Assumes nothing.
+use Rattle.exports.specs.Handed.{handed_sections}
+use Rattle.exports.proofs.handed.TzqSectionsFromResultTimecodeSectionsRefusal.from.Goals as goal
+
+pub returns-in-Ok : goal.returns-in-Ok
+unfolding handed_sections
+returns-in-Ok c =
+    simp c.in-Ok.is
+
+pub returns-in-Err : goal.returns-in-Err
+unfolding handed_sections
+returns-in-Err c =
+    simp (c.number_of.ensures, c.in-Err.is)
