@@ -44,7 +44,7 @@ pub(crate) fn whole(listed: Listed) -> Option<usize> {
 // What is shown of a command that writes no line of its own.
 fn shown(c: &Command) -> Option<Shown> {
     match c.row {
-        rows::HELP => Some(showing::only_word(b'h')),
+        rows::HELP => Some(Shown::Help),
         rows::READ | rows::READ_AS | rows::READ_RUNTIME => read::shown(c),
         rows::COUNT..=rows::REMQ => Some(work::shown(c)),
         rows::CONVERT => lists::converted(c),
@@ -68,6 +68,6 @@ fn put_answer(c: &Command, sheet: &mut Sheet<65536>) -> Option<()> {
 // The answer to a line that was kept whole.
 pub(crate) fn answer(line: &[u8], sheet: &mut Sheet<65536>) {
     if put_answer(&Command::of(line), sheet).is_none() {
-        showing::show(sheet, showing::only_word(b'?'));
+        showing::show(sheet, Shown::NotUnderstood);
     }
 }

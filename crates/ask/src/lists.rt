@@ -2,6 +2,7 @@
 // 2731 numbers of records, since a record has three bytes of the line for each of its numbers at least, and at most 2048 shards.
 use crate::command;
 use crate::command::Command;
+use hex_bytes::Hex;
 use showing::Shown;
 use streams::Sheet;
 
@@ -28,7 +29,7 @@ pub(crate) fn put_written(c: &Command, sheet: &mut Sheet<65536>) -> Option<()> {
     let mut line = [b'#'; 1024];
     let part = &mut line[..room];
     let w = shot_writer::write_list(given.get(..count)?, part, c.numbers.up1 as usize);
-    showing::show_written_hex(sheet, w, part);
+    showing::show_written(sheet, w, &Hex { bytes: part });
     Some(())
 }
 

@@ -57,10 +57,10 @@ fn timecode_of(c: &Command) -> Result<Timecode, Refusal> {
 // By the command's row.
 pub(crate) fn shown(c: &Command) -> Shown {
     match c.row {
-        rows::MINUTE => showing::of_counted(minutes::minute_start(c.numbers.up1)),
-        rows::TICKS => showing::of_ticked(time::premiere_ticks(c.tc)),
+        rows::MINUTE => showing::of_number(minutes::minute_start(c.numbers.up1)),
+        rows::TICKS => showing::of_number(time::premiere_ticks(c.tc)),
         rows::SECONDS => showing::of_timed(time::seconds(c.tc)),
-        rows::CMP => showing::of_compared(arithmetic::cmp(c.tc, other(c))),
+        rows::CMP => showing::of_number(arithmetic::cmp(c.tc, other(c))),
         _ => showing::of_answer(timecode_of(c)),
     }
 }

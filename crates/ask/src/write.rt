@@ -24,9 +24,9 @@ pub(crate) fn put_written(c: &Command, sheet: &mut Sheet<65536>) {
     let asked = if c.row == rows::LABEL { n.up4 } else { n.up5 };
     let room = asked.min(128) as usize;
     let mut line = [b'#'; 128];
-    let part = &mut line[..room];
-    let w = laid(c, part);
-    showing::show_written(sheet, w, part);
+    let w = laid(c, &mut line[..room]);
+    let part = &line[..room];
+    showing::show_written(sheet, w, &part);
 }
 
 // RATE FORMAT PLACE ROOM TEXT, as a position where the rate has its mark, and with no film format where it is `-`: the reader's answer, the

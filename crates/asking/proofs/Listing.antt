@@ -3,7 +3,7 @@
 use Rattle.std.specs.Prelude.{None}
 use Rattle.asking.specs.Numbers.{some_word}
 use Prim.Native.Nat.{ℕ, zero, suc, ◌+◌, ◌-◌, ◌≤◌, ◌<◌}
-use mathlib.Core.Path.{◌≡◌, refl, sym, ap, ◌∙◌}
+use mathlib.Core.Path.{◌≡◌, refl, sym, ap, subst, ◌∙◌}
 use mathlib.Core.List.{List}
 use mathlib.Core.Bool.{Bool}
 use native.Mathlib.Omega.{arith}
@@ -45,9 +45,12 @@ module _ (line : List ℕ) (from : ℕ) (list₀ list : List ℕ) (at n : ℕ) (
       by (suc k) = rw e
 
   -- the list is full
-  pub lists-full : length list ≤ n → Ends (record { all = leb (length line) at; count = n }) list
+  pub lists-full : length list₀ ≤ n → Ends (record { all = leb (length line) at; count = length list₀ }) list
   unfolding list_from
-  lists-full h = let z : s.k ≡ 0 = omega (arith, s.left, s.long) in ends_by (rw z)
+  lists-full h =
+      let z : s.k ≡ 0 = omega (arith, s.left) in
+      let m : length list₀ ≡ n = omega (arith, s.left) in
+      subst (λ x. Ends (record { all = leb (length line) at; count = x }) list) (sym m) (ends_by (rw z))
 
   pub lists-turn : (z : ℤ) (next u : ℕ) → n < length list → number_at at (drop at line) ≡ some_word z next → u ≡ up_from z
       → Lists line from list₀ (set list n u) next (n + 1)

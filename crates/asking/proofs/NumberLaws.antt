@@ -2,45 +2,37 @@
 -- Assumes nothing.
 use Rattle.std.specs.Prelude.{None}
 use Rattle.asking.specs.Numbers.{some_word}
-use Prim.Native.Nat.{ℕ, zero, suc, ◌+◌, ◌-◌, ◌*◌, ◌≤◌, ◌<◌}
-use mathlib.Core.Path.{◌≡◌, refl, sym, ◌∙◌}
-use mathlib.Core.Logic.{inl, inr, ⊎_elim}
+use Prim.Native.Nat.{ℕ, zero, suc, ◌+◌, ◌-◌, ◌*◌, ◌≤◌, ◌<◌, min}
+use mathlib.Core.Path.{◌≡◌, refl, sym, subst, ◌∙◌}
+use mathlib.Core.Logic.{inl, inr}
 use mathlib.Core.List.{List, [], ◌∷◌}
 use mathlib.Core.Bool.{Bool, true, false}
 use native.Mathlib.Omega.{arith}
 use native.Mathlib.Numerals.{add-one}
 use lib.ListN.{length, take, drop, get_or, length-drop}
 use lib.Seq.{take-suc, drop-drop}
-use lib.Dec.{ltb}
-use borrow.Author.Tests.{lt-ltb, le-ltb, le-leb, lt-leb, ltb-true, ltb-false, eq-eqb, ne_eqb}
-use lib.IntN.{negsuc}
+use lib.Dec.{leb, ltb}
+use borrow.Author.Tests.{lt-ltb, le-ltb, le-leb, lt-leb, leb-true, leb-false, ltb-true, eq-eqb, ne_eqb}
+use lib.IntN.{ℤ, pos, ◌-ℤ◌}
+use mir.Syntax.{w64}
+use mir.Val.{to_z, of_z}
+use mir.Facts.{to_z-of_z}
+use Rattle.std.specs.Prelude.{FitsSigned}
 use Rattle.numbers.specs.Sign.{signed}
 use Rattle.digits.specs.Digits.{is_byte, is_digit, all_digits, value_from, value_of, first_is, span, leading}
 use Rattle.digits.proofs.Values.{digit-bounds, all_head, all_tail, value-snoc}
 use Rattle.digits.proofs.Runs.{span-within, leading-all}
-use Rattle.asking.specs.Numbers.{signed_word, digits_at, signed_at, number_at, Held, pushed}
+use Rattle.asking.specs.Numbers.{signed_word, digits_at, signed_at, number_at, Held}
 
--- ---- one digit more
-pub pushed-past : (m b : ℕ) → 922337203685477580 < m → 18446744073709551615 ≡ pushed m b
-unfolding pushed
-pushed-past m b h = rw (lt-ltb 922337203685477580 m h)
-
-pub pushed-within : (m b : ℕ) → m ≤ 922337203685477580 → m * 10 + (b - 48) ≡ pushed m b
-unfolding pushed
-pushed-within m b h = rw (le-ltb 922337203685477580 m h)
-
-pub held-pushed : (v m b : ℕ) → Held v m → b ≤ 57 → Held (v * 10 + (b - 48)) (pushed m b)
-held-pushed v m b h k = by (ltb 922337203685477580 m) refl
+-- ---- one digit more, as far as 64 bits go
+pub held-more : (v m b t r : ℕ) → Held v m → b ≤ 57 → t ≡ min (m * 10) 18446744073709551615 → r ≡ min (t + (b - 48)) 18446744073709551615
+    → Held (v * 10 + (b - 48)) r
+held-more v m b t r (inl p) k e f = by (leb (m * 10 + (b - 48)) 18446744073709551615) refl
   where
-    by : (t : Bool) → ltb 922337203685477580 m ≡ t → Held (v * 10 + (b - 48)) (pushed m b)
-    by true e =
-        let l = ltb-true 922337203685477580 m e in
-        let f = pushed-past m b l in
-        inr (⊎_elim (λ p. omega (arith, p)) (λ p. omega (arith, p)) h, omega (arith, f))
-    by false e =
-        let l = ltb-false 922337203685477580 m e in
-        let f = pushed-within m b l in
-        inl (⊎_elim (λ p. omega (arith, p, f)) (λ p. absurd (omega (arith, p))) h)
+    by : (s : Bool) → leb (m * 10 + (b - 48)) 18446744073709551615 ≡ s → Held (v * 10 + (b - 48)) r
+    by true q = inl (omega (arith, p, e, f, leb-true (m * 10 + (b - 48)) 18446744073709551615 q))
+    by false q = let l = leb-false (m * 10 + (b - 48)) 18446744073709551615 q in inr (omega (arith, p, l), omega (arith, e, f, l))
+held-more v m b t r (inr p) k e f = inr (omega (arith, p), omega (arith, p, e, f))
 
 -- ---- the loop of `magnitude`: i digits were taken
 pub digit_at : (d : List ℕ) → all_digits d ≡ true → (i : ℕ) → i < length d → is_digit (get_or d i 0) ≡ true
@@ -56,14 +48,15 @@ pub valuing-start : (d : List ℕ) → Valuing d 0 0
 unfolding value_from
 valuing-start d = record { within = omega arith; held = inl refl }
 
-pub valuing-turn : (d : List ℕ) (m i r : ℕ) → Valuing d m i → all_digits d ≡ true → i < length d → r ≡ pushed m (get_or d i 0) → Valuing d r (i + 1)
-valuing-turn d m i r s a h e =
+pub valuing-turn : (d : List ℕ) (m i t r : ℕ) → Valuing d m i → all_digits d ≡ true → i < length d
+    → t ≡ min (m * 10) 18446744073709551615 → r ≡ min (t + (get_or d i 0 - 48)) 18446744073709551615 → Valuing d r (i + 1)
+valuing-turn d m i t r s a h e g =
     let b = get_or d i 0 in
     let f : value_of (take (i + 1) d) ≡ value_of (take i d) * 10 + (b - 48) =
     rw (add-one, take-suc d i 0 h) (value-snoc 0 (take i d) b) in
     record {
       within = omega arith;
-      held = rw (e, f) (held-pushed (value_of (take i d)) m b s.held (digit-bounds b (digit_at d a i h)).1);
+      held = rw f (held-more (value_of (take i d)) m b t r s.held (digit-bounds b (digit_at d a i h)).1 e g);
     }
 
 -- ---- within 64 bits
@@ -73,26 +66,40 @@ within_by minus v m next (inl e) = rw e
 within_by true v m next (inr p) = rw (lt-leb m 9223372036854775808 p.1, lt-leb v 9223372036854775808 p.0)
 within_by false v m next (inr p) = rw (le-ltb m 9223372036854775808 (omega (arith, p)), le-ltb v 9223372036854775808 (omega (arith, p)))
 
+below-zero : (m : ℕ) → pos 0 -ℤ pos m ≡ signed true m
+below-zero zero = refl
+below-zero (suc k) = let e : suc k - 1 ≡ k = omega arith in rw (le-leb 1 (suc k) (omega arith), e)
+
 module _ (m next : ℕ) where
-  pub word-within : (minus : Bool) → m < 9223372036854775808 → some_word (signed minus m) next ≡ signed_word minus m next
+  -- below zero -2^63 itself is within them
+  pub word-minus : (z : ℤ) → FitsSigned w64 (pos 0 -ℤ pos m) → z ≡ pos 0 -ℤ pos m → some_word (to_z w64 (of_z w64 z)) next ≡ signed_word true m next
   unfolding signed_word
-  word-within true h = rw (le-leb m 9223372036854775808 (omega arith))
-  word-within false h = rw (lt-ltb m 9223372036854775808 h)
+  word-minus z h e = rw (e, to_z-of_z h, below-zero m) (by m (subst (FitsSigned w64) (below-zero m) h))
+    where
+      by : (m : ℕ) → FitsSigned w64 (signed true m) → some_word (signed true m) next ≡ signed_word true m next
+      by zero h = refl
+      by (suc k) h = rw (le-leb (suc k) 9223372036854775808 (omega (arith, h.sfits)))
 
-  pub word-past : (minus : Bool) → 9223372036854775808 < m → None ≡ signed_word minus m next
+  pub word-too-low : (FitsSigned w64 (pos 0 -ℤ pos m) → ⊥) → None ≡ signed_word true m next
   unfolding signed_word
-  word-past true h = rw (lt-leb m 9223372036854775808 h)
-  word-past false h = rw (le-ltb m 9223372036854775808 (omega arith))
+  word-too-low h = by m (λ f. h (subst (FitsSigned w64) (sym (below-zero m)) f)) (leb m 9223372036854775808) refl
+    where
+      by : (m : ℕ) → (FitsSigned w64 (signed true m) → ⊥) → (t : Bool) → leb m 9223372036854775808 ≡ t → None ≡ signed_word true m next
+      by zero h t e = absurd (h (record { sfits = omega arith }))
+      by (suc k) h true e = absurd (h (record { sfits = omega (arith, leb-true (suc k) 9223372036854775808 e) }))
+      by (suc k) h false e = rw e
 
--- 2^63 itself is within them below zero only
-pub word-least : (minus : Bool) (m next : ℕ) → 9223372036854775808 ≤ m → m ≤ 9223372036854775808 → minus ≡ true
-    → some_word (negsuc 9223372036854775807) next ≡ signed_word minus m next
-unfolding signed_word
-word-least minus m next h k e = let f : m ≡ 9223372036854775808 = omega arith in rw (e, f)
+  pub word-plus : (z : ℤ) → FitsSigned w64 (pos m) → z ≡ pos m → some_word (to_z w64 (of_z w64 z)) next ≡ signed_word false m next
+  unfolding signed_word
+  word-plus z h e = rw (e, to_z-of_z h, lt-ltb m 9223372036854775808 (omega (arith, h.sfits)))
 
-pub word-most : (minus : Bool) (m next : ℕ) → 9223372036854775808 ≤ m → minus ≡ false → None ≡ signed_word minus m next
-unfolding signed_word
-word-most minus m next h e = rw (e, le-ltb m 9223372036854775808 h)
+  pub word-too-high : (FitsSigned w64 (pos m) → ⊥) → None ≡ signed_word false m next
+  unfolding signed_word
+  word-too-high h = by (ltb m 9223372036854775808) refl
+    where
+      by : (t : Bool) → ltb m 9223372036854775808 ≡ t → None ≡ signed_word false m next
+      by true e = absurd (h (record { sfits = omega (arith, ltb-true m 9223372036854775808 e) }))
+      by false e = rw e
 
 -- ---- what stands at a place of the line
 pub stands_by : (b : ℕ) (l : List ℕ) → first_is (is_byte b) l ≡ true → 0 < length l

@@ -3,7 +3,7 @@
 use Rattle.std.specs.Prelude.{None}
 use Rattle.asking.specs.Numbers.{some_word}
 use Prim.Native.Nat.{ℕ, zero, suc, ◌+◌, ◌-◌, ◌≤◌, ◌<◌}
-use mathlib.Core.Path.{◌≡◌, refl, sym, ap, ◌∙◌}
+use mathlib.Core.Path.{◌≡◌, refl, sym, ap, subst, ◌∙◌}
 use mathlib.Core.List.{List}
 use mathlib.Core.Bool.{Bool}
 use native.Mathlib.Omega.{arith}
@@ -43,9 +43,12 @@ module _ (line : List ℕ) (from : ℕ) (list₀ list : List ℤ) (at due n : �
         by (suc k) = rw e
 
     -- the list is full
-    pub recording-full : length list ≤ n → Ends (record { all = done; count = n }) list
+    pub recording-full : length list₀ ≤ n → Ends (record { all = done; count = length list₀ }) list
     unfolding records_from
-    recording-full h = let z : s.k ≡ 0 = omega (arith, s.left, s.long) in ends_by (rw z)
+    recording-full h =
+        let z : s.k ≡ 0 = omega (arith, s.left) in
+        let m : length list₀ ≡ n = omega (arith, s.left) in
+        subst (λ x. Ends (record { all = done; count = x }) list) (sym m) (ends_by (rw z))
 
   pub recording-turn : (z : ℤ) (next after : ℕ) → n < length list → next_at due at (drop at line) ≡ some_word z next → after ≡ due_behind due z
       → Recording line from list₀ (set list n z) next after (n + 1)

@@ -13,7 +13,7 @@ use lib.ListN.{length, take, drop, set, get_or, length-drop, drop_of_length-le}
 use lib.Seq.{drop-cons, drop-drop}
 use lib.Dec.{eqb, ltb}
 use lib.IntN.{ℤ, pos}
-use borrow.Author.Tests.{lt-ltb, le-ltb, ltb-true, eq-eqb, ne_eqb, eqb-true, not-true}
+use borrow.Author.Tests.{lt-ltb, le-ltb, ltb-true, ltb-false, eq-eqb, ne_eqb, eqb-true, not-true}
 use Rattle.asking.specs.declared.values.Word.{Word}
 use Rattle.asking.specs.declared.words.Value.{Value}
 use Rattle.asking.specs.Numbers.{signed_at, number_at}
@@ -70,13 +70,13 @@ and-false true = refl
 and-false false = refl
 
 -- ---- where a word is over
-pub over-here : (line : List ℕ) (at : ℕ) → at < length line → eqb (get_or line at 0) 32 ≡ is_over (drop at line)
+pub over-at : (line : List ℕ) (at : ℕ) → cond (ltb at (length line)) (eqb (get_or line at 0) 32) true ≡ is_over (drop at line)
 unfolding is_over
-over-here line at h = rw (drop-cons line at 0 h)
-
-pub over-past : (line : List ℕ) (at : ℕ) → length line ≤ at → true ≡ is_over (drop at line)
-unfolding is_over
-over-past line at h = rw (drop_of_length-le line {i = at} h)
+over-at line at = by (ltb at (length line)) refl
+  where
+    by : (t : Bool) → ltb at (length line) ≡ t → cond t (eqb (get_or line at 0) 32) true ≡ is_over (drop at line)
+    by true e = rw (drop-cons line at 0 (ltb-true at (length line) e))
+    by false e = rw (drop_of_length-le line {i = at} (ltb-false at (length line) e))
 
 -- ---- the mark of a position
 module _ (kind : ℕ) (l : List ℕ) where

@@ -1,7 +1,7 @@
 -- Numbers in a line (docs/ASK.md): behind a space an optional `-` and one or more digits, within 64 bits signed; zeros in front are fine.
 -- Assumes nothing.
 use Rattle.std.specs.Prelude.{None, Option, Some, ℤ}
-use Rattle.std.specs.Prelude.{ℕ, ◌+◌, ◌-◌, ◌*◌, ◌<◌, ◌≡◌, ◌⊎◌, List, Bool, true, false, cond, eqb, ltb, leb, drop}
+use Rattle.std.specs.Prelude.{ℕ, ◌+◌, ◌<◌, ◌≡◌, ◌⊎◌, List, Bool, true, false, cond, eqb, ltb, leb, drop}
 use Rattle.numbers.specs.Sign.{signed}
 use Rattle.digits.specs.Digits.{is_byte, value_of, first_is, span, leading}
 use Rattle.asking.specs.declared.values.Word.{Word}
@@ -36,7 +36,3 @@ number_at at l = cond (first_is (is_byte 32) l) (signed_at (at + 1) (drop 1 l)) 
 -- ---- what the code holds of a value: the value, or where that is past 2^63 some number past it
 abbrev pub Held : (value m : ℕ) → Type 0
 Held value m = (m ≡ value) ⊎ ((9223372036854775808 < value) × (9223372036854775808 < m))
-
--- one digit more behind them
-unfoldable pub pushed : (m b : ℕ) → ℕ
-pushed m b = cond (ltb 922337203685477580 m) 18446744073709551615 (m * 10 + (b - 48))

@@ -57,18 +57,20 @@ pub fn rates(line: &[u8], from: usize, list: &mut [u64]) -> Listed
     ensures answer { result ≡ (list_from (length list.old) line.now from 0 list.old).listed }
     ensures list { list.new ≡ (list_from (length list.old) line.now from 0 list.old).list }
 {
+    let room = list.len();
     let mut at = from;
-    let mut n = 0;
-    while n < list.len() {
+    for (n, slot) in list.iter_mut().enumerate() {
         let Some(w) = values::number(line, at) else {
-            break;
+            return Listed {
+                all: line.len() <= at,
+                count: n,
+            };
         };
-        list[n] = numbers::up_from(w.number);
+        *slot = numbers::up_from(w.number);
         at = w.next;
-        n += 1;
     }
     Listed {
         all: line.len() <= at,
-        count: n,
+        count: room,
     }
 }

@@ -67,20 +67,22 @@ pub fn records(line: &[u8], from: usize, list: &mut [i64]) -> Listed
     ensures answer { result ≡ (records_of line.now from list.old).listed }
     ensures list { list.new ≡ (records_of line.now from list.old).list }
 {
+    let room = list.len();
     let mut at = from;
     let mut due = 0;
-    let mut n = 0;
-    while n < list.len() {
+    for (n, slot) in list.iter_mut().enumerate() {
         let Some(w) = next_at(line, at, due) else {
-            break;
+            return Listed {
+                all: is_done(line, at, due),
+                count: n,
+            };
         };
-        list[n] = w.number;
+        *slot = w.number;
         at = w.next;
         due = due_behind(due, w.number);
-        n += 1;
     }
     Listed {
         all: is_done(line, at, due),
-        count: n,
+        count: room,
     }
 }

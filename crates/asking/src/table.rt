@@ -2,7 +2,7 @@
 // of a timecode, which may have the mark `@`, `r` a rate that has no mark, `n` any number, `f` a film format, any number, or `-` where
 // none is stated, `p` a place (from 0 on), `m` a room (0 to 128), `w` a wide room (0 to 1024), `s` a word of shards; last `t` for a
 // text, the rest of the line, or `*` for a rest that the command takes apart itself.
-ghost use Rattle.std.specs.Prelude.{◌≡◌, true, ◌*◌, ◌<◌, get_or};
+ghost use Rattle.std.specs.Prelude.{SomeIff, ◌≡◌, true, ◌*◌, ◌<◌, get_or};
 ghost use Rattle.asking.specs.Table.{is_plain, row_count, table_bytes, is_named, row_named, kind_of};
 
 use crate::rows;
@@ -64,17 +64,17 @@ fn is_named(word: &[u8], row: usize) -> bool
     byte_at(24 * row + word.len()) == b' '
 }
 
-// Which row has a word; as many as there are rows where none has. Asks a word that has no space.
-pub(crate) fn row_named(word: &[u8]) -> usize
+// Which row has a word, where one has. Asks a word that has no space.
+pub(crate) fn row_named(word: &[u8]) -> Option<usize>
     requires { is_plain word.now ≡ true }
-    ensures { result ≡ row_named word.now }
+    ensures { SomeIff result (row_named word.now < row_count) (row_named word.now) }
 {
     for row in 0..rows::ROWS {
         if is_named(word, row) {
-            return row;
+            return Some(row);
         }
     }
-    rows::ROWS
+    None
 }
 
 // The letter of the k-th word behind a command's. Asks a row, and one of its letters.

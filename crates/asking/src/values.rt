@@ -1,8 +1,8 @@
 // A number in a line: behind a space an optional `-` and one or more digits, within 64 bits signed.
 ghost use Rattle.std.specs.Prelude.{◌≡◌, true, drop};
-ghost use Rattle.digits.specs.Digits.{is_byte, all_digits, value_of, is_digit, first_is};
+ghost use Rattle.digits.specs.Digits.{is_byte, all_digits, value_of, first_is};
 ghost use Rattle.asking.specs.Table.{word_first, is_over};
-ghost use Rattle.asking.specs.Numbers.{Held, pushed, signed_word, digits_at, signed_at, number_at};
+ghost use Rattle.asking.specs.Numbers.{Held, signed_word, digits_at, signed_at, number_at};
 
 // A number and the place past it.
 #[derive(Clone, Copy)]
@@ -11,25 +11,14 @@ pub struct Word {
     pub next: usize,
 }
 
-// The value of digits with one more behind them; once it is past 2^63, some number past it. Asks a digit.
-fn push(m: u64, b: u8) -> u64
-    requires { is_digit b ≡ true }
-    ensures { result ≡ pushed m b }
-{
-    if m > 922_337_203_685_477_580 {
-        return u64::MAX;
-    }
-    m * 10 + (b as u64 - 48)
-}
-
 // The value of digits, or some number past 2^63 where it is past it. Asks digits.
 fn magnitude(d: &[u8]) -> u64
     requires { all_digits d.now ≡ true }
     ensures { Held (value_of d.now) result }
 {
-    let mut m = 0;
+    let mut m = 0u64;
     for b in d {
-        m = push(m, *b);
+        m = m.saturating_mul(10).saturating_add((*b - b'0') as u64);
     }
     m
 }
@@ -38,12 +27,10 @@ fn magnitude(d: &[u8]) -> u64
 fn signed(minus: bool, m: u64, next: usize) -> Option<Word>
     ensures { result ≡ signed_word minus m next }
 {
-    let number = if m < 9_223_372_036_854_775_808 {
-        numbers::with_sign(minus, m)
-    } else if m == 9_223_372_036_854_775_808 && minus {
-        i64::MIN
+    let number = if minus {
+        0i64.checked_sub_unsigned(m)?
     } else {
-        return None;
+        i64::try_from(m).ok()?
     };
     Some(Word { number, next })
 }
@@ -64,14 +51,14 @@ fn digits_at(line: &[u8], at: usize, minus: bool) -> Option<Word>
 pub fn stands(line: &[u8], at: usize, b: u8) -> bool
     ensures { result ≡ first_is (is_byte b) (drop at line.now) }
 {
-    at < line.len() && line[at] == b
+    line.get(at) == Some(&b)
 }
 
 // Is a word over at a place of the line? A space stands there, or the line has ended.
 pub(crate) fn is_over(line: &[u8], at: usize) -> bool
     ensures { result ≡ is_over (drop at line.now) }
 {
-    line.len() <= at || line[at] == b' '
+    line.get(at).is_none_or(|b| *b == b' ')
 }
 
 // Does this word stand at a place of the line?

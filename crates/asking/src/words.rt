@@ -185,9 +185,8 @@ pub fn understand(line: &[u8]) -> Asked
     ensures { result ≡ asked_of line.now }
 {
     let end = word_end(line);
-    let row = table::row_named(&line[..end]);
-    if row < rows::ROWS {
-        return words(row, line, end);
+    match table::row_named(&line[..end]) {
+        Some(row) => words(row, line, end),
+        None => not_understood(),
     }
-    not_understood()
 }

@@ -1,1 +1,2 @@
+pub mod Defaults
 pub mod Determined

@@ -5,7 +5,7 @@ ghost use Rattle.shot_lists.specs.Entries.{on_disk, entry_of};
 ghost use Rattle.shot_lists.specs.Reading.{checked_of, read_of};
 ghost use Rattle.shot_writer.specs.ListText.{list_draft};
 ghost use Rattle.exports.specs.Handed.{handed_length};
-ghost use Rattle.exports.specs.HandedLists.{record_of_kind, handed_record, handed_entry, handed_checked};
+ghost use Rattle.exports.specs.HandedLists.{handed_record, handed_entry, handed_checked};
 
 use crate::handed;
 use crate::handed::TzqLength;
@@ -15,7 +15,7 @@ use shot_lists::{Record, Taken};
 // A record: its kind (1 rate, 2 shot, 3 reel), its numbers by name (those of another kind are 0), the rate held behind it, and how many
 // bytes it has. At the list's end all 0; refused: its number, all others 0.
 #[repr(C)]
-#[derive(Clone, Copy)]
+#[derive(Clone, Copy, Default)]
 pub struct TzqRecord {
     pub refused: u64,
     pub kind: u64,
@@ -43,7 +43,7 @@ impl From<Taken> for TzqRecord {
         let none = TzqRecord {
             held: taken.held,
             size: taken.size,
-            ..no_record(0)
+            ..TzqRecord::default()
         };
         match taken.found {
             Record::Rate(rate) => TzqRecord {
@@ -66,23 +66,6 @@ impl From<Taken> for TzqRecord {
     }
 }
 
-// No record, and why: 0 where the list is over.
-#[tactic(auto, unfolding(crate::specs::HandedLists::record_of_kind))]
-fn no_record(refused: u64) -> TzqRecord
-    ensures { result ≡ record_of_kind refused 0 }
-{
-    TzqRecord {
-        refused,
-        kind: 0,
-        rate: 0,
-        first: 0,
-        end: 0,
-        reel: 0,
-        held: 0,
-        size: 0,
-    }
-}
-
 // A record, its refusal, or the end.
 impl From<Result<Option<Taken>, Refusal>> for TzqRecord {
     ghost from_gives = { λ a t. t ≡ handed_entry a };
@@ -90,8 +73,11 @@ impl From<Result<Option<Taken>, Refusal>> for TzqRecord {
     fn from(a: Result<Option<Taken>, Refusal>) -> TzqRecord {
         match a {
             Ok(Some(taken)) => taken.into(),
-            Ok(None) => no_record(0),
-            Err(e) => no_record(handed::number_of(e)),
+            Ok(None) => TzqRecord::default(),
+            Err(e) => TzqRecord {
+                refused: handed::number_of(e),
+                ..TzqRecord::default()
+            },
         }
     }
 }

@@ -3,7 +3,7 @@ ghost use Rattle.std.specs.Prelude.{◌≡◌};
 ghost use Rattle.timecodes.specs.Kinds.{kind_from};
 ghost use Rattle.written.specs.Written.{Text, line_to};
 ghost use Rattle.reasons.specs.Why.{phrase_for, why_of};
-ghost use Rattle.exports.specs.HandedWhy.{stated_from, field_number, no_fact, limit_fact, first_fact, fact_numbers, told_reason, no_reason, handed_reason};
+ghost use Rattle.exports.specs.HandedWhy.{stated_from, field_number, limit_fact, first_fact, fact_numbers, told_reason, no_reason, handed_reason};
 
 use crate::handed;
 use crate::handed::TzqRead;
@@ -35,8 +35,8 @@ pub struct TzqReason {
     pub length: usize,
 }
 
-// The numbers of a fact: a field with its limit and its value, or the fields of a label; those of the other kind are 0.
-#[derive(Clone, Copy)]
+// The numbers of a fact: a field with its limit and its value, or the fields of a label; those of the other kind are 0, and by default all.
+#[derive(Clone, Copy, Default)]
 struct FactNumbers {
     field: u64,
     limit: i64,
@@ -70,23 +70,6 @@ fn field_number(field: Field) -> u64
     }
 }
 
-// No fact: every number is 0.
-#[tactic(auto, unfolding(crate::specs::HandedWhy::no_fact))]
-fn no_fact() -> FactNumbers
-    ensures { result ≡ no_fact }
-{
-    FactNumbers {
-        field: 0,
-        limit: 0,
-        value: 0,
-        negative: false,
-        hours: 0,
-        minutes: 0,
-        seconds: 0,
-        frames: 0,
-    }
-}
-
 // A field at fault: its limit and its value, with their sign.
 impl From<Fault> for FactNumbers {
     ghost from_gives = { λ f n. n ≡ limit_fact f };
@@ -96,7 +79,7 @@ impl From<Fault> for FactNumbers {
             field: field_number(f.field),
             limit: numbers::with_sign(f.minus, f.limit),
             value: numbers::with_sign(f.minus, f.value),
-            ..no_fact()
+            ..FactNumbers::default()
         }
     }
 }
@@ -112,7 +95,7 @@ impl From<TimecodeSections> for FactNumbers {
             minutes: s.minutes,
             seconds: s.seconds,
             frames: s.frames,
-            ..no_fact()
+            ..FactNumbers::default()
         }
     }
 }
@@ -123,7 +106,7 @@ impl From<Option<Fact>> for FactNumbers {
 
     fn from(fact: Option<Fact>) -> FactNumbers {
         match fact {
-            None => no_fact(),
+            None => FactNumbers::default(),
             Some(Fact::Limit(f)) => f.into(),
             Some(Fact::First(s)) => s.into(),
         }

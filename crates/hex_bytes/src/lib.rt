@@ -9,6 +9,13 @@ ghost use Rattle.hex_bytes.specs.Digits.{hex_value, all_hex_digits, lower_digit}
 ghost use Rattle.hex_bytes.specs.Hex.{is_hex, pair_bytes, bytes_of_hex, hexed_of, digit_pairs, hex_text};
 
 use streams::Sheet;
+use written::Writable;
+
+// Bytes that are laid down as HEX.
+#[derive(Clone, Copy)]
+pub struct Hex<'a> {
+    pub bytes: &'a [u8],
+}
 
 // What a digit is worth, in either case; 16 where it is none.
 #[tactic(auto, unfolding(crate::specs::Digits::hex_value), using(std::proofs::lemmas::Bool::Decides::nat_tests))]
@@ -101,15 +108,25 @@ fn put_pairs(part: &mut [u8], bytes: &[u8])
 pub fn put<const N: usize>(sheet: &mut Sheet<N>, bytes: &[u8])
     ensures { sheet.new ≡ put_on sheet.old (hex_text bytes.now) }
 {
-    if bytes.is_empty() {
-        sheet.put_byte(b'-');
-        return;
+    sheet.put(&Hex { bytes });
+}
+
+impl<'a> Writable for Hex<'a> {
+    ghost text = { λ hex. hex_text hex.bytes.now };
+
+    fn length(&self) -> usize {
+        if self.bytes.is_empty() {
+            1
+        } else {
+            2 * self.bytes.len()
+        }
     }
-    let need = 2 * bytes.len();
-    let used = sheet.used;
-    if lent::room(N, used, need) {
-        let all = &mut sheet.bytes[..];
-        put_pairs(&mut all[used..], bytes);
-        sheet.used = used + need;
+
+    fn put(&self, part: &mut [u8]) {
+        if self.bytes.is_empty() {
+            lent::put_byte(part, b'-');
+        } else {
+            put_pairs(part, self.bytes);
+        }
     }
 }

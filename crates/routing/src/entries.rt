@@ -41,7 +41,7 @@ fn past_blanks(line: &[u8], at: usize) -> usize
 fn is_over(line: &[u8], at: usize) -> bool
     ensures { result ≡ is_over (drop at line.now) }
 {
-    line.len() <= at || line[at] == b'#'
+    line.get(at).is_none_or(|b| *b == b'#')
 }
 
 // The number that stands at a place: digits, with no sign.

@@ -1,13 +1,12 @@
 -- An answer that has room is on the sheet, as one line: part behind part.
 -- Assumes nothing.
 use Rattle.answers.specs.declared.Refusal.{Refusal}
-use Rattle.std.specs.Prelude.{Result, Ok, Err}
+use Rattle.std.specs.Prelude.{Result, Ok, Err, Option, Some, None}
 use Prim.Native.Nat.{ℕ, ◌+◌, ◌≤◌}
 use mathlib.Core.Path.{◌≡◌, refl, sym, ap, ◌∙◌}
 use mathlib.Core.List.{List, [], ◌∷◌, ◌++◌, append_assoc, append-nil}
-use mathlib.Core.Bool.{Bool, true, false, cond}
+use mathlib.Core.Bool.{Bool, true, false}
 use native.Mathlib.Omega.{arith}
-use lib.Dec.{eqb}
 use lib.ListN.{length, length-append}
 use Rattle.digits.specs.Digits.{decimal, digits_of, width, width_by}
 use Rattle.written.specs.Parts.{signed_text}
@@ -17,8 +16,13 @@ use Rattle.streams.specs.Sheet.{Sheet, text_on, put_on}
 use Rattle.streams.proofs.Putting.{Laid, put_is}
 use Rattle.hex_bytes.specs.Hex.{hex_text}
 use Rattle.laws.specs.Spelt.{spelt}
+use Rattle.showing.specs.declared.Word.{Word}
+use Rattle.showing.specs.declared.Word.TheVariants as word
+use Rattle.showing.specs.declared.Second.{Second}
+use Rattle.showing.specs.declared.Numbers.{Numbers}
 use Rattle.showing.specs.declared.Shown.{Shown}
-use Rattle.showing.specs.Shown.{count_text, word_text, front_text, help_text, said_text, second_text, parts_text, shown_text, length_text, written_text, word_on, front_on, said_on, second_on, first_on, parts_on, shown_on, length_on, written_on}
+use Rattle.showing.specs.declared.Shown.TheVariants as shown
+use Rattle.showing.specs.Shown.{count_text, word_text, front_text, help_text, behind_text, numbers_text, parts_text, shown_text, length_text, written_text, word_on, front_on, second_on, first_on, behind_on, numbers_on, parts_on, shown_on, length_on, written_on}
 use Rattle.showing.specs.Each.{of_refusal}
 use Rattle.showing.specs.Lists.{record_text, records_text, list_text, numbered_on, frames_on, record_on, records_on, list_on}
 use Rattle.showing.specs.Statements.{ShownLine, WrittenLine, HexWrittenLine, TextRefusedShown, PositionShown, ListLine, ListRefusedLine, ListWords}
@@ -54,58 +58,38 @@ marked-laid s s' w x y mark first h =
 
 -- ---- the parts
 module _ (s : Sheet) where
-  word-laid : (word : ℕ) → s.used + length (word_text word) ≤ length s.bytes → Laid s (word_on s word) (word_text word)
-  unfolding word_text word_on
-  word-laid word = by (eqb word 108) (eqb word 102) (eqb word 114)
-    where
-      by : (x y z : Bool)
-          → s.used + length (cond x (spelt "label ") (cond y (spelt "footage ") (cond z (spelt "refused ") []))) ≤ length s.bytes
-          → Laid s (cond x (put_on s (spelt "label ")) (cond y (put_on s (spelt "footage ")) (cond z (put_on s (spelt "refused ")) s)))
-          (cond x (spelt "label ") (cond y (spelt "footage ") (cond z (spelt "refused ") [])))
-      by true y z h = put_is s (spelt "label ") h
-      by false true z h = put_is s (spelt "footage ") h
-      by false false true h = put_is s (spelt "refused ") h
-      by false false false h = laid_none s
+  word-laid : (word : Option Word) → s.used + length (word_text word) ≤ length s.bytes → Laid s (word_on s word) (word_text word)
+  word-laid (Some word.Label) h = put_is s (spelt "label ") h
+  word-laid (Some word.Footage) h = put_is s (spelt "footage ") h
+  word-laid (Some word.Refused) h = put_is s (spelt "refused ") h
+  word-laid None h = laid_none s
 
-  said-laid : (word : ℕ) → s.used + length (said_text word) ≤ length s.bytes → Laid s (said_on s word) (said_text word)
-  unfolding said_text said_on
-  said-laid word = by (eqb word 104)
-    where
-      by : (x : Bool) → s.used + length (cond x help_text (spelt "not understood")) ≤ length s.bytes
-          → Laid s (cond x (put_on s help_text) (put_on s (spelt "not understood"))) (cond x help_text (spelt "not understood"))
-      by true h = put_is s help_text h
-      by false h = put_is s (spelt "not understood") h
-
-  front-laid : (word : ℕ) (position : Bool) → s.used + length (front_text word position) ≤ length s.bytes
+  front-laid : (word : Option Word) (position : Bool) → s.used + length (front_text word position) ≤ length s.bytes
       → Laid s (front_on s word position) (front_text word position)
   front-laid word false h = word-laid word h
   front-laid word true h =
       laid-put s (word_on s word) (word_text word) (64 ∷ []) (word-laid word (omega (arith, h, length-append (word_text word) (64 ∷ [])))) h
 
-  module _ (a : Shown) where
-    first-laid : s.used + length (front_text a.word a.position ++ count_text a.x) ≤ length s.bytes
-        → Laid s (first_on s a) (front_text a.word a.position ++ count_text a.x)
-    first-laid h =
-        laid-put s (front_on s a.word a.position) (front_text a.word a.position) (count_text a.x)
-        (front-laid a.word a.position (omega (arith, h, length-append (front_text a.word a.position) (count_text a.x)))) h
+  numbers-laid : (n : Numbers) → s.used + length (numbers_text n) ≤ length s.bytes → Laid s (numbers_on s n) (numbers_text n)
+  unfolding second_on
+  numbers-laid n = by n.second
+    where
+      first : s.used + length (front_text n.word n.position ++ count_text n.first) ≤ length s.bytes
+          → Laid s (first_on s n) (front_text n.word n.position ++ count_text n.first)
+      first h =
+          laid-put s (front_on s n.word n.position) (front_text n.word n.position) (count_text n.first)
+          (front-laid n.word n.position (omega (arith, h, length-append (front_text n.word n.position) (count_text n.first)))) h
 
-    second-laid : (let t = front_text a.word a.position ++ (count_text a.x ++ second_text a.mark a.y) in
-        s.used + length t ≤ length s.bytes → Laid s (second_on (first_on s a) a.mark a.y) t)
-    unfolding second_on
-    second-laid h = marked-laid s (first_on s a) (front_text a.word a.position) (count_text a.x) (signed_text false a.y) a.mark first-laid h
+      by : (second : Option Second) → (let t = front_text n.word n.position ++ behind_text (count_text n.first) second in
+          s.used + length t ≤ length s.bytes → Laid s (behind_on (first_on s n) second) t)
+      by None h = first h
+      by (Some b) h = marked-laid s (first_on s n) (front_text n.word n.position) (count_text n.first) (signed_text false b.number) b.mark first h
 
-    parts-laid : s.used + length (parts_text a) ≤ length s.bytes → Laid s (parts_on s a) (parts_text a)
-    unfolding parts_on parts_text
-    parts-laid = by (eqb a.count 0) (eqb a.count 1)
-      where
-        by : (x y : Bool)
-            → (let second = front_text a.word a.position ++ (count_text a.x ++ second_text a.mark a.y) in
-            let t = cond x (said_text a.word) (cond y (front_text a.word a.position ++ count_text a.x) second) in
-            s.used + length t ≤ length s.bytes
-            → Laid s (cond x (said_on s a.word) (cond y (first_on s a) (second_on (first_on s a) a.mark a.y))) t)
-        by true y h = said-laid a.word h
-        by false true h = first-laid h
-        by false false h = second-laid h
+  parts-laid : (a : Shown) → s.used + length (parts_text a) ≤ length s.bytes → Laid s (parts_on s a) (parts_text a)
+  unfolding parts_text
+  parts-laid shown.Help h = put_is s help_text h
+  parts-laid shown.NotUnderstood h = put_is s (spelt "not understood") h
+  parts-laid (shown.Numbers n) h = numbers-laid n h
 
 pub shown_line : ShownLine
 unfolding shown_text shown_on
@@ -134,11 +118,11 @@ hex_written_line s w line h = written_line s w (hex_text line) h
 
 -- ---- a text that is refused
 pub position_shown : PositionShown
-unfolding shown_text parts_text word_text
+unfolding shown_text parts_text
 position_shown z rate = (refl, refl, refl, refl, λ format. refl, λ format. refl)
 
 pub text_refused_shown : TextRefusedShown
-unfolding word_text parts_text shown_text
+unfolding parts_text shown_text
 text_refused_shown e = refl
 
 -- ---- a shot list
@@ -178,7 +162,7 @@ list_line s rs h =
     (laid-put s (records_on (put_on s n) rs) (n ++ t) (10 ∷ []) (laid-two s (put_on s n) (records_on (put_on s n) rs) n t one two) h).is
 
 pub list_refused_line : ListRefusedLine
-unfolding word_text parts_text shown_text list_on
+unfolding parts_text shown_text list_on
 list_refused_line s e h = shown_line s (of_refusal e) h
 
 pub list_words : ListWords

@@ -1,13 +1,18 @@
 -- How the calculator shows an answer (docs/ASK.md): its text, and what is put on a sheet.
 -- Assumes nothing.
 use Rattle.answers.specs.declared.Refusal.{Refusal}
-use Rattle.std.specs.Prelude.{ℕ, List, [], ◌∷◌, ◌++◌, Bool, true, false, cond, eqb, ℤ, nat_abs, Result, Ok, Err}
+use Rattle.std.specs.Prelude.{ℕ, List, [], ◌∷◌, ◌++◌, Bool, true, false, ℤ, nat_abs, Result, Ok, Err, Option, Some, None}
 use Rattle.numbers.specs.Sign.{is_neg}
 use Rattle.written.specs.Parts.{signed_text}
 use Rattle.streams.specs.Sheet.{Sheet, put_on}
 use Rattle.hex_bytes.specs.Hex.{hex_text}
 use Rattle.laws.specs.Spelt.{spelt}
+use Rattle.showing.specs.declared.Word.{Word}
+use Rattle.showing.specs.declared.Word.TheVariants as word
+use Rattle.showing.specs.declared.Second.{Second}
+use Rattle.showing.specs.declared.Numbers.{Numbers}
 use Rattle.showing.specs.declared.Shown.{Shown}
+use Rattle.showing.specs.declared.Shown.TheVariants as shown
 use Rattle.showing.specs.Each.{of_refusal}
 
 -- ---- its text
@@ -15,15 +20,14 @@ abbrev pub count_text : ℤ → List ℕ
 count_text x = signed_text (is_neg x) (nat_abs x)
 
 -- the word before numbers
-unfoldable pub word_text : (word : ℕ) → List ℕ
-word_text word =
-    cond (eqb word 108) (spelt "label ")
-    (cond (eqb word 102) (spelt "footage ")
-    (cond (eqb word 114) (spelt "refused ")
-    []))
+abbrev pub word_text : Option Word → List ℕ
+word_text (Some word.Label) = spelt "label "
+word_text (Some word.Footage) = spelt "footage "
+word_text (Some word.Refused) = spelt "refused "
+word_text None = []
 
 -- and behind it the mark of a position, `@`
-abbrev pub front_text : (word : ℕ) (position : Bool) → List ℕ
+abbrev pub front_text : Option Word → (position : Bool) → List ℕ
 front_text word false = word_text word
 front_text word true = word_text word ++ (64 ∷ [])
 
@@ -58,19 +62,23 @@ help_text =
     ∷ spelt "A refusal is: refused N; of read, read_as and route: refused N PLACE" ++ (10
     ∷ spelt "The first RATE of a command other than route, and the second of add, sub and cmp, may have @ before it: a position; a COUNT that is one has it too"))))))))))))))))))))))))))
 
--- a word alone
-unfoldable pub said_text : (word : ℕ) → List ℕ
-said_text word = cond (eqb word 104) help_text (spelt "not understood")
-
 abbrev pub second_text : (mark y : ℕ) → List ℕ
 second_text mark y = mark ∷ signed_text false y
 
--- a word alone, or a word and one or two numbers
+-- a number, and behind it a second one where there is one
+abbrev pub behind_text : (text : List ℕ) → Option Second → List ℕ
+behind_text text None = text
+behind_text text (Some s) = text ++ second_text s.mark s.number
+
+-- that alone or behind a word
+abbrev pub numbers_text : Numbers → List ℕ
+numbers_text n = front_text n.word n.position ++ behind_text (count_text n.first) n.second
+
+-- the commands in short, that a line is not understood, or numbers
 unfoldable pub parts_text : Shown → List ℕ
-parts_text s =
-    cond (eqb s.count 0) (said_text s.word)
-    (cond (eqb s.count 1) (front_text s.word s.position ++ count_text s.x)
-    (front_text s.word s.position ++ (count_text s.x ++ second_text s.mark s.y)))
+parts_text shown.Help = help_text
+parts_text shown.NotUnderstood = spelt "not understood"
+parts_text (shown.Numbers n) = numbers_text n
 
 -- and the line's end
 unfoldable pub shown_text : Shown → List ℕ
@@ -85,31 +93,33 @@ unfoldable pub written_text : Result ℕ Refusal → (line : List ℕ) → List 
 written_text w line = length_text w ++ (32 ∷ line ++ (10 ∷ []))
 
 -- ---- on a sheet, part by part
-unfoldable pub word_on : Sheet → (word : ℕ) → Sheet
-word_on s word =
-    cond (eqb word 108) (put_on s (spelt "label "))
-    (cond (eqb word 102) (put_on s (spelt "footage "))
-    (cond (eqb word 114) (put_on s (spelt "refused "))
-    s))
+abbrev pub word_on : Sheet → Option Word → Sheet
+word_on s (Some word.Label) = put_on s (spelt "label ")
+word_on s (Some word.Footage) = put_on s (spelt "footage ")
+word_on s (Some word.Refused) = put_on s (spelt "refused ")
+word_on s None = s
 
-abbrev pub front_on : Sheet → (word : ℕ) (position : Bool) → Sheet
+abbrev pub front_on : Sheet → Option Word → (position : Bool) → Sheet
 front_on s word false = word_on s word
 front_on s word true = put_on (word_on s word) (64 ∷ [])
-
-unfoldable pub said_on : Sheet → (word : ℕ) → Sheet
-said_on s word = cond (eqb word 104) (put_on s help_text) (put_on s (spelt "not understood"))
 
 unfoldable pub second_on : Sheet → (mark y : ℕ) → Sheet
 second_on s mark y = put_on (put_on s (mark ∷ [])) (signed_text false y)
 
-abbrev pub first_on : Sheet → Shown → Sheet
-first_on s a = put_on (front_on s a.word a.position) (count_text a.x)
+abbrev pub first_on : Sheet → Numbers → Sheet
+first_on s n = put_on (front_on s n.word n.position) (count_text n.first)
 
-unfoldable pub parts_on : Sheet → Shown → Sheet
-parts_on s a =
-    cond (eqb a.count 0) (said_on s a.word)
-    (cond (eqb a.count 1) (first_on s a)
-    (second_on (first_on s a) a.mark a.y))
+abbrev pub behind_on : Sheet → Option Second → Sheet
+behind_on s None = s
+behind_on s (Some t) = second_on s t.mark t.number
+
+abbrev pub numbers_on : Sheet → Numbers → Sheet
+numbers_on s n = behind_on (first_on s n) n.second
+
+abbrev pub parts_on : Sheet → Shown → Sheet
+parts_on s shown.Help = put_on s help_text
+parts_on s shown.NotUnderstood = put_on s (spelt "not understood")
+parts_on s (shown.Numbers n) = numbers_on s n
 
 unfoldable pub shown_on : Sheet → Shown → Sheet
 shown_on s a = put_on (parts_on s a) (10 ∷ [])

@@ -3,103 +3,105 @@
 
 ghost use Rattle.std.specs.Prelude.{◌≡◌};
 ghost use Rattle.streams.specs.Sheet.{put_on};
-ghost use Rattle.showing.specs.Each.{only_word, one_number, two_numbers, one_count, count_and};
-ghost use Rattle.showing.specs.Shown.{count_text, help_text, word_on, front_on, said_on, second_on, parts_on, shown_on, length_on, written_on, hex_written_on};
+ghost use Rattle.showing.specs.Each.{one_number, two_numbers, one_count, count_and};
+ghost use Rattle.showing.specs.Shown.{count_text, help_text, word_on, front_on, behind_on, numbers_on, parts_on, shown_on, length_on, written_on};
 
 use answers::Refusal;
 use streams::Sheet;
 use timecodes::Timecode;
+use written::Writable;
 
 mod each;
 mod lists;
 mod route;
 mod why;
 
-pub use each::{of_answer, of_compared, of_converted, of_counted, of_read, of_ticked, of_timed};
+pub use each::{of_answer, of_converted, of_number, of_read, of_timed};
 pub use lists::show_list;
 pub use route::show_routed;
 pub use why::show_why;
 
-// What is shown: a word (`l` label, `f` footage, `r` refused, `h` the commands in short, `?` not understood, 0 none), and behind it so many
-// numbers, two of them with a mark between them; the first with `@` before it where it is the count of a position.
+// A word before numbers.
 #[derive(Clone, Copy)]
-pub struct Shown {
-    pub word: u8,
-    pub count: u8,
-    pub position: bool,
-    pub x: i64,
-    pub mark: u8,
-    pub y: u64,
+pub enum Word {
+    Label,
+    Footage,
+    Refused,
 }
 
-// A word alone.
-pub fn only_word(word: u8) -> Shown
-    ensures { result ≡ only_word word }
-{
-    Shown {
-        word,
-        count: 0,
-        position: false,
-        x: 0,
-        mark: 0,
-        y: 0,
-    }
+// A second number, and the mark before it.
+#[derive(Clone, Copy)]
+pub struct Second {
+    pub mark: u8,
+    pub number: u64,
+}
+
+// A number or two, behind a word or alone; the first with `@` before it where it is the count of a position.
+#[derive(Clone, Copy)]
+pub struct Numbers {
+    pub word: Option<Word>,
+    pub position: bool,
+    pub first: i64,
+    pub second: Option<Second>,
+}
+
+// What is shown: the commands in short, that a line is not understood, or numbers.
+#[derive(Clone, Copy)]
+pub enum Shown {
+    Help,
+    NotUnderstood,
+    Numbers(Numbers),
 }
 
 // A number, behind a word or alone.
-pub(crate) fn one_number(word: u8, x: i64) -> Shown
+pub(crate) fn one_number(word: Option<Word>, x: i64) -> Shown
     ensures { result ≡ one_number word x }
 {
-    Shown {
+    Shown::Numbers(Numbers {
         word,
-        count: 1,
         position: false,
-        x,
-        mark: 0,
-        y: 0,
-    }
+        first: x,
+        second: None,
+    })
 }
 
 // Two numbers and the mark between them, behind a word or alone.
-pub(crate) fn two_numbers(word: u8, x: i64, mark: u8, y: u64) -> Shown
+pub(crate) fn two_numbers(word: Option<Word>, x: i64, mark: u8, y: u64) -> Shown
     ensures { result ≡ two_numbers word x mark y }
 {
-    Shown {
+    Shown::Numbers(Numbers {
         word,
-        count: 2,
         position: false,
-        x,
-        mark,
-        y,
-    }
+        first: x,
+        second: Some(Second { mark, number: y }),
+    })
 }
 
 // The count of a timecode, behind a word or alone.
-pub(crate) fn one_count(word: u8, tc: Timecode) -> Shown
+pub(crate) fn one_count(word: Option<Word>, tc: Timecode) -> Shown
     ensures { result ≡ one_count word tc }
 {
-    Shown {
+    Shown::Numbers(Numbers {
         word,
-        count: 1,
         position: tc.kind.is_position(),
-        x: tc.count,
-        mark: 0,
-        y: 0,
-    }
+        first: tc.count,
+        second: None,
+    })
 }
 
 // The count of a timecode, a space and a number, behind a word or alone.
-pub(crate) fn count_and(word: u8, tc: Timecode, y: u64) -> Shown
+pub(crate) fn count_and(word: Option<Word>, tc: Timecode, y: u64) -> Shown
     ensures { result ≡ count_and word tc y }
 {
-    Shown {
+    Shown::Numbers(Numbers {
         word,
-        count: 2,
         position: tc.kind.is_position(),
-        x: tc.count,
-        mark: b' ',
-        y,
-    }
+        first: tc.count,
+        second: Some(Second {
+            mark: b' ',
+            number: y,
+        }),
+    })
 }
 
 // A signed number.
@@ -110,20 +112,19 @@ fn put_number<const N: usize>(sheet: &mut Sheet<N>, x: i64)
 }
 
 // A word before numbers.
-#[tactic(auto, unfolding(crate::specs::Shown::word_on), using(std::proofs::lemmas::Bool::Decides::nat_tests))]
-fn put_word<const N: usize>(sheet: &mut Sheet<N>, word: u8)
+fn put_word<const N: usize>(sheet: &mut Sheet<N>, word: Option<Word>)
     ensures { sheet.new ≡ word_on sheet.old word }
 {
     match word {
-        b'l' => sheet.put_text(b"label "),
-        b'f' => sheet.put_text(b"footage "),
-        b'r' => sheet.put_text(b"refused "),
-        _ => {}
+        Some(Word::Label) => sheet.put_text(b"label "),
+        Some(Word::Footage) => sheet.put_text(b"footage "),
+        Some(Word::Refused) => sheet.put_text(b"refused "),
+        None => {}
     }
 }
 
 // A word before numbers, and the mark of a position.
-fn put_front<const N: usize>(sheet: &mut Sheet<N>, word: u8, position: bool)
+fn put_front<const N: usize>(sheet: &mut Sheet<N>, word: Option<Word>, position: bool)
     ensures { sheet.new ≡ front_on sheet.old word position }
 {
     put_word(sheet, word);
@@ -167,40 +168,34 @@ The first RATE of a command other than route, and the second of add, sub and cmp
     );
 }
 
-// A word alone.
-#[tactic(auto, unfolding(crate::specs::Shown::said_on), using(std::proofs::lemmas::Bool::Decides::nat_tests))]
-fn put_said<const N: usize>(sheet: &mut Sheet<N>, word: u8)
-    ensures { sheet.new ≡ said_on sheet.old word }
+// A second number behind its mark, if there is one.
+#[tactic(auto, unfolding(crate::specs::Shown::second_on))]
+fn put_second<const N: usize>(sheet: &mut Sheet<N>, second: Option<Second>)
+    ensures { sheet.new ≡ behind_on sheet.old second }
 {
-    if word == b'h' {
-        put_help(sheet);
-    } else {
-        sheet.put_text(b"not understood");
+    if let Some(s) = second {
+        sheet.put_byte(s.mark);
+        sheet.put_signed(false, s.number);
     }
 }
 
-// A mark and a number.
-#[tactic(auto, unfolding(crate::specs::Shown::second_on))]
-fn put_second<const N: usize>(sheet: &mut Sheet<N>, mark: u8, y: u64)
-    ensures { sheet.new ≡ second_on sheet.old mark y }
+// A number or two, behind a word or alone.
+fn put_numbers<const N: usize>(sheet: &mut Sheet<N>, n: Numbers)
+    ensures { sheet.new ≡ numbers_on sheet.old n }
 {
-    sheet.put_byte(mark);
-    sheet.put_signed(false, y);
+    put_front(sheet, n.word, n.position);
+    put_number(sheet, n.first);
+    put_second(sheet, n.second);
 }
 
 // An answer behind what the sheet has, without the line's end.
-#[tactic(auto, unfolding(crate::specs::Shown::parts_on), using(std::proofs::lemmas::Bool::Decides::nat_tests))]
 fn put_shown<const N: usize>(sheet: &mut Sheet<N>, s: Shown)
     ensures { sheet.new ≡ parts_on sheet.old s }
 {
-    if s.count == 0 {
-        put_said(sheet, s.word);
-        return;
-    }
-    put_front(sheet, s.word, s.position);
-    put_number(sheet, s.x);
-    if s.count != 1 {
-        put_second(sheet, s.mark, s.y);
+    match s {
+        Shown::Help => put_help(sheet),
+        Shown::NotUnderstood => sheet.put_text(b"not understood"),
+        Shown::Numbers(n) => put_numbers(sheet, n),
     }
 }
 
@@ -223,28 +218,17 @@ fn put_length<const N: usize>(sheet: &mut Sheet<N>, w: Result<usize, Refusal>)
     }
 }
 
-// The answer of a writer as a line behind what the sheet has, with the whole line that it wrote into.
+// The answer of a writer as a line behind what the sheet has, with the whole line that it wrote into: as it is, or as HEX.
 #[tactic(auto, unfolding(crate::specs::Shown::written_on))]
-pub fn show_written<const N: usize>(sheet: &mut Sheet<N>, w: Result<usize, Refusal>, line: &[u8])
-    ensures { sheet.new ≡ written_on sheet.old w line.now }
-{
-    put_length(sheet, w);
-    sheet.put_byte(b' ');
-    sheet.put_text(line);
-    sheet.put_byte(b'\n');
-}
-
-// The answer of a writer of bytes as a line behind what the sheet has, with the whole line that it wrote into as HEX.
-#[tactic(auto, unfolding(crate::specs::Shown::written_on))]
-pub fn show_written_hex<const N: usize>(
+pub fn show_written<const N: usize, T: Writable>(
     sheet: &mut Sheet<N>,
     w: Result<usize, Refusal>,
-    line: &[u8],
+    line: &T,
 )
-    ensures { sheet.new ≡ hex_written_on sheet.old w line.now }
+    ensures { sheet.new ≡ written_on sheet.old w (T.text line.now) }
 {
     put_length(sheet, w);
     sheet.put_byte(b' ');
-    hex_bytes::put(sheet, line);
+    sheet.put(line);
     sheet.put_byte(b'\n');
 }

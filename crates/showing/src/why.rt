@@ -26,7 +26,7 @@ fn put_accepted<const N: usize>(sheet: &mut Sheet<N>, tc: Timecode)
     ensures { sheet.new ≡ puts_on sheet.old (accepted_parts tc) }
 {
     sheet.put_text(b"0 0 ");
-    crate::put_shown(sheet, crate::one_count(0, tc));
+    crate::put_shown(sheet, crate::one_count(None, tc));
 }
 
 // A text that is turned down: `NUMBER PLACE 0`.

@@ -1,5 +1,6 @@
 -- `showing::count_and` meets its contract: its count, whether it is a position, and the number.
 -- Assumes nothing.
+use Rattle.std.specs.Prelude.{Option, Some}
 use Prim.Native.Nat.{ℕ}
 use mir.Syntax.{w64}
 use mir.Val.{to_z, of_z}
@@ -7,11 +8,14 @@ use mathlib.Core.Path.{◌≡◌, ap₂}
 use mathlib.Core.Bool.{Bool}
 use lib.IntN.{ℤ}
 use borrow.Author.Rules.{rules}
+use Rattle.showing.specs.declared.Word.{Word}
 use Rattle.showing.specs.declared.Shown.{Shown}
+use Rattle.showing.specs.declared.Shown.TheVariants as variant
 use Rattle.showing.proofs.count_and.Goals as goal
 
-abbrev shown : (word : ℕ) (position : Bool) (x : ℤ) (y : ℕ) → Shown
-shown word position x y = record { word = word; count = 2; position = position; x = x; mark = 32; y = y }
+abbrev shown : Option Word → (position : Bool) (x : ℤ) (y : ℕ) → Shown
+shown word position x y =
+    variant.Numbers (record { word = word; position = position; first = x; second = Some (record { mark = 32; number = y }) })
 
 pub returns : goal.returns
 returns c =

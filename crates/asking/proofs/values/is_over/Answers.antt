@@ -1,12 +1,14 @@
 -- `asking::values::is_over` meets its contract: by the byte at the place, where there is one.
 -- Assumes nothing.
-use mathlib.Core.Path.{◌∙◌}
-use borrow.Author.Tests.{le-leb}
-use Rattle.asking.proofs.Taken.{over-here, over-past}
+use mathlib.Core.Path.{◌≡◌, ◌∙◌}
+use mathlib.Core.Bool.{true, cond}
+use borrow.Author.Rules.{rules}
+use lib.Dec.{eqb, ltb}
+use lib.ListN.{length, get_or}
+use Rattle.asking.proofs.Taken.{over-at}
 use Rattle.asking.proofs.values.is_over.Goals as goal
 
-pub returns-then-line-at : goal.returns-then-line-at
-returns-then-line-at c = le-leb _ _ c.if-line-at.true ∙ over-past _ _ c.if-line-at.true
-
-pub returns-else-line-at : goal.returns-else-line-at
-returns-else-line-at c = over-here _ _ c.if-line-at.false
+pub returns : goal.returns
+returns c =
+    let by : c.is_none_or.result ≡ cond (ltb c.args.at (length c.args.line.now)) (eqb (get_or c.args.line.now c.args.at 0) 32) true = search rules in
+    by ∙ over-at c.args.line.now c.args.at

@@ -1,5 +1,7 @@
 -- `showing::each::of_text_refusal` meets its contract: a refusal's number is small.
 -- Assumes nothing.
+use Rattle.std.specs.Prelude.{Some}
+use Rattle.showing.specs.declared.Word.TheVariants.{Refused}
 use mathlib.Core.Path.{ap, ◌∙◌}
 use lib.IntN.{pos}
 use borrow.Author.Rules.{rules}
@@ -12,4 +14,4 @@ use Rattle.showing.proofs.each.of_text_refusal.Goals as goal
 pub returns : goal.returns
 returns c =
     let fits : SFits w64 (pos c.number.result) = record { sfits = search rules } in
-    c.two_numbers.ensures ∙ ap (λ x. two_numbers 114 x 32 c.args.e.place) (to_z-of_z fits ∙ ap pos c.number.ensures)
+    c.two_numbers.ensures ∙ ap (λ x. two_numbers (Some Refused) x 32 c.args.e.place) (to_z-of_z fits ∙ ap pos c.number.ensures)

@@ -9,6 +9,7 @@ use Rattle.shot_lists.specs.declared.records.Record.{Record}
 use Rattle.exports.specs.declared.lists.TzqRecord.{TzqRecord}
 use Rattle.exports.specs.HandedLists.{record_of_kind, handed_record}
 use borrow.Author.Rules.{rules}
+use Rattle.exports.proofs.Defaults.{no-record}
 use Rattle.exports.proofs.lists.TzqRecordFromTaken.from.Goals as goal
 
 -- a record's numbers, the signed ones apart, over those that it does not have
@@ -19,10 +20,10 @@ over n kind rate first end reel held size =
 pub returns-in-Rate : goal.returns-in-Rate
 unfolding handed_record record_of_kind
 returns-in-Rate c =
-    let first : to_z w64 (of_z w64 (to_z w64 (of_z w64 c.no_record.result.first))) ≡ c.no_record.result.first = search rules in
-    let end : to_z w64 (of_z w64 (to_z w64 (of_z w64 c.no_record.result.end))) ≡ c.no_record.result.end = search rules in
-    ap₂ (λ (x y : ℤ). over c.no_record.result 1 c.in-Rate.rate x y c.no_record.result.reel c.args.taken.held c.args.taken.size) first end
-    ∙ ap (λ (n : TzqRecord). over n 1 c.in-Rate.rate n.first n.end n.reel c.args.taken.held c.args.taken.size) c.no_record.ensures
+    let first : to_z w64 (of_z w64 (to_z w64 (of_z w64 c.default.result.first))) ≡ c.default.result.first = search rules in
+    let end : to_z w64 (of_z w64 (to_z w64 (of_z w64 c.default.result.end))) ≡ c.default.result.end = search rules in
+    ap₂ (λ (x y : ℤ). over c.default.result 1 c.in-Rate.rate x y c.default.result.reel c.args.taken.held c.args.taken.size) first end
+    ∙ ap (λ (n : TzqRecord). over n 1 c.in-Rate.rate n.first n.end n.reel c.args.taken.held c.args.taken.size) (no-record c.default.result c.default.ensures)
     ∙ sym (ap (λ (r : Record). handed_record r c.args.taken.held c.args.taken.size) c.in-Rate.is)
 
 pub returns-in-Shot : goal.returns-in-Shot
@@ -30,15 +31,15 @@ unfolding handed_record record_of_kind
 returns-in-Shot c =
     let first : to_z w64 (of_z w64 c.in-Shot.first) ≡ c.in-Shot.first = search rules in
     let end : to_z w64 (of_z w64 c.in-Shot.end) ≡ c.in-Shot.end = search rules in
-    ap₂ (λ (x y : ℤ). over c.no_record.result 2 c.no_record.result.rate x y c.no_record.result.reel c.args.taken.held c.args.taken.size) first end
-    ∙ ap (λ (n : TzqRecord). over n 2 n.rate c.in-Shot.first c.in-Shot.end n.reel c.args.taken.held c.args.taken.size) c.no_record.ensures
+    ap₂ (λ (x y : ℤ). over c.default.result 2 c.default.result.rate x y c.default.result.reel c.args.taken.held c.args.taken.size) first end
+    ∙ ap (λ (n : TzqRecord). over n 2 n.rate c.in-Shot.first c.in-Shot.end n.reel c.args.taken.held c.args.taken.size) (no-record c.default.result c.default.ensures)
     ∙ sym (ap (λ (r : Record). handed_record r c.args.taken.held c.args.taken.size) c.in-Shot.is)
 
 pub returns-in-Reel : goal.returns-in-Reel
 unfolding handed_record record_of_kind
 returns-in-Reel c =
-    let first : to_z w64 (of_z w64 (to_z w64 (of_z w64 c.no_record.result.first))) ≡ c.no_record.result.first = search rules in
-    let end : to_z w64 (of_z w64 (to_z w64 (of_z w64 c.no_record.result.end))) ≡ c.no_record.result.end = search rules in
-    ap₂ (λ (x y : ℤ). over c.no_record.result 3 c.no_record.result.rate x y c.in-Reel.reel c.args.taken.held c.args.taken.size) first end
-    ∙ ap (λ (n : TzqRecord). over n 3 n.rate n.first n.end c.in-Reel.reel c.args.taken.held c.args.taken.size) c.no_record.ensures
+    let first : to_z w64 (of_z w64 (to_z w64 (of_z w64 c.default.result.first))) ≡ c.default.result.first = search rules in
+    let end : to_z w64 (of_z w64 (to_z w64 (of_z w64 c.default.result.end))) ≡ c.default.result.end = search rules in
+    ap₂ (λ (x y : ℤ). over c.default.result 3 c.default.result.rate x y c.in-Reel.reel c.args.taken.held c.args.taken.size) first end
+    ∙ ap (λ (n : TzqRecord). over n 3 n.rate n.first n.end c.in-Reel.reel c.args.taken.held c.args.taken.size) (no-record c.default.result c.default.ensures)
     ∙ sym (ap (λ (r : Record). handed_record r c.args.taken.held c.args.taken.size) c.in-Reel.is)
