@@ -25,20 +25,29 @@ impl<R: Read> Read for UntilUnread<R> {
     }
 }
 
-// Every chunk of an input, of up to N bytes each, up to the input's end or the first error. (A proved loop ends: no run has so many turns.)
-pub fn each_chunk<R: Read, E: From<io::Error>, F: FnMut(&[u8]) -> Result<(), E>, const N: usize>(
+// What takes an input's chunks, of up to N bytes each.
+pub trait TakeChunk<const N: usize, E> {
+    fn take_chunk(&mut self, chunk: &[u8]) -> Result<(), E>
+        requires { length chunk.now ≤ N };
+}
+
+// What takes an input's lines, each by the bytes that are kept of it, and whether it has more.
+pub trait TakeLine<E> {
+    fn take_line(&mut self, line: &[u8], over: bool) -> Result<(), E>;
+}
+
+// Every chunk of an input, up to the input's end or the first error. (A proved loop ends: no run has so many turns.)
+pub fn each_chunk<R: Read, E: From<io::Error>, T: TakeChunk<N, E>, const N: usize>(
     input: &mut R,
-    chunk: &mut [u8; N],
-    mut each: F,
-) -> Result<(), E>
-    requires { (state : F) (part : _) → length part.now ≤ N → F.pre state part }
-{
+    buffer: &mut [u8; N],
+    taker: &mut T,
+) -> Result<(), E> {
     for _ in 0..u64::MAX {
-        let n = input.read(chunk)?;
+        let n = input.read(buffer)?;
         if n == 0 {
             break;
         }
-        each(&chunk[..n])?;
+        taker.take_chunk(&buffer[..n])?;
     }
     Ok(())
 }
@@ -61,15 +70,9 @@ impl<const B: usize> Waiting<B> {
         }
     }
 
-    // A chunk, line by line: `each` is called for each line that ends, with the bytes that are kept of it, and whether it has more.
-    // At an error the buffer has what waits behind some beginning of the chunk.
+    // A chunk, line by line, as far as one has ended. At an error the buffer has what waits behind some beginning of the chunk.
     #[tactic(auto, using(streams::proofs::Turns::next_more))]
-    pub fn each_line<E, F: FnMut(&[u8], bool) -> Result<(), E>>(
-        &mut self,
-        chunk: &[u8],
-        mut each: F,
-    ) -> Result<(), E>
-        requires { F.IsAlwaysCallable each }
+    pub fn each_line<E, T: TakeLine<E>>(&mut self, chunk: &[u8], taker: &mut T) -> Result<(), E>
         ensures { Leaves result self.old.buffer self.old.gathered chunk.now self.new.buffer self.new.gathered }
     {
         let mut next = 0;
@@ -79,21 +82,19 @@ impl<const B: usize> Waiting<B> {
             next = step.next;
             if step.ended {
                 let kept = step.gathered.len.min(B);
-                each(&self.buffer[..kept], step.gathered.over)?;
+                taker.take_line(&self.buffer[..kept], step.gathered.over)?;
             }
         }
         Ok(())
     }
 
     // At the input's end: a last line without its newline counts, where a byte of it has come.
-    pub fn last_line<E, F: FnOnce(&[u8], bool) -> Result<(), E>>(&self, each: F) -> Result<(), E>
-        requires { F.IsAlwaysCallable each }
-    {
+    pub fn last_line<E, T: TakeLine<E>>(&self, taker: &mut T) -> Result<(), E> {
         if self.gathered.is_empty() {
             return Ok(());
         }
         let kept = self.gathered.len.min(B);
-        each(&self.buffer[..kept], self.gathered.over)
+        taker.take_line(&self.buffer[..kept], self.gathered.over)
     }
 }
 

@@ -5,7 +5,7 @@
 ghost use Rattle.std.specs.Prelude.{◌≡◌, ◌*◌, ◌≤◌, length};
 ghost use Rattle.feeding.specs.Feeding.{fed_of};
 
-use inputs::{UntilUnread, Waiting};
+use inputs::{TakeChunk, UntilUnread, Waiting};
 use std::io;
 use std::io::Read;
 use streams::Sheet;
@@ -31,17 +31,35 @@ fn pour<const B: usize, const N: usize>(
     inputs::write_out(rt, sheet)
 }
 
+// What is read: the line that waits for its end, and the sheet of the answers.
+#[derive(Drop)]
+struct Poured<'a, P: Print> {
+    rt: &'a P,
+    line: Waiting<65>,
+    sheet: Sheet<192512>,
+}
+
+impl<P: Print> TakeChunk<4096, io::Error> for Poured<'_, P> {
+    fn take_chunk(&mut self, chunk: &[u8]) -> io::Result<()>
+        requires { length chunk.now ≤ 4096 }
+    {
+        pour(self.rt, chunk, &mut self.line, &mut self.sheet)
+    }
+}
+
 // All chunks, of 4096 bytes at most, whose answers have 192,512; a last line without its newline counts.
 fn run(rt: &impl Print, input: &mut impl Read) -> io::Result<()> {
-    let mut line = Waiting::<65>::new();
-    let mut sheet = Sheet::<192512>::new();
-    inputs::each_chunk(
-        input,
-        &mut [0; 4096],
-        |chunk|
-            requires { length chunk.now ≤ 4096 }
-        { pour(rt, chunk, &mut line, &mut sheet) },
-    )?;
+    let mut poured = Poured {
+        rt,
+        line: Waiting::new(),
+        sheet: Sheet::<192512>::new(),
+    };
+    inputs::each_chunk(input, &mut [0; 4096], &mut poured)?;
+    let Poured {
+        rt: _,
+        line,
+        mut sheet,
+    } = poured;
     feeding::finish(&line.buffer, &mut sheet, line.gathered);
     inputs::write_out(rt, &mut sheet)
 }

@@ -1,7 +1,7 @@
 // The directory file, line by line, up to its end or a bad line.
 ghost use Rattle.inputs.specs.Lines.{Leaves};
 
-use inputs::Waiting;
+use inputs::{TakeChunk, TakeLine, Waiting};
 use router::Directory;
 use routing::{Flaw, Loaded, Loading};
 use std::io;
@@ -49,8 +49,16 @@ impl Lines {
         }
     }
 
-    // A line more; `over` where it has more bytes than are kept.
-    fn take(&mut self, line: &[u8], over: bool) -> Result<(), Halt> {
+    // The directory of the shards that have come, at a rate.
+    pub(crate) fn directory(&self, rate: u64) -> Directory {
+        let n = self.state.shards.min(256);
+        router::tested(rate, &self.firsts[..n], &self.ends[..n])
+    }
+}
+
+// A line more.
+impl TakeLine<Halt> for Lines {
+    fn take_line(&mut self, line: &[u8], over: bool) -> Result<(), Halt> {
         self.count = self.count.saturating_add(1);
         match routing::load(self.state, line, over) {
             Ok(Loaded::Skipped) => {}
@@ -63,28 +71,36 @@ impl Lines {
         }
         Ok(())
     }
-
-    // The directory of the shards that have come, at a rate.
-    pub(crate) fn directory(&self, rate: u64) -> Directory {
-        let n = self.state.shards.min(256);
-        router::tested(rate, &self.firsts[..n], &self.ends[..n])
-    }
 }
 
 // A chunk of the file, line by line. At a bad line the buffer has what waits behind some beginning of the chunk.
 fn feed(chunk: &[u8], waiting: &mut Waiting<4096>, lines: &mut Lines) -> Result<(), Halt>
     ensures { Leaves result waiting.old.buffer waiting.old.gathered chunk.now waiting.new.buffer waiting.new.gathered }
 {
-    waiting.each_line(chunk, |line, over| lines.take(line, over))
+    waiting.each_line(chunk, lines)
+}
+
+// What is read of a file: the line that waits for its end, and the lines that have ended.
+#[derive(Drop)]
+struct Source {
+    waiting: Waiting<4096>,
+    lines: Lines,
+}
+
+impl TakeChunk<4096, Halt> for Source {
+    fn take_chunk(&mut self, chunk: &[u8]) -> Result<(), Halt> {
+        feed(chunk, &mut self.waiting, &mut self.lines)
+    }
 }
 
 // All lines; a last one without its newline counts.
 pub(crate) fn load_all(file: &mut impl Read) -> Result<Lines, Halt> {
-    let mut waiting = Waiting::<4096>::new();
-    let mut lines = Lines::new();
-    inputs::each_chunk(file, &mut [0; 4096], |chunk| {
-        feed(chunk, &mut waiting, &mut lines)
-    })?;
-    waiting.last_line(|line, over| lines.take(line, over))?;
+    let mut source = Source {
+        waiting: Waiting::<4096>::new(),
+        lines: Lines::new(),
+    };
+    inputs::each_chunk(file, &mut [0; 4096], &mut source)?;
+    let Source { waiting, mut lines } = source;
+    waiting.last_line(&mut lines)?;
     Ok(lines)
 }

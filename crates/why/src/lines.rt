@@ -1,38 +1,52 @@
 // The lines of standard input, each a question, or each a text that is read in one way.
 ghost use Rattle.inputs.specs.Lines.{Leaves};
 
-use inputs::Waiting;
+use inputs::{TakeChunk, TakeLine, Waiting};
 use std::io;
 use std::io::Read;
 use streams::Sheet;
 use telling::Way;
 
-// The answer to a line, behind those that are kept.
-fn answer(
-    rt: &impl Print,
+// The answers to lines, behind those that are kept on the sheet: each a text that is read in this way, or a question.
+#[derive(Drop)]
+struct Answers<'a, P: Print> {
+    rt: &'a P,
     way: Option<Way>,
-    line: &[u8],
-    over: bool,
-    sheet: &mut Sheet<65536>,
-) -> io::Result<()> {
-    inputs::make_room(rt, sheet, 16384)?;
-    telling::answer(sheet, way, line, over);
-    Ok(())
+    sheet: Sheet<65536>,
+}
+
+impl<P: Print> TakeLine<io::Error> for Answers<'_, P> {
+    fn take_line(&mut self, line: &[u8], over: bool) -> io::Result<()> {
+        inputs::make_room(self.rt, &mut self.sheet, 16384)?;
+        telling::answer(&mut self.sheet, self.way, line, over);
+        Ok(())
+    }
 }
 
 // A chunk of input, line by line; its answers are written before the next one is read.
 // Where a write fails the buffer has what waits behind some beginning of the chunk.
-fn feed(
-    rt: &impl Print,
+fn feed<P: Print>(
     chunk: &[u8],
-    way: Option<Way>,
     waiting: &mut Waiting<4096>,
-    sheet: &mut Sheet<65536>,
+    answers: &mut Answers<P>,
 ) -> io::Result<()>
     ensures { Leaves result waiting.old.buffer waiting.old.gathered chunk.now waiting.new.buffer waiting.new.gathered }
 {
-    waiting.each_line(chunk, |line, over| answer(rt, way, line, over, sheet))?;
-    inputs::write_out(rt, sheet)
+    waiting.each_line(chunk, answers)?;
+    inputs::write_out(answers.rt, &mut answers.sheet)
+}
+
+// What is read: the line that waits for its end, and the answers to those that have ended.
+#[derive(Drop)]
+struct Asked<'a, P: Print> {
+    waiting: Waiting<4096>,
+    answers: Answers<'a, P>,
+}
+
+impl<P: Print> TakeChunk<65536, io::Error> for Asked<'_, P> {
+    fn take_chunk(&mut self, chunk: &[u8]) -> io::Result<()> {
+        feed(chunk, &mut self.waiting, &mut self.answers)
+    }
 }
 
 // All lines, each a text where the way to read it is given, else a question; a last one without its newline counts.
@@ -41,11 +55,19 @@ pub(crate) fn answer_all(
     input: &mut impl Read,
     way: Option<Way>,
 ) -> io::Result<()> {
-    let mut waiting = Waiting::<4096>::new();
-    let mut sheet = Sheet::<65536>::new();
-    inputs::each_chunk(input, &mut [0; 65536], |chunk| {
-        feed(rt, chunk, way, &mut waiting, &mut sheet)
-    })?;
-    waiting.last_line(|line, over| answer(rt, way, line, over, &mut sheet))?;
-    inputs::write_out(rt, &mut sheet)
+    let mut asked = Asked {
+        waiting: Waiting::<4096>::new(),
+        answers: Answers {
+            rt,
+            way,
+            sheet: Sheet::<65536>::new(),
+        },
+    };
+    inputs::each_chunk(input, &mut [0; 65536], &mut asked)?;
+    let Asked {
+        waiting,
+        mut answers,
+    } = asked;
+    waiting.last_line(&mut answers)?;
+    inputs::write_out(rt, &mut answers.sheet)
 }

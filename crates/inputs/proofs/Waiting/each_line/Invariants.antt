@@ -8,8 +8,7 @@ use Rattle.inputs.proofs.Waiting.each_line.Given as goal
 
 abbrev pub invariant-loop-next : goal.invariant-loop-next
 invariant-loop-next g l =
-    goal.F-IsAlwaysCallable g l.each
-    × (waiting_behind l.initial.self.buffer l.initial.self.gathered (take l.next l.chunk) ≡ waiting l.self.buffer l.self.gathered)
+    waiting_behind l.initial.self.buffer l.initial.self.gathered (take l.next l.chunk) ≡ waiting l.self.buffer l.self.gathered
 
 abbrev pub decreases-loop-next : goal.decreases-loop-next
 decreases-loop-next g l = length l.chunk - l.next
