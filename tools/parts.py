@@ -79,7 +79,7 @@ class Item:
         if self.word in ("record", "data"):
             return self.word
         if self.name[0].isupper() and re.search(r"Type \d$", self.type()):
-            return "statement" if self.type() in ("Type 0", "Type 1") and not self.around else "relation"
+            return "statement" if re.fullmatch(r"Type \d", self.type()) and not self.around else "relation"
         return "definition" if self.word in ("abbrev", "unfoldable") else "law"
 
 
@@ -152,7 +152,7 @@ def is_statement(path, item):
     """Whether an item of specs/ says something by itself: an abbreviation of a type, or a record without parameters among the promises."""
     if not item.pub or item.name == "Promises":
         return False
-    bare = item.kind() == "record" and not item.around and re.match(r"\S+ : Type 0 where", plain(item.head))
+    bare = item.kind() == "record" and not item.around and re.match(r"\S+ : Type \d where", plain(item.head))
     return item.kind() == "statement" or bool(bare and (path.startswith("crates/promises/") or path.endswith("/Statements.antt")))
 
 

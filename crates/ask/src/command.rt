@@ -53,6 +53,7 @@ fn shown(c: &Command) -> Option<Shown> {
 }
 
 // The answer to a command as a line; none, and nothing changes, where it is not understood.
+#[inline(always)]
 fn put_answer(c: &Command, sheet: &mut Sheet<65536>) -> Option<()> {
     match c.row {
         rows::LABEL | rows::FOOTAGE | rows::RUNTIME => write::put_written(c, sheet),

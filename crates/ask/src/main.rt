@@ -69,12 +69,9 @@ fn answer_all(rt: &impl Print, input: &mut impl Read) -> io::Result<()> {
         },
     };
     inputs::each_chunk(input, &mut [0; 65536], &mut asked)?;
-    let Asked {
-        waiting,
-        mut answers,
-    } = asked;
-    waiting.last_line(&mut answers)?;
-    inputs::write_out(rt, &mut answers.sheet)
+    let left = &mut asked;
+    left.waiting.last_line(&mut left.answers)?;
+    inputs::write_out(rt, &mut left.answers.sheet)
 }
 
 fn main(rt: HostRuntime) -> io::Result<()> {

@@ -2,27 +2,22 @@
 -- Assumes nothing.
 use Prim.Native.Nat.{ℕ, suc, ◌+◌, ◌-◌, ◌≤◌, ◌<◌, min}
 use mathlib.Core.Path.{◌≡◌, refl, sym, ap, ◌∙◌}
-use mathlib.Core.Logic.{◌⊎◌, inl, inr, ⊎_elim}
 use mathlib.Core.List.{List, [], ◌∷◌}
 use mathlib.Core.Bool.{Bool, true, false, cond, ◌&&◌}
 use native.Mathlib.Omega.{arith}
 use lib.Dec.{eqb, ltb}
 use lib.ListN.{length, take, drop, length-drop, drop_of_length-le}
 use lib.Seq.{take_all, drop-cons, drop-drop}
-use borrow.Author.Tests.{ltb-true, ltb-false, leb-true, leb-false}
-use Rattle.lent.specs.Line.{fits}
-use Rattle.written.specs.Written.{Text, answer_to, line_to, length_of}
-use Rattle.written.proofs.Laws.{text-written}
-use Rattle.written.proofs.Statements.{no_room_exactly}
+use borrow.Author.Tests.{ltb-true, ltb-false}
 use Rattle.lines.specs.Output.{answer_text}
 use Rattle.streams.specs.declared.gathered.Gathered.{Gathered}
 use Rattle.streams.specs.declared.gathered.Step.{Step}
-use Rattle.streams.specs.Gathering.{no_byte, taken, buffer_taken, Gathering, gathering, gather_from}
-use Rattle.streams.specs.Sheet.{Sheet, sheet, put_on}
+use Rattle.streams.specs.Gathering.{no_byte, is_empty, taken, buffer_taken, Gathering, gathering, gather_from}
+use Rattle.streams.specs.Sheet.{Sheet, sheet, sheet_of, lent_by}
 use Rattle.streams.specs.Turns.{gone_on}
 use Rattle.streams.proofs.Gathering.{next_le, next-lt, next-within, gather-length}
-use Rattle.streams.proofs.Putting.{put-length}
-use Rattle.feeding.specs.Feeding.{answered, Machine, machine, next, goes_on, After, taken_to, fed_from, line_ended, stepped}
+use Rattle.streams.proofs.Putting.{put-length, put_lent_by}
+use Rattle.feeding.specs.Feeding.{answered, Machine, machine, next, goes_on, After, taken_to, fed_from, begun, fed_of, line_ended, stepped, finished}
 
 -- ---- a byte more of the chunk, and room
 both_left : (x y : Bool) → (x && y) ≡ true → x ≡ true
@@ -35,7 +30,7 @@ both_right false y e = absurd (let z : ◌≡◌ {A = ℕ} 0 1 = cc in omega ari
 
 -- ---- the answer to what is kept of a line
 module _ (buffer : List ℕ) (len n : ℕ) (e : n ≡ min len (length buffer)) where
-  part-is : take n buffer ≡ take len buffer
+  pub part-is : take n buffer ≡ take len buffer
   part-is = by (ltb len (length buffer)) refl
     where
       by : (x : Bool) → ltb len (length buffer) ≡ x → take n buffer ≡ take len buffer
@@ -43,45 +38,6 @@ module _ (buffer : List ℕ) (len n : ℕ) (e : n ≡ min len (length buffer)) w
       by false f =
           let l = ltb-false len (length buffer) f in
           take_all n buffer (omega arith) ∙ sym (take_all len buffer l)
-
-module _ (out : List ℕ) (used : ℕ) (t : List ℕ) where
-  -- a text that fits is answered by its length, any other by a refusal
-  long-in : used + length t ≤ length out → length_of (answer_to out used (Text t)) ≡ length t
-  long-in h = ap length_of (text-written out used t h).0
-
-  long-out : length out < used + length t → length_of (answer_to out used (Text t)) ≡ 0
-  long-out h = ap length_of ((no_room_exactly out used t).1 h)
-
-  -- a text laid down from the place behind what is used is put on the sheet
-  laid-used : used + length_of (answer_to out used (Text t)) ≡ (put_on (sheet out used) t).used
-  unfolding put_on
-  laid-used = by (fits out used t) refl
-    where
-      by : (x : Bool) → fits out used t ≡ x → used + length_of (answer_to out used (Text t)) ≡ cond (fits out used t) (used + length t) used
-      by true e = rw (long-in (leb-true (used + length t) (length out) e), e)
-      by false e = rw (long-out (leb-false (used + length t) (length out) e), e) (omega arith)
-
-  laid-bytes : line_to out used (Text t) ≡ (put_on (sheet out used) t).bytes
-  unfolding line_to put_on
-  laid-bytes = refl
-
-  -- it fits, or nothing is laid down
-  pub laid-fits : (used + length_of (answer_to out used (Text t)) ≤ length out) ⊎ (length_of (answer_to out used (Text t)) ≡ 0)
-  laid-fits = by (fits out used t) refl
-    where
-      by : (x : Bool) → fits out used t ≡ x
-          → (used + length_of (answer_to out used (Text t)) ≤ length out) ⊎ (length_of (answer_to out used (Text t)) ≡ 0)
-      by true e = let h = leb-true (used + length t) (length out) e in inl (omega (arith, long-in h))
-      by false e = inr (long-out (leb-false (used + length t) (length out) e))
-
--- what `answer` leaves: the answer behind what the sheet has
-pub answer-is : (buffer : List ℕ) (g : Gathered) (s : Sheet) (n k : ℕ) (last : List ℕ) → n ≡ min g.len (length buffer)
-    → k ≡ length_of (answer_to s.bytes s.used (Text (answer_text (take n buffer)))) → last ≡ line_to s.bytes s.used (Text (answer_text (take n buffer)))
-    → sheet last (s.used + k) ≡ answered buffer g s
-unfolding answered
-answer-is buffer g s n k last e p q =
-    let t = answer_text (take n buffer) in
-    rw (q ∙ laid-bytes s.bytes s.used t, p, laid-used s.bytes s.used t) (ap (λ z. put_on s (answer_text z)) (part-is buffer g.len n e))
 
 -- ---- the bytes up to the next newline
 -- a step of the loop of `feed`
@@ -220,3 +176,67 @@ module _ (chunk : List ℕ) (f : After) (r : Bool)
           → fed_from f.eaten f.machine (drop f.eaten chunk) ≡ f
       by true g u = rw (drop-cons chunk f.eaten 0 (ltb-true f.eaten (length chunk) g), u)
       by false g u = rw (drop_of_length-le chunk {i = f.eaten} (ltb-false f.eaten (length chunk) g))
+
+-- ---- whoever lent the sheet
+module _ (lender : List ℕ) where
+  -- the same machine, and the same after a part of a chunk, over the sheet of another lender
+  abbrev pub lent_machine : Machine → Machine
+  lent_machine m = machine m.buffer m.gathered (lent_by lender m.sheet)
+
+  abbrev pub lent_after : After → After
+  lent_after f = taken_to (lent_machine f.machine) f.eaten
+
+  answered-lent : (buffer : List ℕ) (g : Gathered) (s : Sheet) → answered buffer g (lent_by lender s) ≡ lent_by lender (answered buffer g s)
+  unfolding answered
+  answered-lent buffer g s = put_lent_by lender s (answer_text (take g.len buffer))
+
+  next-lent : (m : Machine) (b : ℕ) → next (lent_machine m) b ≡ lent_machine (next m b)
+  next-lent m b = by (eqb b 10) refl
+    where
+      by : (x : Bool) → eqb b 10 ≡ x → next (lent_machine m) b ≡ lent_machine (next m b)
+      by true e =
+          next-end (lent_machine m) b e
+          ∙ ap (machine m.buffer no_byte) (answered-lent m.buffer m.gathered m.sheet)
+          ∙ ap lent_machine (sym (next-end m b e))
+      by false e = next-byte (lent_machine m) b e ∙ ap lent_machine (sym (next-byte m b e))
+
+  fed-lent : (l : List ℕ) (i : ℕ) (m : Machine) → fed_from i (lent_machine m) l ≡ lent_after (fed_from i m l)
+  unfolding fed_from
+  fed-lent [] i m = refl
+  fed-lent (b ∷ l) i m =
+      by (goes_on (length m.sheet.bytes) m.sheet.used) (ap (λ z. fed_from (suc i) z l) (next-lent m b) ∙ fed-lent l (suc i) (next m b))
+    where
+      by : (x : Bool) → fed_from (suc i) (next (lent_machine m) b) l ≡ lent_after (fed_from (suc i) (next m b) l)
+          → cond x (fed_from (suc i) (next (lent_machine m) b) l) (taken_to (lent_machine m) i)
+          ≡ lent_after (cond x (fed_from (suc i) (next m b) l) (taken_to m i))
+      by true e = e
+      by false e = refl
+
+  -- a chunk, onto the empty sheet of a lender
+  pub fed-as : (buffer out : List ℕ) (g : Gathered) (chunk : List ℕ)
+      → fed_from 0 (lent_machine (begun buffer out g)) chunk ≡ lent_after (fed_of buffer out g chunk)
+  fed-as buffer out g chunk = fed-lent chunk 0 (begun buffer out g)
+
+  -- the end of the input
+  pub finished-empty : (buffer out : List ℕ) (g : Gathered) → is_empty g ≡ true → sheet_of lender out 0 ≡ lent_by lender (finished buffer out g)
+  unfolding finished
+  finished-empty buffer out g e = rw e
+
+  pub finished-last : (buffer out : List ℕ) (g : Gathered) → is_empty g ≡ false
+      → answered buffer g (sheet_of lender out 0) ≡ lent_by lender (finished buffer out g)
+  unfolding finished
+  finished-last buffer out g e = rw e (answered-lent buffer g (sheet out 0))
+
+-- an array's own sheet is the one that the definitions have
+pub fed-own : (buffer out : List ℕ) (g : Gathered) (chunk : List ℕ)
+    → lent_by [] (fed_of buffer out g chunk).machine.sheet ≡ (fed_of buffer out g chunk).machine.sheet
+fed-own buffer out g chunk = ap (λ z. z.machine.sheet) (sym (fed-as [] buffer out g chunk))
+
+pub finished-own : (buffer out : List ℕ) (g : Gathered) → lent_by [] (finished buffer out g) ≡ finished buffer out g
+unfolding finished
+finished-own buffer out g = by (is_empty g)
+  where
+    by : (x : Bool)
+        → lent_by [] (cond x (sheet out 0) (answered buffer g (sheet out 0))) ≡ cond x (sheet out 0) (answered buffer g (sheet out 0))
+    by true = refl
+    by false = sym (answered-lent [] buffer g (sheet out 0))

@@ -4,9 +4,10 @@
 #![tactic(auto)]
 
 ghost use Rattle.std.specs.Prelude.{◌≡◌, ◌&&◌, cond, ltb, length};
+ghost use Rattle.streams.specs.Sheet.{lent_by};
 ghost use Rattle.feeding.specs.Feeding.{answered, goes_on, fed_answer, fed_of, finished};
 
-use streams::{Gathered, Sheet, Step};
+use streams::{Gathered, Page, Step};
 
 // After a chunk: what is gathered of the next line, and how many bytes of the chunk were taken.
 #[derive(Clone, Copy)]
@@ -16,19 +17,16 @@ pub struct Fed {
 }
 
 // The answer to what is kept of a line, behind what the sheet has.
-fn answer<const N: usize>(buffer: &[u8], g: Gathered, sheet: &mut Sheet<N>)
-    ensures { sheet.new ≡ answered buffer.now g sheet.old }
+fn answer<P: Page>(buffer: &[u8], g: Gathered, sheet: &mut P)
+    ensures { P.seen sheet.new ≡ answered buffer.now g (P.seen sheet.old) }
 {
     let line = &buffer[..g.len.min(buffer.len())];
-    let used = sheet.used;
-    let bytes = &mut sheet.bytes[..];
-    let laid = lines::answer(line, bytes, used);
-    sheet.used = used + written::length(laid);
+    sheet.put(&lines::answer_to_line(line));
 }
 
 // The answer where a line has ended.
-fn answer_ended<const N: usize>(step: Step, buffer: &[u8], sheet: &mut Sheet<N>)
-    ensures { sheet.new ≡ cond step.ended (answered buffer.now step.gathered sheet.old) sheet.old }
+fn answer_ended<P: Page>(step: Step, buffer: &[u8], sheet: &mut P)
+    ensures { P.seen sheet.new ≡ cond step.ended (answered buffer.now step.gathered (P.seen sheet.old)) (P.seen sheet.old) }
 {
     if step.ended {
         answer(buffer, step.gathered, sheet);
@@ -36,22 +34,17 @@ fn answer_ended<const N: usize>(step: Step, buffer: &[u8], sheet: &mut Sheet<N>)
 }
 
 // Is there a byte more of the chunk, and room on the sheet for the longest answer?
-fn goes_on<const N: usize>(chunk: &[u8], eaten: usize, sheet: &Sheet<N>) -> bool
-    ensures { result ≡ ltb eaten (length chunk.now) && goes_on (length sheet.now.bytes) sheet.now.used }
+fn goes_on<P: Page>(chunk: &[u8], eaten: usize, sheet: &P) -> bool
+    ensures { result ≡ ltb eaten (length chunk.now) && goes_on (length (P.seen sheet.now).bytes) (P.seen sheet.now).used }
 {
     eaten < chunk.len() && sheet.has_room(47)
 }
 
 // A chunk, onto the sheet without what it had; the buffer and the sheet afterwards.
-pub fn feed<const N: usize>(
-    chunk: &[u8],
-    buffer: &mut [u8],
-    sheet: &mut Sheet<N>,
-    g: Gathered,
-) -> Fed
-    ensures answer { result ≡ fed_answer (fed_of buffer.old sheet.old.bytes g chunk.now) }
-    ensures buffer { buffer.new ≡ (fed_of buffer.old sheet.old.bytes g chunk.now).machine.buffer }
-    ensures sheet { sheet.new ≡ (fed_of buffer.old sheet.old.bytes g chunk.now).machine.sheet }
+pub fn feed<P: Page>(chunk: &[u8], buffer: &mut [u8], sheet: &mut P, g: Gathered) -> Fed
+    ensures answer { result ≡ fed_answer (fed_of buffer.old (P.seen sheet.old).bytes g chunk.now) }
+    ensures buffer { buffer.new ≡ (fed_of buffer.old (P.seen sheet.old).bytes g chunk.now).machine.buffer }
+    ensures sheet { P.seen sheet.new ≡ lent_by (P.seen sheet.old).lender (fed_of buffer.old (P.seen sheet.old).bytes g chunk.now).machine.sheet }
 {
     sheet.clear();
     let mut gathered = g;
@@ -66,9 +59,8 @@ pub fn feed<const N: usize>(
 }
 
 // The end of the input: a last line without its newline is answered, onto the sheet without what it had.
-#[tactic(auto, unfolding(crate::specs::Feeding::finished))]
-pub fn finish<const N: usize>(buffer: &[u8], sheet: &mut Sheet<N>, g: Gathered)
-    ensures { sheet.new ≡ finished buffer.now sheet.old.bytes g }
+pub fn finish<P: Page>(buffer: &[u8], sheet: &mut P, g: Gathered)
+    ensures { P.seen sheet.new ≡ lent_by (P.seen sheet.old).lender (finished buffer.now (P.seen sheet.old).bytes g) }
 {
     sheet.clear();
     if !g.is_empty() {

@@ -8,7 +8,7 @@ ghost use Rattle.streams.specs.Sheet.{put_on};
 ghost use Rattle.hex_bytes.specs.Digits.{hex_value, all_hex_digits, lower_digit};
 ghost use Rattle.hex_bytes.specs.Hex.{is_hex, pair_bytes, bytes_of_hex, hexed_of, digit_pairs, hex_text};
 
-use streams::Sheet;
+use streams::Page;
 use written::Writable;
 
 // Bytes that are laid down as HEX.
@@ -105,8 +105,8 @@ fn put_pairs(part: &mut [u8], bytes: &[u8])
 }
 
 // The HEX of bytes put on a sheet; where it has no room nothing changes.
-pub fn put<const N: usize>(sheet: &mut Sheet<N>, bytes: &[u8])
-    ensures { sheet.new ≡ put_on sheet.old (hex_text bytes.now) }
+pub fn put<P: Page>(sheet: &mut P, bytes: &[u8])
+    ensures { P.seen sheet.new ≡ put_on (P.seen sheet.old) (hex_text bytes.now) }
 {
     sheet.put(&Hex { bytes });
 }

@@ -81,6 +81,7 @@ impl Writable for Label {
 }
 
 // How many bytes the text of sections has.
+#[inline(always)]
 pub fn sections_length(s: TimecodeSections) -> usize
     ensures { result ≡ sections_length s }
 {

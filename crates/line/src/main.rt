@@ -55,13 +55,9 @@ fn run(rt: &impl Print, input: &mut impl Read) -> io::Result<()> {
         sheet: Sheet::<192512>::new(),
     };
     inputs::each_chunk(input, &mut [0; 4096], &mut poured)?;
-    let Poured {
-        rt: _,
-        line,
-        mut sheet,
-    } = poured;
-    feeding::finish(&line.buffer, &mut sheet, line.gathered);
-    inputs::write_out(rt, &mut sheet)
+    let left = &mut poured;
+    feeding::finish(&left.line.buffer, &mut left.sheet, left.line.gathered);
+    inputs::write_out(rt, &mut left.sheet)
 }
 
 fn main(rt: HostRuntime) -> io::Result<()> {

@@ -3,7 +3,7 @@
 use Rattle.answers.specs.Causes.{refusal_number}
 use Rattle.std.specs.Prelude.{Result, Ok, Err}
 use Prim.Native.Nat.{ℕ, ◌+◌, ◌^◌, ◌≤◌, ◌<◌}
-use mathlib.Core.Path.{ap}
+use mathlib.Core.Path.{◌≡◌, refl, ap}
 use mathlib.Core.Bool.{Bool, false}
 use native.Mathlib.Omega.{arith}
 use lib.IntN.{nat_abs}
@@ -24,8 +24,8 @@ use Rattle.label_writer.specs.LabelText.{frames_mark, label_text}
 use Rattle.label_writer.proofs.Answers.{sections-same}
 use Rattle.label_writer.proofs.Statements.{label_bounds}
 use Rattle.lines.specs.Input.{line_of}
-use Rattle.lines.specs.Output.{timecode_text, refused_text, held_text, answer_text, columns_of}
-use Rattle.lines.specs.Statements.{ReadAtRate, NotBegun, ShortAnswer}
+use Rattle.lines.specs.Output.{timecode_text, refused_text, held_text, answer_text, columns_of, columns_held, answer_with, answer_of, text_of}
+use Rattle.lines.specs.Statements.{ReadAtRate, NotBegun, ShortAnswer, LaidAsText}
 use Rattle.lines.proofs.Begun.{not_line, made-read}
 use Rattle.lines.proofs.Texts.{columns_length, refused_length, sections-there, columns-are}
 use Rattle.lines.proofs.Held.{Sound, line-sound}
@@ -67,3 +67,12 @@ held-short (Err e) h = refused-short e h
 pub short_answer : ShortAnswer
 unfolding answer_text
 short_answer line = held-short (line_of line) (line-sound line)
+
+-- what a line holds, as a value and as a text
+as-text : (held : Result Timecode Refusal) → Sound held → text_of (answer_with (columns_held held)) ≡ held_text held
+as-text (Ok tc) v = columns-are tc v (label_sections tc.rate tc.count) (sections-there tc v)
+as-text (Err e) h = refl
+
+pub laid_as_text : LaidAsText
+unfolding answer_of answer_text
+laid_as_text line = as-text (line_of line) (line-sound line)

@@ -9,9 +9,13 @@ use Rattle.numbers.specs.Sign.{is_neg}
 use Rattle.timecodes.specs.declared.Timecode.{Timecode}
 use Rattle.timecodes.specs.Instant.{instant, instant_in}
 use Rattle.label_writer.specs.declared.TimecodeSections.{TimecodeSections}
+use Rattle.label_writer.specs.Sections.{label_sections}
 use Rattle.label_writer.specs.LabelText.{frames_mark, sections_text, label_text}
 use Rattle.written.specs.Parts.{signed_text}
+use Rattle.lines.specs.declared.LineAnswer.{LineAnswer}
 use Rattle.lines.specs.declared.Columns.{Columns}
+use Rattle.lines.specs.declared.Content.{Content}
+use Rattle.lines.specs.declared.Content.TheVariants as content
 use Rattle.lines.specs.Input.{line_of}
 
 -- a quoted text as bytes
@@ -66,3 +70,25 @@ label_column c = sections_text (frames_mark c.rate) c.sections ++ (32 ∷ [])
 
 abbrev pub columns_text : Columns → List ℕ
 columns_text c = ended_text c.below c.count 32 ++ (label_column c ++ ended_text c.minus c.ticks 10)
+
+-- ---- the answer as a value
+-- the columns of a timecode that a line holds
+abbrev pub columns_held : Result Timecode Refusal → Result Columns Refusal
+columns_held (Ok tc) = Ok (columns_of tc (label_sections tc.rate tc.count))
+columns_held (Err e) = Err e
+
+abbrev pub answer_with : Result Columns Refusal → LineAnswer
+answer_with (Ok c) = record { content = content.Timecode c }
+answer_with (Err e) = record { content = content.Refused (record { number = refusal_number e }) }
+
+-- the answer to a line
+unfoldable pub answer_of : (line : List ℕ) → LineAnswer
+answer_of line = answer_with (columns_held (line_of line))
+
+-- its text
+abbrev pub content_text : Content → List ℕ
+content_text (content.Timecode c) = columns_text c
+content_text (content.Refused r) = refused_text r.number
+
+abbrev pub text_of : LineAnswer → List ℕ
+text_of a = content_text a.content

@@ -1,14 +1,13 @@
-// The line program's answer to one line of input, laid into the caller's line. A line is refused 1 or as its text is, and the answer says so;
-// refused 8, where the answer has no room.
+// The line program's answer to one line of input, to be laid into the caller's line or onto a sheet. A line is refused 1 or as its text is,
+// and the answer says so; refused 8, where the answer has no room.
 #![tactic(auto)]
 
 ghost use Rattle.std.specs.Prelude.{◌≡◌, true, ◌∷◌, [], ◌++◌, ◌≤◌, length};
 ghost use Rattle.lent.specs.Line.{laid};
-ghost use Rattle.timecodes.specs.Admitted.{Valid};
 ghost use Rattle.label_writer.specs.LabelText.{frames_mark, sections_text};
 ghost use Rattle.written.specs.Written.{Text, answer_to, line_to};
 ghost use Rattle.lines.specs.Input.{is_line, rate_in, line_holds, line_of};
-ghost use Rattle.lines.specs.Output.{timecode_text, refused_text, answer_text, ended_text, columns_of, columns_text};
+ghost use Rattle.lines.specs.Output.{refused_text, answer_text, ended_text, columns_of, columns_text, columns_held, answer_of, text_of};
 
 use answers::{Cause, Refusal};
 use label_writer::TimecodeSections;
@@ -33,19 +32,51 @@ struct RefusedLine {
     number: u64,
 }
 
+// The answer to a line of input: a text of one line, its newline included.
+#[derive(Clone, Copy)]
+pub struct LineAnswer {
+    content: Content,
+}
+
+// What an answer holds.
+#[derive(Clone, Copy)]
+enum Content {
+    Timecode(Columns),
+    Refused(RefusedLine),
+}
+
 // The answer to a line of input, laid down from `place` on: its length, and every byte of `out` afterwards.
 // Refuses 8: place plus text length exceeds the length of `out`.
 pub fn answer(input: &[u8], out: &mut [u8], place: usize) -> Result<usize, Refusal>
     ensures answer { result ≡ answer_to out.old place (Text (answer_text input.now)) }
     ensures line { out.new ≡ line_to out.old place (Text (answer_text input.now)) }
 {
-    match read_line(input) {
-        Ok(tc) => write_timecode(tc, out, place),
-        Err(e) => {
-            let number = u64::from(e.cause.number());
-            written::write(&RefusedLine { number }, out, place)
-        }
+    written::write(&answer_to_line(input), out, place)
+}
+
+// The answer to a line of input, its newline not counted.
+pub fn answer_to_line(input: &[u8]) -> LineAnswer
+    ensures { result ≡ answer_of input.now }
+{
+    match columns_held(input) {
+        Ok(columns) => LineAnswer {
+            content: Content::Timecode(columns),
+        },
+        Err(e) => LineAnswer {
+            content: Content::Refused(RefusedLine {
+                number: u64::from(e.cause.number()),
+            }),
+        },
     }
+}
+
+// The columns of the timecode that a line holds: the sections of one that a line holds are never refused.
+fn columns_held(input: &[u8]) -> Result<Columns, Refusal>
+    ensures { result ≡ columns_held (line_of input.now) }
+{
+    let tc = read_line(input)?;
+    let sections = label_writer::sections(tc)?;
+    Ok(columns_of(tc, sections))
 }
 
 // What a line of input holds, its newline not counted. Refuses 1: it has over 64 bytes, or does not begin with two digits of rate and a
@@ -90,16 +121,6 @@ fn line_holds(read: Result<Read, Refusal>) -> Result<Timecode, Refusal>
     }
 }
 
-// Count, label and ticks of a timecode, laid down from `place` on. Asks a timecode that is admitted: its sections are never refused.
-fn write_timecode(tc: Timecode, out: &mut [u8], place: usize) -> Result<usize, Refusal>
-    requires { Valid tc }
-    ensures answer { result ≡ answer_to out.old place (Text (timecode_text tc)) }
-    ensures line { out.new ≡ line_to out.old place (Text (timecode_text tc)) }
-{
-    let sections = label_writer::sections(tc)?;
-    written::write(&columns_of(tc, sections), out, place)
-}
-
 // The columns of a timecode and the sections of its label.
 fn columns_of(tc: Timecode, sections: TimecodeSections) -> Columns
     ensures { result ≡ columns_of tc sections }
@@ -112,6 +133,24 @@ fn columns_of(tc: Timecode, sections: TimecodeSections) -> Columns
         rate: tc.rate,
         minus: instant < 0,
         ticks: instant.unsigned_abs(),
+    }
+}
+
+impl Writable for LineAnswer {
+    ghost text = { λ a. text_of a };
+
+    fn length(&self) -> usize {
+        match &self.content {
+            Content::Timecode(columns) => columns.length(),
+            Content::Refused(refused) => refused.length(),
+        }
+    }
+
+    fn put(&self, part: &mut [u8]) {
+        match &self.content {
+            Content::Timecode(columns) => columns.put(part),
+            Content::Refused(refused) => refused.put(part),
+        }
     }
 }
 

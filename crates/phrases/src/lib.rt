@@ -35,7 +35,7 @@ fn phrase(number: u8) -> &'static [u8]
     }
 }
 
-// The phrase of a number, laid down from `place` on. Refuses 8: no room.
+// The phrase of a number, laid down from `place` on; that of a number that no refusal has is empty. Refuses 8: no room.
 pub fn write_phrase(number: u8, line: &mut [u8], place: usize) -> Result<usize, Refusal>
     ensures answer { result ≡ answer_to line.old place (Text (phrase_of number)) }
     ensures line { line.new ≡ line_to line.old place (Text (phrase_of number)) }

@@ -43,9 +43,9 @@ unfolding nearest_n value_from span digits_of width_by width decimal held rates 
     worth signed_of low_bytes twos_of body_fixed of_kind faults entry_of read_from record_bytes list_bytes
 starred_cases =
     let of-lists : All (drop 31 cases) =
-    ((refl, refl), (refl, ((refl, refl), ((refl, refl), (refl, (refl, (refl, (refl, (refl, (refl, tt)))))))))) in
+    ((refl, refl), (refl, ((refl, refl), ((refl, refl), ((refl, refl), ((refl, refl), ((refl, refl), ((refl, refl), ((refl, refl), ((refl, refl), tt)))))))))) in
     let of-film : All (drop 20 cases) =
-    (λ rate r. simp r, (λ rate r. simp r, (refl, (refl, (refl, (refl, (refl, (λ rate r. simp r, (λ rate r. simp r, (refl, (refl, of-lists))))))))))) in
+    (λ rate r. simp r, (λ rate r. simp r, ((refl, refl), ((refl, refl), ((refl, refl), ((refl, refl), ((refl, refl), (λ rate r. simp r, (λ rate r. simp r, ((refl, refl), ((refl, refl), of-lists))))))))))) in
     let behind-labels : All (drop 9 cases) =
-    ((refl, λ rate r. simp r), ((refl, λ rate r. simp r), (λ rate r. simp r, (λ rate r. simp r, (refl, (refl, (refl, (refl, (refl, (refl, (refl, of-film))))))))))) in
+    ((refl, λ rate r. simp r), ((refl, λ rate r. simp r), (λ rate r. simp r, (λ rate r. simp r, (refl, (refl, ((refl, refl), ((refl, refl), ((refl, refl), ((refl, refl), ((refl, refl), of-film))))))))))) in
     ((refl, refl), ((refl, refl), (refl, ((refl, refl), ((refl, refl), ((refl, refl), ((refl, refl), ((refl, refl), (refl, behind-labels)))))))))

@@ -27,6 +27,9 @@ pub mod WhyCases
 pub mod RouteCases
 pub mod PlainForms
 pub mod FloorSteps
+pub mod MachineSteps
+pub mod LentAlike
+pub mod Pages
 pub mod RouterSteps
 pub mod ReadSteps
 pub mod Promises

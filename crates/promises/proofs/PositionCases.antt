@@ -42,7 +42,7 @@ unfolding nearest_n value_from span digits_of width_by width decimal held rates 
     label_sections clock_text sections_text label_text instant joined convert_of reduced_z day_frames in_day is_of_day is_strict shaped_for read_for
     is_fraction frames_at ticks_at seconds_at neg_of rebase_of order_of compare_of
 position-cases = (
-  ((refl, refl), ((refl, refl), ((refl, refl), ((refl, refl), (refl, (refl, (refl, (refl, (refl, (refl, (refl, (refl, (refl, (refl, (refl, tt))))))))))))))),
+  ((refl, refl), ((refl, refl), ((refl, refl), ((refl, refl), ((refl, refl), ((refl, refl), ((refl, refl), ((refl, refl), ((refl, refl), ((refl, refl), ((refl, refl), ((refl, refl), ((refl, refl), ((refl, refl), (refl, tt))))))))))))))),
   (refl, (refl, (refl, (refl, (refl, (refl, (refl, (refl, tt)))))))),
   (refl, (refl, (refl, (refl, (refl, (refl, (refl, (refl, (refl, (refl, (refl, (refl, (refl, (refl, (refl, (refl, (refl, tt))))))))))))))))),
 )

@@ -400,6 +400,7 @@ promises = record {
   read_at_rate = lines.read_at_rate;
   not_begun = lines.not_begun;
   short_answer = lines.short_answer;
+  laid_as_text = lines.laid_as_text;
   answered = feeding.answered;
   taken_whole = feeding.taken_whole;
   stopped_full = feeding.stopped_full;

@@ -2,7 +2,7 @@
 -- Assumes nothing.
 use Rattle.std.specs.Prelude.{ℕ, ◌≡◌, true, List, [], ◌∷◌, ℤ, pos, negsuc, Option, Some, None, Ok, Err}
 use Prim.Native.String.{String}
-use Rattle.answers.specs.Causes.{refusal}
+use Rattle.answers.specs.Causes.{refusal_number, refusal}
 use Rattle.answers.specs.Refusals.{at_place}
 use Rattle.rates.specs.Rates.{is_rate}
 use Rattle.film.specs.declared.FilmFormat.{FilmFormat}
@@ -44,14 +44,15 @@ pub data Case : Type 0 where
 abbrev pub Holds : Case → Type 0
 Holds (label rate count text) = (label_text rate count ≡ bytes_of text) × (read_text (bytes_of text) None rate ≡ Ok (Label (timecode count rate)))
 Holds (gives rate text number) = number_of (read_text (bytes_of text) None rate) ≡ number
-Holds (stops stated rate text number place) = read_text (bytes_of text) stated rate ≡ Err (at_place (refusal number) place)
+Holds (stops stated rate text number place) =
+    (read_text (bytes_of text) stated rate ≡ Err (at_place (refusal number) place)) × (refusal_number (refusal number) ≡ number)
 Holds (footage format count text) =
     (footage_text format count ≡ bytes_of text)
     × ((rate : ℕ) → is_rate rate ≡ true → read_text (bytes_of text) (Some (format_number format)) rate ≡ Ok (Footage (timecode count rate) format))
 Holds (takes stated text count format) = (rate : ℕ) → is_rate rate ≡ true → read_text (bytes_of text) stated rate ≡ Ok (Footage (timecode count rate) format)
 Holds (lists bytes rs) = (read_of on_disk bytes ≡ AllOf rs) × (list_bytes rs ≡ bytes)
 Holds (hands_over numbers rs) = read_of in_numbers numbers ≡ AllOf rs
-Holds (list_refused bytes number) = read_of on_disk bytes ≡ FaultOf (refusal number)
+Holds (list_refused bytes number) = (read_of on_disk bytes ≡ FaultOf (refusal number)) × (refusal_number (refusal number) ≡ number)
 Holds (divided count n answer) = (rate : ℕ) → is_rate rate ≡ true → div_of (timecode count rate) n ≡ Ok (timecode answer rate)
 Holds (divided_by count p q answer) = (rate : ℕ) → is_rate rate ≡ true → divq_of (timecode count rate) p q ≡ Ok (timecode answer rate)
 Holds (plus count rate other otherRate answer) = add_of (timecode count rate) (timecode other otherRate) ≡ Ok (timecode answer rate)

@@ -4,7 +4,7 @@ use Rattle.timecodes.specs.declared.Timecode.{Timecode}
 use Rattle.answers.specs.declared.Refusal.{Refusal}
 use Rattle.std.specs.Prelude.{ℕ, ◌≡◌, List, [], ◌∷◌, ℤ, pos, negsuc, None, Result, Ok, Err}
 use Prim.Native.String.{String}
-use Rattle.answers.specs.Causes.{refusal}
+use Rattle.answers.specs.Causes.{refusal_number, refusal}
 use Rattle.timecodes.specs.declared.kinds.Kind.TheVariants.{Position}
 use Rattle.timecodes.specs.Timecode.{timecode, position}
 use Rattle.timecodes.specs.Made.{settled}
@@ -32,7 +32,8 @@ pub data Case : Type 0 where
 abbrev pub Holds : Case → Type 0
 Holds (label rate count text) =
     (label_text rate count ≡ bytes_of text) × (read_for Position (bytes_of text) None rate ≡ Ok (read.Label (position count rate)))
-Holds (gives rate text number) = read_for Position (bytes_of text) None rate ≡ Err (refusal number)
+Holds (gives rate text number) =
+    (read_for Position (bytes_of text) None rate ≡ Err (refusal number)) × (refusal_number (refusal number) ≡ number)
 Holds (takes rate text count format) = read_for Position (bytes_of text) None rate ≡ Ok (read.Footage (position count rate) format)
 Holds (comes asked answer) = asked ≡ answer
 Holds (orders asked answer) = asked ≡ answer

@@ -411,6 +411,7 @@ pub record Promises : Type 2 where
   pub read_at_rate : lines.ReadAtRate
   pub not_begun : lines.NotBegun
   pub short_answer : lines.ShortAnswer
+  pub laid_as_text : lines.LaidAsText
   pub answered : feeding.Answered
   pub taken_whole : feeding.TakenWhole
   pub stopped_full : feeding.StoppedFull

@@ -1,9 +1,7 @@
 -- The promises speak of what runs: whatever the contract of a function that users call allows is what its definition says.
 -- Assumes nothing.
 use Rattle.std.specs.Prelude.{ℕ, ◌≡◌, drop}
-use denote.Param.{number}
-use mir.Syntax.{w64}
-use mir.Val.{Fits}
+use mir.Syntax.{Dict}
 use Rattle.outcomes.specs.Outcome.{Gives}
 use Rattle.arithmetic.specs.Compare.{compare_of}
 use Rattle.arithmetic.specs.Count.{abs_of, neg_of, rebase_of}
@@ -50,6 +48,7 @@ use Rattle.reading.proofs.read_label_only.Reads as read-label-only-reads
 use Rattle.reading.specs.contracts.read_text as read-text
 use Rattle.reading.proofs.read_text.Reads as read-text-reads
 use Rattle.reasons.specs.contracts.why as why
+use Rattle.streams.specs.declared.sheets.Page.{Ghosts}
 use Rattle.showing.specs.contracts.show_why as show_why
 use Rattle.showing.proofs.show_why.Reads as show-why-reads
 use Rattle.showing.specs.contracts.show_routed as show_routed
@@ -208,10 +207,12 @@ pub record Ties : Type 2 where
   pub verdict : Gives verdict.ended verdict-reads.Learnt (λ κs a x. x.0 ≡ verdict_of a.0)
   pub route_tested : Gives route_tested.ended route-tested-reads.Learnt (λ κs a x. x.0 ≡ routed_in a.0 a.1.0 a.1.1.0.now)
   -- shown by the calculator
-  pub show_why : (N : ℕ) (fits : Fits w64 N) → Gives (show_why.ended (number N)) (show-why-reads.Learnt N fits) (λ κs a x.
-      x.1.0 ≡ why_on a.0.now a.1.1.0 a.1.0 a.1.1.1.0.now)
-  pub show_routed : (N : ℕ) (fits : Fits w64 N) → Gives (show_routed.ended (number N)) (show-routed-reads.Learnt N fits) (λ κs a x.
-      x.1.0 ≡ routed_on a.0.now a.1.0)
+  pub show_why : (P : RattleType) (laws : Laws P) (page : Ghosts P.Denot) (code : Dict)
+      → Gives (show_why.ended P page code) (show-why-reads.Learnt P laws page code) (λ κs a x.
+      page.seen x.1.0 ≡ why_on (page.seen a.0.now) a.1.1.0 a.1.0 a.1.1.1.0.now)
+  pub show_routed : (P : RattleType) (laws : Laws P) (page : Ghosts P.Denot) (code : Dict)
+      → Gives (show_routed.ended P page code) (show-routed-reads.Learnt P laws page code) (λ κs a x.
+      page.seen x.1.0 ≡ routed_on (page.seen a.0.now) a.1.0)
   -- what an answer holds
   pub answers_cause_number : Gives answers_cause_number.ended answers-cause-number-reads.Learnt (λ κs a x. x.0 ≡ cause_number a.0)
   -- of any type of answers, those of the reader and of the writers among them

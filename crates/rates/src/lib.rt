@@ -1,7 +1,7 @@
 // The twelve rates by number: one constant table. A number that is no rate is refused 6.
 #![tactic(auto)]
 
-ghost use Rattle.std.specs.Prelude.{◌≡◌};
+ghost use Rattle.std.specs.Prelude.{◌≡◌, true};
 ghost use Rattle.rates.specs.Rates.{is_rate, rate_row, rate_at, drop_frames, is_drop};
 ghost use Rattle.rates.specs.Day.{day_frames};
 
@@ -111,21 +111,32 @@ pub fn is_rate(no: u64) -> bool
     matches!(no, 1..=12)
 }
 
+// The entry of a rate. Asks that the number is one.
+#[inline(always)]
+fn entry(no: u64) -> Framerate
+    requires { is_rate no ≡ true }
+    ensures { result ≡ rate_row no }
+{
+    RATES[(no - 1) as usize]
+}
+
 // The row of a rate. Refuses 6: no such rate.
+#[inline(always)]
 pub fn framerate_at(no: u64) -> Result<Framerate, Refusal>
     ensures { result ≡ rate_at no }
 {
     if !is_rate(no) {
         return Err(Cause::NoSuch.into());
     }
-    Ok(RATES[(no - 1) as usize])
+    Ok(entry(no))
 }
 
 // The row of a rate; of a number that is no rate, zeros.
+#[inline(always)]
 pub fn row(no: u64) -> Framerate
     ensures { result ≡ rate_row no }
 {
-    framerate_at(no).unwrap_or(NO_ROW)
+    if is_rate(no) { entry(no) } else { NO_ROW }
 }
 
 // How many labels a minute drops, but each tenth: 2 at rate 5, 4 at rate 11, else 0 (vtc's word).

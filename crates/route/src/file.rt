@@ -100,7 +100,7 @@ pub(crate) fn load_all(file: &mut impl Read) -> Result<Lines, Halt> {
         lines: Lines::new(),
     };
     inputs::each_chunk(file, &mut [0; 4096], &mut source)?;
-    let Source { waiting, mut lines } = source;
-    waiting.last_line(&mut lines)?;
-    Ok(lines)
+    let left = &mut source;
+    left.waiting.last_line(&mut left.lines)?;
+    Ok(left.lines)
 }

@@ -73,10 +73,7 @@ pub(crate) fn answer_all(rt: &impl Print, input: &mut impl Read, reel: &Reel) ->
         },
     };
     inputs::each_chunk(input, &mut [0; 65536], &mut asking)?;
-    let Asking {
-        waiting,
-        mut answers,
-    } = asking;
-    waiting.last_line(&mut answers)?;
-    inputs::write_out(rt, &mut answers.sheet)
+    let left = &mut asking;
+    left.waiting.last_line(&mut left.answers)?;
+    inputs::write_out(rt, &mut left.answers.sheet)
 }

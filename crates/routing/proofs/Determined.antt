@@ -1,10 +1,10 @@
 -- Each public function's contract allows one outcome: two that meet its equations are equal.
 -- Assumes nothing.
-use Prim.Native.Nat.{ℕ}
-use denote.Param.{number}
-use mir.Syntax.{w64}
-use mir.Val.{Fits}
-use mathlib.Core.Path.{sym, ap, ◌∙◌}
+use denote.Param.Laws.{Laws}
+use denote.RattleType.{RattleType}
+use mir.Syntax.{Dict}
+use mathlib.Core.Path.{◌≡◌, sym, ap, ◌∙◌}
+use Rattle.streams.specs.declared.sheets.Page.{Ghosts}
 use Rattle.outcomes.specs.Outcome.{Determined}
 use Rattle.routing.specs.contracts.entries.entry_of as entry_of
 use Rattle.routing.proofs.entries.entry_of.Reads as entry-of-reads
@@ -28,11 +28,13 @@ new-determined κs a asked x y p q = ap (λ z. (z, x.1)) (p ∙ sym q)
 pub load-determined : Determined load.ended load-reads.Asked load-reads.Learnt
 load-determined κs a asked x y p q = ap (λ z. (z, x.1)) (p ∙ sym q)
 
-pub tell-flaw-determined : (N : ℕ) (fits : Fits w64 N) → Determined (tell-flaw.ended (number N)) (tell-flaw-reads.Asked N fits) (tell-flaw-reads.Learnt N fits)
-tell-flaw-determined N fits κs a asked x y p q = ap (λ z. (x.0, (z, x.1.1))) (p ∙ sym q)
+pub tell-flaw-determined : (P : RattleType) (laws : Laws P) (page : Ghosts P.Denot) (code : Dict) (whole : (x y : P.Denot) → page.seen x ≡ page.seen y → x ≡ y)
+    → Determined (tell-flaw.ended P page code) (tell-flaw-reads.Asked P laws page code) (tell-flaw-reads.Learnt P laws page code)
+tell-flaw-determined P laws page code whole κs a asked x y p q = ap (λ z. (x.0, (z, x.1.1))) (whole _ _ (p ∙ sym q))
 
 pub query-of-determined : Determined query-of.ended query-of-reads.Asked query-of-reads.Learnt
 query-of-determined κs a asked x y p q = ap (λ z. (z, x.1)) (p ∙ sym q)
 
-pub answer-determined : (N : ℕ) (fits : Fits w64 N) → Determined (answer.ended (number N)) (answer-reads.Asked N fits) (answer-reads.Learnt N fits)
-answer-determined N fits κs a asked x y p q = ap (λ z. (x.0, (z, x.1.1))) (p ∙ sym q)
+pub answer-determined : (P : RattleType) (laws : Laws P) (page : Ghosts P.Denot) (code : Dict) (whole : (x y : P.Denot) → page.seen x ≡ page.seen y → x ≡ y)
+    → Determined (answer.ended P page code) (answer-reads.Asked P laws page code) (answer-reads.Learnt P laws page code)
+answer-determined P laws page code whole κs a asked x y p q = ap (λ z. (x.0, (z, x.1.1))) (whole _ _ (p ∙ sym q))

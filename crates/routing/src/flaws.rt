@@ -5,11 +5,11 @@ ghost use Rattle.streams.specs.Pieces.{all_on};
 ghost use Rattle.routing.specs.Flaws.{flaw_text, flaw_pieces};
 
 use crate::loading::Flaw;
-use streams::Sheet;
+use streams::Page;
 
 // The words of a flaw; with the number that the router refuses such a directory.
-fn put_flaw<const N: usize>(sheet: &mut Sheet<N>, flaw: Flaw)
-    ensures { sheet.new ≡ put_on sheet.old (flaw_text flaw) }
+fn put_flaw<P: Page>(sheet: &mut P, flaw: Flaw)
+    ensures { P.seen sheet.new ≡ put_on (P.seen sheet.old) (flaw_text flaw) }
 {
     match flaw {
         Flaw::TooLong => sheet.put_text(b"too long"),
@@ -29,8 +29,8 @@ fn put_flaw<const N: usize>(sheet: &mut Sheet<N>, flaw: Flaw)
 
 // A line of the file by its number, and what is wrong with it.
 #[tactic(auto, unfolding(crate::specs::Flaws::flaw_pieces))]
-pub fn tell_flaw<const N: usize>(sheet: &mut Sheet<N>, line: u64, flaw: Flaw)
-    ensures { sheet.new ≡ all_on sheet.old (flaw_pieces line flaw) }
+pub fn tell_flaw<P: Page>(sheet: &mut P, line: u64, flaw: Flaw)
+    ensures { P.seen sheet.new ≡ all_on (P.seen sheet.old) (flaw_pieces line flaw) }
 {
     sheet.put_text(b"line ");
     sheet.put_signed(false, line);

@@ -6,12 +6,12 @@ ghost use Rattle.routing.specs.Told.{which_pieces, found_pieces, reason_pieces, 
 use crate::queries;
 use answers::Refusal;
 use router::{Directory, Shards};
-use streams::Sheet;
+use streams::Page;
 
 // Which shards: from the first up to the one after the last.
 #[tactic(auto, unfolding(crate::specs::Told::which_pieces))]
-fn put_which<const N: usize>(sheet: &mut Sheet<N>, shards: Shards)
-    ensures { sheet.new ≡ all_on sheet.old (which_pieces shards.first shards.after) }
+fn put_which<P: Page>(sheet: &mut P, shards: Shards)
+    ensures { P.seen sheet.new ≡ all_on (P.seen sheet.old) (which_pieces shards.first shards.after) }
 {
     let Shards { first, after } = shards;
     if after <= first {
@@ -28,8 +28,8 @@ fn put_which<const N: usize>(sheet: &mut Sheet<N>, shards: Shards)
 }
 
 // Which shards of the reel.
-fn put_found<const N: usize>(sheet: &mut Sheet<N>, reel: u64, shards: Shards)
-    ensures { sheet.new ≡ all_on sheet.old (found_pieces reel shards.first shards.after) }
+fn put_found<P: Page>(sheet: &mut P, reel: u64, shards: Shards)
+    ensures { P.seen sheet.new ≡ all_on (P.seen sheet.old) (found_pieces reel shards.first shards.after) }
 {
     put_which(sheet, shards);
     sheet.put_text(b" of reel ");
@@ -39,8 +39,8 @@ fn put_found<const N: usize>(sheet: &mut Sheet<N>, reel: u64, shards: Shards)
 
 // A refusal's number, its place in the label, and its phrase.
 #[tactic(auto, unfolding(crate::specs::Told::reason_pieces))]
-fn put_reason<const N: usize>(sheet: &mut Sheet<N>, e: Refusal, phrase: &[u8])
-    ensures { sheet.new ≡ all_on sheet.old (reason_pieces e phrase.now) }
+fn put_reason<P: Page>(sheet: &mut P, e: Refusal, phrase: &[u8])
+    ensures { P.seen sheet.new ≡ all_on (P.seen sheet.old) (reason_pieces e phrase.now) }
 {
     sheet.put_text(b"refused ");
     sheet.put_signed(false, u64::from(e.cause.number()));
@@ -52,8 +52,8 @@ fn put_reason<const N: usize>(sheet: &mut Sheet<N>, e: Refusal, phrase: &[u8])
 }
 
 // A refusal. (That a phrase has over 128 bytes cannot be.)
-fn put_refused<const N: usize>(sheet: &mut Sheet<N>, e: Refusal)
-    ensures { sheet.new ≡ all_on sheet.old (refused_pieces e) }
+fn put_refused<P: Page>(sheet: &mut P, e: Refusal)
+    ensures { P.seen sheet.new ≡ all_on (P.seen sheet.old) (refused_pieces e) }
 {
     let mut line = [0; 128];
     if let Ok(n) = phrases::write_phrase(e.cause.number(), &mut line, 0) {
@@ -63,8 +63,8 @@ fn put_refused<const N: usize>(sheet: &mut Sheet<N>, e: Refusal)
 }
 
 // What the router answers.
-fn put_routed<const N: usize>(sheet: &mut Sheet<N>, reel: u64, routed: Result<Shards, Refusal>)
-    ensures { sheet.new ≡ all_on sheet.old (routed_pieces reel routed) }
+fn put_routed<P: Page>(sheet: &mut P, reel: u64, routed: Result<Shards, Refusal>)
+    ensures { P.seen sheet.new ≡ all_on (P.seen sheet.old) (routed_pieces reel routed) }
 {
     match routed {
         Ok(shards) => put_found(sheet, reel, shards),
@@ -73,14 +73,8 @@ fn put_routed<const N: usize>(sheet: &mut Sheet<N>, reel: u64, routed: Result<Sh
 }
 
 // The answer to a line, asked of a directory of a reel; `over` where the line has more bytes than are kept.
-pub fn answer<const N: usize>(
-    sheet: &mut Sheet<N>,
-    d: Directory,
-    reel: u64,
-    line: &[u8],
-    over: bool,
-)
-    ensures { sheet.new ≡ all_on sheet.old (answer_pieces d reel line.now over) }
+pub fn answer<P: Page>(sheet: &mut P, d: Directory, reel: u64, line: &[u8], over: bool)
+    ensures { P.seen sheet.new ≡ all_on (P.seen sheet.old) (answer_pieces d reel line.now over) }
 {
     match queries::query_of(line) {
         Some(query) if !over => {

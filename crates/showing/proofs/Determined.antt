@@ -1,13 +1,12 @@
 -- Each public function's contract allows one outcome: two that meet its equations are equal.
 -- Assumes nothing.
 use Prim.Native.Nat.{ℕ}
-use denote.Param.{number}
 use denote.Param.Laws.{Laws}
 use denote.RattleType.{RattleType}
-use mir.Syntax.{w64, Dict}
-use mir.Val.{Fits}
-use mathlib.Core.Path.{sym, ap, ◌∙◌}
-use Rattle.written.specs.declared.Writable.{Ghosts}
+use mir.Syntax.{Dict}
+use mathlib.Core.Path.{◌≡◌, sym, ap, ◌∙◌}
+use Rattle.streams.specs.declared.sheets.Page.{Ghosts}
+use Rattle.written.specs.declared.Writable as writable
 use Rattle.outcomes.specs.Outcome.{Determined}
 use Rattle.showing.specs.contracts.each.of_answer as of-answer
 use Rattle.showing.proofs.each.of_answer.Reads as of-answer-reads
@@ -45,18 +44,22 @@ of-timed-determined κs a asked x y p q = ap (λ z. (z, x.1)) (p ∙ sym q)
 pub of-read-determined : Determined of-read.ended of-read-reads.Asked of-read-reads.Learnt
 of-read-determined κs a asked x y p q = ap (λ z. (z, x.1)) (p ∙ sym q)
 
-pub show-determined : (N : ℕ) (fits : Fits w64 N) → Determined (show.ended (number N)) (show-reads.Asked N fits) (show-reads.Learnt N fits)
-show-determined N fits κs a asked x y p q = ap (λ z. (x.0, (z, x.1.1))) (p ∙ sym q)
+pub show-determined : (P : RattleType) (laws : Laws P) (page : Ghosts P.Denot) (code : Dict) (whole : (x y : P.Denot) → page.seen x ≡ page.seen y → x ≡ y)
+    → Determined (show.ended P page code) (show-reads.Asked P laws page code) (show-reads.Learnt P laws page code)
+show-determined P laws page code whole κs a asked x y p q = ap (λ z. (x.0, (z, x.1.1))) (whole _ _ (p ∙ sym q))
 
-pub show-written-determined : (N : ℕ) (T : RattleType) (fits : Fits w64 N) (laws : Laws T) (text : Ghosts T.Denot) (code : Dict)
-    → Determined (show-written.ended (number N) T text code) (show-written-reads.Asked N T fits laws text code) (show-written-reads.Learnt N T fits laws text code)
-show-written-determined N T fits laws text code κs a asked x y p q = ap (λ z. (x.0, (z, x.1.1))) (p ∙ sym q)
+pub show-written-determined : (P T : RattleType) (laws : Laws P) (laws' : Laws T) (page : Ghosts P.Denot) (code : Dict) (text : writable.Ghosts T.Denot) (code' : Dict) (whole : (x y : P.Denot) → page.seen x ≡ page.seen y → x ≡ y)
+    → Determined (show-written.ended P T page code text code') (show-written-reads.Asked P T laws laws' page code text code') (show-written-reads.Learnt P T laws laws' page code text code')
+show-written-determined P T laws laws' page code text code' whole κs a asked x y p q = ap (λ z. (x.0, (z, x.1.1))) (whole _ _ (p ∙ sym q))
 
-pub show-list-determined : (N : ℕ) (fits : Fits w64 N) → Determined (show-list.ended (number N)) (show-list-reads.Asked N fits) (show-list-reads.Learnt N fits)
-show-list-determined N fits κs a asked x y p q = ap (λ z. (x.0, (z, x.1.1))) (p ∙ sym q)
+pub show-list-determined : (P : RattleType) (laws : Laws P) (page : Ghosts P.Denot) (code : Dict) (whole : (x y : P.Denot) → page.seen x ≡ page.seen y → x ≡ y)
+    → Determined (show-list.ended P page code) (show-list-reads.Asked P laws page code) (show-list-reads.Learnt P laws page code)
+show-list-determined P laws page code whole κs a asked x y p q = ap (λ z. (x.0, (z, x.1.1))) (whole _ _ (p ∙ sym q))
 
-pub show-why-determined : (N : ℕ) (fits : Fits w64 N) → Determined (show_why.ended (number N)) (show-why-reads.Asked N fits) (show-why-reads.Learnt N fits)
-show-why-determined N fits κs a asked x y p q = ap (λ z. (x.0, (z, x.1.1))) (p ∙ sym q)
+pub show-why-determined : (P : RattleType) (laws : Laws P) (page : Ghosts P.Denot) (code : Dict) (whole : (x y : P.Denot) → page.seen x ≡ page.seen y → x ≡ y)
+    → Determined (show_why.ended P page code) (show-why-reads.Asked P laws page code) (show-why-reads.Learnt P laws page code)
+show-why-determined P laws page code whole κs a asked x y p q = ap (λ z. (x.0, (z, x.1.1))) (whole _ _ (p ∙ sym q))
 
-pub show-routed-determined : (N : ℕ) (fits : Fits w64 N) → Determined (show_routed.ended (number N)) (show-routed-reads.Asked N fits) (show-routed-reads.Learnt N fits)
-show-routed-determined N fits κs a asked x y p q = ap (λ z. (x.0, (z, x.1.1))) (p ∙ sym q)
+pub show-routed-determined : (P : RattleType) (laws : Laws P) (page : Ghosts P.Denot) (code : Dict) (whole : (x y : P.Denot) → page.seen x ≡ page.seen y → x ≡ y)
+    → Determined (show_routed.ended P page code) (show-routed-reads.Asked P laws page code) (show-routed-reads.Learnt P laws page code)
+show-routed-determined P laws page code whole κs a asked x y p q = ap (λ z. (x.0, (z, x.1.1))) (whole _ _ (p ∙ sym q))

@@ -7,7 +7,7 @@ ghost use Rattle.showing.specs.Each.{one_number, two_numbers, one_count, count_a
 ghost use Rattle.showing.specs.Shown.{count_text, help_text, word_on, front_on, behind_on, numbers_on, parts_on, shown_on, length_on, written_on};
 
 use answers::Refusal;
-use streams::Sheet;
+use streams::Page;
 use timecodes::Timecode;
 use written::Writable;
 
@@ -105,15 +105,15 @@ pub(crate) fn count_and(word: Option<Word>, tc: Timecode, y: u64) -> Shown
 }
 
 // A signed number.
-fn put_number<const N: usize>(sheet: &mut Sheet<N>, x: i64)
-    ensures { sheet.new ≡ put_on sheet.old (count_text x) }
+fn put_number<P: Page>(sheet: &mut P, x: i64)
+    ensures { P.seen sheet.new ≡ put_on (P.seen sheet.old) (count_text x) }
 {
     sheet.put_signed(x < 0, x.unsigned_abs());
 }
 
 // A word before numbers.
-fn put_word<const N: usize>(sheet: &mut Sheet<N>, word: Option<Word>)
-    ensures { sheet.new ≡ word_on sheet.old word }
+fn put_word<P: Page>(sheet: &mut P, word: Option<Word>)
+    ensures { P.seen sheet.new ≡ word_on (P.seen sheet.old) word }
 {
     match word {
         Some(Word::Label) => sheet.put_text(b"label "),
@@ -124,8 +124,8 @@ fn put_word<const N: usize>(sheet: &mut Sheet<N>, word: Option<Word>)
 }
 
 // A word before numbers, and the mark of a position.
-fn put_front<const N: usize>(sheet: &mut Sheet<N>, word: Option<Word>, position: bool)
-    ensures { sheet.new ≡ front_on sheet.old word position }
+fn put_front<P: Page>(sheet: &mut P, word: Option<Word>, position: bool)
+    ensures { P.seen sheet.new ≡ front_on (P.seen sheet.old) word position }
 {
     put_word(sheet, word);
     if position {
@@ -134,8 +134,8 @@ fn put_front<const N: usize>(sheet: &mut Sheet<N>, word: Option<Word>, position:
 }
 
 // The commands in short: a line for each command, or for those that are alike, without the last one's end.
-fn put_help<const N: usize>(sheet: &mut Sheet<N>)
-    ensures { sheet.new ≡ put_on sheet.old help_text }
+fn put_help<P: Page>(sheet: &mut P)
+    ensures { P.seen sheet.new ≡ put_on (P.seen sheet.old) help_text }
 {
     sheet.put_text(
         b"read RATE TEXT: label COUNT or footage COUNT FORMAT
@@ -170,8 +170,8 @@ The first RATE of a command other than route, and the second of add, sub and cmp
 
 // A second number behind its mark, if there is one.
 #[tactic(auto, unfolding(crate::specs::Shown::second_on))]
-fn put_second<const N: usize>(sheet: &mut Sheet<N>, second: Option<Second>)
-    ensures { sheet.new ≡ behind_on sheet.old second }
+fn put_second<P: Page>(sheet: &mut P, second: Option<Second>)
+    ensures { P.seen sheet.new ≡ behind_on (P.seen sheet.old) second }
 {
     if let Some(s) = second {
         sheet.put_byte(s.mark);
@@ -180,8 +180,8 @@ fn put_second<const N: usize>(sheet: &mut Sheet<N>, second: Option<Second>)
 }
 
 // A number or two, behind a word or alone.
-fn put_numbers<const N: usize>(sheet: &mut Sheet<N>, n: Numbers)
-    ensures { sheet.new ≡ numbers_on sheet.old n }
+fn put_numbers<P: Page>(sheet: &mut P, n: Numbers)
+    ensures { P.seen sheet.new ≡ numbers_on (P.seen sheet.old) n }
 {
     put_front(sheet, n.word, n.position);
     put_number(sheet, n.first);
@@ -189,8 +189,8 @@ fn put_numbers<const N: usize>(sheet: &mut Sheet<N>, n: Numbers)
 }
 
 // An answer behind what the sheet has, without the line's end.
-fn put_shown<const N: usize>(sheet: &mut Sheet<N>, s: Shown)
-    ensures { sheet.new ≡ parts_on sheet.old s }
+fn put_shown<P: Page>(sheet: &mut P, s: Shown)
+    ensures { P.seen sheet.new ≡ parts_on (P.seen sheet.old) s }
 {
     match s {
         Shown::Help => put_help(sheet),
@@ -201,16 +201,16 @@ fn put_shown<const N: usize>(sheet: &mut Sheet<N>, s: Shown)
 
 // An answer as a line behind what the sheet has.
 #[tactic(auto, unfolding(crate::specs::Shown::shown_on))]
-pub fn show<const N: usize>(sheet: &mut Sheet<N>, s: Shown)
-    ensures { sheet.new ≡ shown_on sheet.old s }
+pub fn show<P: Page>(sheet: &mut P, s: Shown)
+    ensures { P.seen sheet.new ≡ shown_on (P.seen sheet.old) s }
 {
     put_shown(sheet, s);
     sheet.put_byte(b'\n');
 }
 
 // The length of a text that was laid down, or why it was not.
-fn put_length<const N: usize>(sheet: &mut Sheet<N>, w: Result<usize, Refusal>)
-    ensures { sheet.new ≡ length_on sheet.old w }
+fn put_length<P: Page>(sheet: &mut P, w: Result<usize, Refusal>)
+    ensures { P.seen sheet.new ≡ length_on (P.seen sheet.old) w }
 {
     match w {
         Ok(n) => sheet.put_signed(false, n as u64),
@@ -220,12 +220,8 @@ fn put_length<const N: usize>(sheet: &mut Sheet<N>, w: Result<usize, Refusal>)
 
 // The answer of a writer as a line behind what the sheet has, with the whole line that it wrote into: as it is, or as HEX.
 #[tactic(auto, unfolding(crate::specs::Shown::written_on))]
-pub fn show_written<const N: usize, T: Writable>(
-    sheet: &mut Sheet<N>,
-    w: Result<usize, Refusal>,
-    line: &T,
-)
-    ensures { sheet.new ≡ written_on sheet.old w (T.text line.now) }
+pub fn show_written<P: Page, T: Writable>(sheet: &mut P, w: Result<usize, Refusal>, line: &T)
+    ensures { P.seen sheet.new ≡ written_on (P.seen sheet.old) w (T.text line.now) }
 {
     put_length(sheet, w);
     sheet.put_byte(b' ');

@@ -5,12 +5,12 @@ ghost use Rattle.shot_lists.specs.Reading.{read_of, is_faultless};
 ghost use Rattle.showing.specs.Lists.{numbered_on, frames_on, record_on, reading_on, list_on};
 
 use shot_lists::Record;
-use streams::Sheet;
+use streams::Page;
 
 // A word, with the spaces around it, and a number.
 #[tactic(auto, unfolding(crate::specs::Lists::numbered_on))]
-fn put_numbered<const N: usize>(sheet: &mut Sheet<N>, word: &[u8], n: u64)
-    ensures { sheet.new ≡ numbered_on sheet.old word.now n }
+fn put_numbered<P: Page>(sheet: &mut P, word: &[u8], n: u64)
+    ensures { P.seen sheet.new ≡ numbered_on (P.seen sheet.old) word.now n }
 {
     sheet.put_text(word);
     sheet.put_signed(false, n);
@@ -18,8 +18,8 @@ fn put_numbered<const N: usize>(sheet: &mut Sheet<N>, word: &[u8], n: u64)
 
 // A shot: its first frame and its end.
 #[tactic(auto, unfolding(crate::specs::Lists::frames_on))]
-fn put_frames<const N: usize>(sheet: &mut Sheet<N>, first: i64, end: i64)
-    ensures { sheet.new ≡ frames_on sheet.old first end }
+fn put_frames<P: Page>(sheet: &mut P, first: i64, end: i64)
+    ensures { P.seen sheet.new ≡ frames_on (P.seen sheet.old) first end }
 {
     sheet.put_text(b" shot ");
     crate::put_number(sheet, first);
@@ -28,8 +28,8 @@ fn put_frames<const N: usize>(sheet: &mut Sheet<N>, first: i64, end: i64)
 }
 
 // A record as words, a space in front of each.
-fn put_words<const N: usize>(sheet: &mut Sheet<N>, found: Record)
-    ensures { sheet.new ≡ record_on sheet.old found }
+fn put_words<P: Page>(sheet: &mut P, found: Record)
+    ensures { P.seen sheet.new ≡ record_on (P.seen sheet.old) found }
 {
     match found {
         Record::Rate(n) => put_numbered(sheet, b" rate ", n),
@@ -39,9 +39,9 @@ fn put_words<const N: usize>(sheet: &mut Sheet<N>, found: Record)
 }
 
 // The records of a list, one after the other. Asks a list without fault.
-fn put_records<const N: usize>(sheet: &mut Sheet<N>, list: &[u8])
+fn put_records<P: Page>(sheet: &mut P, list: &[u8])
     requires { is_faultless (read_of on_disk list.now) ≡ true }
-    ensures { sheet.new ≡ reading_on sheet.old (read_of on_disk list.now) }
+    ensures { P.seen sheet.new ≡ reading_on (P.seen sheet.old) (read_of on_disk list.now) }
 {
     let mut at = 0;
     let mut held = 0;
@@ -59,8 +59,8 @@ fn put_records<const N: usize>(sheet: &mut Sheet<N>, list: &[u8])
 }
 
 // A shot list as a line behind what the sheet has: how many records, and each as words, or its refusal.
-pub fn show_list<const N: usize>(sheet: &mut Sheet<N>, list: &[u8])
-    ensures { sheet.new ≡ list_on sheet.old (read_of on_disk list.now) }
+pub fn show_list<P: Page>(sheet: &mut P, list: &[u8])
+    ensures { P.seen sheet.new ≡ list_on (P.seen sheet.old) (read_of on_disk list.now) }
 {
     match shot_lists::check_list(list) {
         Ok(n) => {

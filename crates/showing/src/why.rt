@@ -9,21 +9,21 @@ use faults::Fault;
 use label_writer::{Label, TimecodeSections};
 use reading::Read;
 use reasons::{Fact, Reason};
-use streams::Sheet;
+use streams::Page;
 use timecodes::Timecode;
 
 // A space and a number by sign and magnitude.
 #[tactic(auto, unfolding(crate::specs::Why::puts_on))]
-pub(crate) fn put_spaced<const N: usize>(sheet: &mut Sheet<N>, minus: bool, m: u64)
-    ensures { sheet.new ≡ puts_on sheet.old (spaced_parts minus m) }
+pub(crate) fn put_spaced<P: Page>(sheet: &mut P, minus: bool, m: u64)
+    ensures { P.seen sheet.new ≡ puts_on (P.seen sheet.old) (spaced_parts minus m) }
 {
     sheet.put_byte(b' ');
     sheet.put_signed(minus, m);
 }
 
 // An accepted text: `0 0 COUNT`.
-fn put_accepted<const N: usize>(sheet: &mut Sheet<N>, tc: Timecode)
-    ensures { sheet.new ≡ puts_on sheet.old (accepted_parts tc) }
+fn put_accepted<P: Page>(sheet: &mut P, tc: Timecode)
+    ensures { P.seen sheet.new ≡ puts_on (P.seen sheet.old) (accepted_parts tc) }
 {
     sheet.put_text(b"0 0 ");
     crate::put_shown(sheet, crate::one_count(None, tc));
@@ -31,8 +31,8 @@ fn put_accepted<const N: usize>(sheet: &mut Sheet<N>, tc: Timecode)
 
 // A text that is turned down: `NUMBER PLACE 0`.
 #[tactic(auto, unfolding(crate::specs::Why::puts_on, crate::specs::Why::turned_down_parts))]
-fn put_turned_down<const N: usize>(sheet: &mut Sheet<N>, e: Refusal)
-    ensures { sheet.new ≡ puts_on sheet.old (turned_down_parts e) }
+fn put_turned_down<P: Page>(sheet: &mut P, e: Refusal)
+    ensures { P.seen sheet.new ≡ puts_on (P.seen sheet.old) (turned_down_parts e) }
 {
     sheet.put_signed(false, e.cause.number() as u64);
     put_spaced(sheet, false, e.place as u64);
@@ -40,8 +40,8 @@ fn put_turned_down<const N: usize>(sheet: &mut Sheet<N>, e: Refusal)
 }
 
 // What the reader answers: `NUMBER PLACE COUNT`.
-fn put_read<const N: usize>(sheet: &mut Sheet<N>, read: Result<Read, Refusal>)
-    ensures { sheet.new ≡ puts_on sheet.old (read_parts read) }
+fn put_read<P: Page>(sheet: &mut P, read: Result<Read, Refusal>)
+    ensures { P.seen sheet.new ≡ puts_on (P.seen sheet.old) (read_parts read) }
 {
     match read {
         Ok(Read::Label(tc) | Read::Footage(tc, _)) => put_accepted(sheet, tc),
@@ -51,8 +51,8 @@ fn put_read<const N: usize>(sheet: &mut Sheet<N>, read: Result<Read, Refusal>)
 
 // A field at fault, behind a space: `LIMIT VALUE -`.
 #[tactic(auto, unfolding(crate::specs::Why::puts_on, crate::specs::Why::limit_parts))]
-fn put_limit<const N: usize>(sheet: &mut Sheet<N>, f: Fault)
-    ensures { sheet.new ≡ puts_on sheet.old (limit_parts f) }
+fn put_limit<P: Page>(sheet: &mut P, f: Fault)
+    ensures { P.seen sheet.new ≡ puts_on (P.seen sheet.old) (limit_parts f) }
 {
     put_spaced(sheet, f.minus, f.limit);
     put_spaced(sheet, f.minus, f.value);
@@ -60,16 +60,16 @@ fn put_limit<const N: usize>(sheet: &mut Sheet<N>, f: Fault)
 }
 
 // The text of a label by its sections, as the label writer has it at a rate.
-fn put_label<const N: usize>(sheet: &mut Sheet<N>, s: TimecodeSections, rate: u64)
-    ensures { sheet.new ≡ put_on sheet.old (sections_text (frames_mark rate) s) }
+fn put_label<P: Page>(sheet: &mut P, s: TimecodeSections, rate: u64)
+    ensures { P.seen sheet.new ≡ put_on (P.seen sheet.old) (sections_text (frames_mark rate) s) }
 {
     sheet.put(&Label { sections: s, rate });
 }
 
 // The first allowed label, behind a space: `0 0 LABEL`.
 #[tactic(auto, unfolding(crate::specs::Why::puts_on, crate::specs::Why::first_parts))]
-fn put_first<const N: usize>(sheet: &mut Sheet<N>, s: TimecodeSections, rate: u64)
-    ensures { sheet.new ≡ puts_on sheet.old (first_parts rate s) }
+fn put_first<P: Page>(sheet: &mut P, s: TimecodeSections, rate: u64)
+    ensures { P.seen sheet.new ≡ puts_on (P.seen sheet.old) (first_parts rate s) }
 {
     sheet.put_text(b" 0 0 ");
     put_label(sheet, s, rate);
@@ -77,8 +77,8 @@ fn put_first<const N: usize>(sheet: &mut Sheet<N>, s: TimecodeSections, rate: u6
 
 // The fact behind the number, behind a space: `LIMIT VALUE LABEL`.
 #[tactic(auto, unfolding(crate::specs::Why::puts_on))]
-fn put_fact<const N: usize>(sheet: &mut Sheet<N>, fact: Option<Fact>, rate: u64)
-    ensures { sheet.new ≡ puts_on sheet.old (fact_parts rate fact) }
+fn put_fact<P: Page>(sheet: &mut P, fact: Option<Fact>, rate: u64)
+    ensures { P.seen sheet.new ≡ puts_on (P.seen sheet.old) (fact_parts rate fact) }
 {
     match fact {
         None => sheet.put_text(b" 0 0 -"),
@@ -88,8 +88,8 @@ fn put_fact<const N: usize>(sheet: &mut Sheet<N>, fact: Option<Fact>, rate: u64)
 }
 
 // What is told: `NUMBER PLACE COUNT LIMIT VALUE LABEL LENGTH`.
-fn put_told<const N: usize>(sheet: &mut Sheet<N>, r: Reason, rate: u64)
-    ensures { sheet.new ≡ puts_on sheet.old (told_parts rate r) }
+fn put_told<P: Page>(sheet: &mut P, r: Reason, rate: u64)
+    ensures { P.seen sheet.new ≡ puts_on (P.seen sheet.old) (told_parts rate r) }
 {
     put_read(sheet, r.read);
     put_fact(sheet, r.fact, rate);
@@ -97,8 +97,8 @@ fn put_told<const N: usize>(sheet: &mut Sheet<N>, r: Reason, rate: u64)
 }
 
 // What is told, or why nothing could be.
-fn put_reasoned<const N: usize>(sheet: &mut Sheet<N>, w: Result<Reason, Refusal>, rate: u64)
-    ensures { sheet.new ≡ puts_on sheet.old (reasoned_parts rate w) }
+fn put_reasoned<P: Page>(sheet: &mut P, w: Result<Reason, Refusal>, rate: u64)
+    ensures { P.seen sheet.new ≡ puts_on (P.seen sheet.old) (reasoned_parts rate w) }
 {
     match w {
         Ok(r) => put_told(sheet, r, rate),
@@ -107,13 +107,8 @@ fn put_reasoned<const N: usize>(sheet: &mut Sheet<N>, w: Result<Reason, Refusal>
 }
 
 // Why a text is read as it is at a rate, as a line behind what the sheet has, with the whole line that the phrase was laid into.
-pub fn show_why<const N: usize>(
-    sheet: &mut Sheet<N>,
-    w: Result<Reason, Refusal>,
-    rate: u64,
-    line: &[u8],
-)
-    ensures { sheet.new ≡ why_on sheet.old rate w line.now }
+pub fn show_why<P: Page>(sheet: &mut P, w: Result<Reason, Refusal>, rate: u64, line: &[u8])
+    ensures { P.seen sheet.new ≡ why_on (P.seen sheet.old) rate w line.now }
 {
     put_reasoned(sheet, w, rate);
     sheet.put_byte(b' ');

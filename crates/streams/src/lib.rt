@@ -6,4 +6,4 @@ mod gathered;
 mod sheets;
 
 pub use gathered::{Gathered, Step, gather};
-pub use sheets::Sheet;
+pub use sheets::{Lent, Page, Sheet};

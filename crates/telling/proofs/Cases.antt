@@ -9,7 +9,7 @@ use Rattle.std.specs.Prelude.{Option, Some, None}
 use Rattle.laws.specs.Spelt.{spelt}
 use Rattle.lent.specs.Line.{fits, splice, line_after}
 use Rattle.lent.proofs.Laws.{splice-nil}
-use Rattle.streams.specs.Sheet.{Sheet, sheet, put_on}
+use Rattle.streams.specs.Sheet.{Sheet, sheet_of, put_on}
 use Rattle.streams.specs.Pieces.{line_end, all_on}
 use Rattle.streams.proofs.Pieces.{all_append}
 use Rattle.telling.specs.declared.told.Way.{Way}
@@ -26,7 +26,7 @@ put_none s = by (fits s.bytes s.used [])
     none : s.used + 0 ≡ s.used
     none = omega arith
 
-    by : (t : Bool) → s ≡ sheet (cond t (splice s.bytes s.used []) s.bytes) (cond t (s.used + 0) s.used)
+    by : (t : Bool) → s ≡ sheet_of s.lender (cond t (splice s.bytes s.used []) s.bytes) (cond t (s.used + 0) s.used)
     by true = rw (splice-nil s.bytes s.used, none) refl
     by false = refl
 

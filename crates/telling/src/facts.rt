@@ -11,12 +11,12 @@ use faults::{Fault, Field};
 use label_writer::{Label, TimecodeSections};
 use reading::Read;
 use reasons::Fact;
-use streams::Sheet;
+use streams::Page;
 use timecodes::Timecode;
 
 // The word of a field.
-fn put_field<const N: usize>(sheet: &mut Sheet<N>, field: Field)
-    ensures { sheet.new ≡ put_on sheet.old (field_word field) }
+fn put_field<P: Page>(sheet: &mut P, field: Field)
+    ensures { P.seen sheet.new ≡ put_on (P.seen sheet.old) (field_word field) }
 {
     sheet.put_text(match field {
         Field::Count => b"count of frames: ",
@@ -31,8 +31,8 @@ fn put_field<const N: usize>(sheet: &mut Sheet<N>, field: Field)
 
 // A field, its value and the nearest value that is allowed.
 #[tactic(auto, unfolding(crate::specs::Facts::limit_pieces))]
-fn put_limit<const N: usize>(sheet: &mut Sheet<N>, f: Fault)
-    ensures { sheet.new ≡ all_on sheet.old (limit_pieces f) }
+fn put_limit<P: Page>(sheet: &mut P, f: Fault)
+    ensures { P.seen sheet.new ≡ all_on (P.seen sheet.old) (limit_pieces f) }
 {
     if f.field == Field::Sign {
         sheet.put_text(b"a time of day has no sign\n");
@@ -47,8 +47,8 @@ fn put_limit<const N: usize>(sheet: &mut Sheet<N>, f: Fault)
 
 // The first label of a minute.
 #[tactic(auto, unfolding(crate::specs::Facts::first_pieces))]
-fn put_first<const N: usize>(sheet: &mut Sheet<N>, sections: TimecodeSections, rate: u64)
-    ensures { sheet.new ≡ all_on sheet.old (first_pieces rate sections) }
+fn put_first<P: Page>(sheet: &mut P, sections: TimecodeSections, rate: u64)
+    ensures { P.seen sheet.new ≡ all_on (P.seen sheet.old) (first_pieces rate sections) }
 {
     sheet.put_text(b"first label of this minute: ");
     sheet.put(&Label { sections, rate });
@@ -57,8 +57,8 @@ fn put_first<const N: usize>(sheet: &mut Sheet<N>, sections: TimecodeSections, r
 
 // A timecode's label, where it has one.
 #[tactic(auto, using(crate::proofs::Cases::put_none))]
-fn put_label<const N: usize>(sheet: &mut Sheet<N>, tc: Timecode)
-    ensures { sheet.new ≡ put_on sheet.old (label_in tc.rate (sectioned tc)) }
+fn put_label<P: Page>(sheet: &mut P, tc: Timecode)
+    ensures { P.seen sheet.new ≡ put_on (P.seen sheet.old) (label_in tc.rate (sectioned tc)) }
 {
     let rate = tc.rate;
     if let Ok(sections) = label_writer::sections(tc) {
@@ -68,21 +68,21 @@ fn put_label<const N: usize>(sheet: &mut Sheet<N>, tc: Timecode)
 
 // A timecode's ticks, where it has them.
 #[tactic(auto, using(crate::proofs::Cases::put_none))]
-fn put_ticks<const N: usize>(sheet: &mut Sheet<N>, tc: Timecode)
-    ensures { sheet.new ≡ put_on sheet.old (ticks_text (ticks_of tc)) }
+fn put_ticks<P: Page>(sheet: &mut P, tc: Timecode)
+    ensures { P.seen sheet.new ≡ put_on (P.seen sheet.old) (ticks_text (ticks_of tc)) }
 {
     if let Ok(ticks) = time::premiere_ticks(tc) {
-        sheet.put_number(ticks);
+        sheet.put_signed(ticks < 0, ticks.unsigned_abs());
     }
 }
 
 // The count of a timecode, its label and its ticks.
 #[tactic(auto, unfolding(crate::specs::Facts::counted_pieces))]
-fn put_counted<const N: usize>(sheet: &mut Sheet<N>, tc: Timecode)
-    ensures { sheet.new ≡ all_on sheet.old (counted_pieces tc) }
+fn put_counted<P: Page>(sheet: &mut P, tc: Timecode)
+    ensures { P.seen sheet.new ≡ all_on (P.seen sheet.old) (counted_pieces tc) }
 {
     sheet.put_text(b"count ");
-    sheet.put_number(tc.count);
+    sheet.put_signed(tc.count < 0, tc.count.unsigned_abs());
     sheet.put_text(b", label ");
     put_label(sheet, tc);
     sheet.put_text(b", ticks ");
@@ -91,8 +91,8 @@ fn put_counted<const N: usize>(sheet: &mut Sheet<N>, tc: Timecode)
 }
 
 // Of what was read its count, label and ticks; nothing of a refusal.
-fn put_accepted<const N: usize>(sheet: &mut Sheet<N>, read: Result<Read, Refusal>)
-    ensures { sheet.new ≡ all_on sheet.old (accepted_pieces read) }
+fn put_accepted<P: Page>(sheet: &mut P, read: Result<Read, Refusal>)
+    ensures { P.seen sheet.new ≡ all_on (P.seen sheet.old) (accepted_pieces read) }
 {
     if let Ok(Read::Label(tc) | Read::Footage(tc, _)) = read {
         put_counted(sheet, tc);
@@ -100,13 +100,13 @@ fn put_accepted<const N: usize>(sheet: &mut Sheet<N>, read: Result<Read, Refusal
 }
 
 // The fact as a line, where there is one.
-pub(crate) fn put_fact<const N: usize>(
-    sheet: &mut Sheet<N>,
+pub(crate) fn put_fact<P: Page>(
+    sheet: &mut P,
     rate: u64,
     read: Result<Read, Refusal>,
     fact: Option<Fact>,
 )
-    ensures { sheet.new ≡ all_on sheet.old (fact_pieces rate read fact) }
+    ensures { P.seen sheet.new ≡ all_on (P.seen sheet.old) (fact_pieces rate read fact) }
 {
     match fact {
         Some(Fact::First(sections)) => put_first(sheet, sections, rate),

@@ -3,7 +3,7 @@ ghost use Rattle.std.specs.Prelude.{◌≡◌};
 ghost use Rattle.streams.specs.Pieces.{all_on};
 ghost use Rattle.telling.specs.Shown.{shown_byte, shown_pieces, caret_pieces};
 
-use streams::Sheet;
+use streams::Page;
 
 // A byte as it is shown: printable ASCII as it is, any other as `?`.
 #[tactic(auto, unfolding(crate::specs::Shown::shown_byte), using(std::proofs::lemmas::Bool::Decides::nat_tests))]
@@ -17,8 +17,8 @@ fn shown(b: u8) -> u8
 }
 
 // A text as a line.
-pub(crate) fn put_shown<const N: usize>(sheet: &mut Sheet<N>, text: &[u8])
-    ensures { sheet.new ≡ all_on sheet.old (shown_pieces text.now) }
+pub(crate) fn put_shown<P: Page>(sheet: &mut P, text: &[u8])
+    ensures { P.seen sheet.new ≡ all_on (P.seen sheet.old) (shown_pieces text.now) }
 {
     for b in text {
         sheet.put_byte(shown(*b));
@@ -27,8 +27,8 @@ pub(crate) fn put_shown<const N: usize>(sheet: &mut Sheet<N>, text: &[u8])
 }
 
 // A line with `^` under a place.
-pub(crate) fn put_caret<const N: usize>(sheet: &mut Sheet<N>, place: usize)
-    ensures { sheet.new ≡ all_on sheet.old (caret_pieces place) }
+pub(crate) fn put_caret<P: Page>(sheet: &mut P, place: usize)
+    ensures { P.seen sheet.new ≡ all_on (P.seen sheet.old) (caret_pieces place) }
 {
     for _ in 0..place {
         sheet.put_byte(b' ');

@@ -10,7 +10,7 @@ use crate::{facts, pieces};
 use answers::{Cause, Refusal};
 use reading::Read;
 use reasons::Reason;
-use streams::Sheet;
+use streams::Page;
 use timecodes::Kind;
 
 // How a text is read at any rate: as a length or a position, with a film format stated or none.
@@ -36,8 +36,8 @@ fn has_place(cause: Cause) -> bool
 
 // A caret under the place of a refusal, where it has one.
 #[tactic(auto, unfolding(crate::specs::Shown::place_pieces))]
-fn put_place<const N: usize>(sheet: &mut Sheet<N>, read: Result<Read, Refusal>)
-    ensures { sheet.new ≡ all_on sheet.old (place_pieces (number_of read) (place_of read)) }
+fn put_place<P: Page>(sheet: &mut P, read: Result<Read, Refusal>)
+    ensures { P.seen sheet.new ≡ all_on (P.seen sheet.old) (place_pieces (number_of read) (place_of read)) }
 {
     match read {
         Err(e) if has_place(e.cause) => pieces::put_caret(sheet, e.place),
@@ -47,8 +47,8 @@ fn put_place<const N: usize>(sheet: &mut Sheet<N>, read: Result<Read, Refusal>)
 
 // What stands before the phrase of a refusal: its number.
 #[tactic(auto, unfolding(crate::specs::Told::front_pieces))]
-fn put_front<const N: usize>(sheet: &mut Sheet<N>, read: Result<Read, Refusal>)
-    ensures { sheet.new ≡ all_on sheet.old (front_pieces (number_of read)) }
+fn put_front<P: Page>(sheet: &mut P, read: Result<Read, Refusal>)
+    ensures { P.seen sheet.new ≡ all_on (P.seen sheet.old) (front_pieces (number_of read)) }
 {
     if let Err(e) = read {
         sheet.put_text(b"refused ");
@@ -59,14 +59,8 @@ fn put_front<const N: usize>(sheet: &mut Sheet<N>, read: Result<Read, Refusal>)
 
 // The answer to a text, by its parts.
 #[tactic(auto, unfolding(crate::specs::Told::reason_pieces), using(crate::proofs::Cases::all_behind))]
-fn put_reason<const N: usize>(
-    sheet: &mut Sheet<N>,
-    rate: u64,
-    text: &[u8],
-    reason: Reason,
-    phrase: &[u8],
-)
-    ensures { sheet.new ≡ all_on sheet.old (reason_pieces rate text.now reason.read reason.fact phrase.now) }
+fn put_reason<P: Page>(sheet: &mut P, rate: u64, text: &[u8], reason: Reason, phrase: &[u8])
+    ensures { P.seen sheet.new ≡ all_on (P.seen sheet.old) (reason_pieces rate text.now reason.read reason.fact phrase.now) }
 {
     pieces::put_shown(sheet, text);
     put_place(sheet, reason.read);
@@ -77,8 +71,8 @@ fn put_reason<const N: usize>(
 }
 
 // What is told of a text, behind what the sheet has. (That a phrase has over 128 bytes cannot be.)
-pub fn tell<const N: usize>(sheet: &mut Sheet<N>, way: Way, text: &[u8])
-    ensures { sheet.new ≡ all_on sheet.old (told_pieces way text.now) }
+pub fn tell<P: Page>(sheet: &mut P, way: Way, text: &[u8])
+    ensures { P.seen sheet.new ≡ all_on (P.seen sheet.old) (told_pieces way text.now) }
 {
     let mut line = [0; 128];
     let Options { kind, format } = way.options;

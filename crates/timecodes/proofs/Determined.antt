@@ -2,6 +2,8 @@
 -- Assumes nothing.
 use mathlib.Core.Path.{sym, ap, ◌∙◌}
 use Rattle.outcomes.specs.Outcome.{Determined}
+use Rattle.timecodes.specs.contracts.kinds.Kind.from as from
+use Rattle.timecodes.proofs.kinds.Kind.from.Reads as from-reads
 use Rattle.timecodes.specs.contracts.kinds.Kind.is_position as is-position
 use Rattle.timecodes.proofs.kinds.Kind.is_position.Reads as is-position-reads
 use Rattle.timecodes.specs.contracts.new as new
@@ -24,6 +26,9 @@ use Rattle.timecodes.specs.contracts.instant_of as instant-of
 use Rattle.timecodes.proofs.instant_of.Reads as instant-of-reads
 use Rattle.timecodes.specs.contracts.timecode_of as timecode-of
 use Rattle.timecodes.proofs.timecode_of.Reads as timecode-of-reads
+
+pub from-determined : Determined from.ended from-reads.Asked from-reads.Learnt
+from-determined κs a asked x y p q = ap (λ z. (z, x.1)) (p ∙ sym q)
 
 pub is-position-determined : Determined is-position.ended is-position-reads.Asked is-position-reads.Learnt
 is-position-determined κs a asked x y p q = ap (λ z. (z, x.1)) (p ∙ sym q)

@@ -20,17 +20,23 @@ pub enum Joining {
 impl From<bool> for Kind {
     ghost from_gives = { λ position kind. kind ≡ kind_from position };
 
-    // A position, or else a length.
     fn from(position: bool) -> Kind {
+        Kind::from(position)
+    }
+}
+
+impl Kind {
+    // A position, or else a length.
+    pub fn from(position: bool) -> Kind
+        ensures { result ≡ kind_from position }
+    {
         if position {
             Kind::Position
         } else {
             Kind::Length
         }
     }
-}
 
-impl Kind {
     // Whether it is that of a position.
     pub fn is_position(self) -> bool
         ensures { result ≡ is_position self }

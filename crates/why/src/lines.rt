@@ -64,10 +64,7 @@ pub(crate) fn answer_all(
         },
     };
     inputs::each_chunk(input, &mut [0; 65536], &mut asked)?;
-    let Asked {
-        waiting,
-        mut answers,
-    } = asked;
-    waiting.last_line(&mut answers)?;
-    inputs::write_out(rt, &mut answers.sheet)
+    let left = &mut asked;
+    left.waiting.last_line(&mut left.answers)?;
+    inputs::write_out(rt, &mut left.answers.sheet)
 }

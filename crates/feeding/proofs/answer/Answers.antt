@@ -1,23 +1,18 @@
--- `feeding::answer` meets its contract: the answer is laid down behind what is used, or nothing is.
+-- `feeding::answer` meets its contract: the answer is put behind what is used.
 -- Assumes nothing.
 use mathlib.Core.Path.{ap, ◌∙◌}
-use mathlib.Core.Logic.{⊎_elim}
-use native.Mathlib.Omega.{arith}
-use lib.ListN.{take}
-use Rattle.lines.specs.Output.{answer_text}
-use Rattle.written.specs.Written.{length_of}
-use Rattle.streams.specs.Sheet.{sheet}
-use Rattle.feeding.proofs.Following.{laid-fits, answer-is}
+use Rattle.lines.specs.Output.{text_of, answer_text}
+use Rattle.lines.proofs.Statements.{laid_as_text}
+use Rattle.streams.specs.Sheet.{put_on}
+use Rattle.feeding.specs.Feeding.{answered}
+use Rattle.feeding.proofs.Following.{part-is}
 use Rattle.feeding.proofs.answer.Goals as goal
 
-pub overflow_add-sheet : goal.overflow_add-sheet
-overflow_add-sheet g c =
-    let e = c.length.ensures ∙ ap length_of c.answer-laid.ensures.answer in
-    ⊎_elim (λ h. omega (arith, e, h)) (λ h. omega (arith, e, h))
-    (laid-fits c.sheet.inside.bytes c.sheet.inside.used (answer_text (take c.min.result c.args.buffer.now)))
-
 pub returns : goal.returns
+unfolding answered
 returns g c =
-    rw (← c.sheet.view_is)
-    (answer-is c.args.buffer.now c.args.g (sheet c.sheet.inside.bytes c.sheet.inside.used) c.min.result _ _ c.min.ensures
-    (c.length.ensures ∙ ap length_of c.answer-laid.ensures.answer) c.answer-laid.ensures.line)
+    let s = g.P.Page.seen c.args.sheet.now in
+    c.put.ensures
+    ∙ ap (λ a. put_on s (text_of a)) c.answer_to_line.ensures
+    ∙ ap (put_on s) (laid_as_text _)
+    ∙ ap (λ l. put_on s (answer_text l)) (part-is c.args.buffer.now c.args.g.len c.min.result c.min.ensures)

@@ -28,7 +28,7 @@ returns-in-Some g c =
     let q = c.in-Some.query in
     let back : to_z w64 (of_z w64 q.length) ≡ q.length = search rules in
     c.put_routed.ensures
-    ∙ ap (all_on c.args.sheet.now)
+    ∙ ap (all_on (g.P.Page.seen c.args.sheet.now))
     (ap (routed_pieces c.args.reel)
     (c.route_tested.ensures
     ∙ ap (λ z. routed_in c.args.d z (take (length c.args.line.now - q.label) (drop q.label c.args.line.now))) back
@@ -39,7 +39,7 @@ returns-in-Some g c =
 pub returns-in_default : goal.returns-in_default
 returns-in_default g c =
     c.put_text.ensures
-    ∙ ap (all_on c.args.sheet.now) (elim c.in_default.branch [
+    ∙ ap (all_on (g.P.Page.seen c.args.sheet.now)) (elim c.in_default.branch [
       | in_default-via-in-Some+else-not-over w ↦ answer-over c.args.d c.args.reel c.args.line.now c.args.over w.if-not-over.false
       | in_default-via-in_default w ↦ answer-none c.args.d c.args.reel c.args.line.now c.args.over (sym c.query_of.ensures ∙ w.in_default.is)
     ])

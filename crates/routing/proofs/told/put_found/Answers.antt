@@ -15,4 +15,4 @@ unfolding found_pieces
 returns g c =
     let rest = spelt " of reel " ∷ signed_text false c.args.reel ∷ line_end ∷ [] in
     rw (c.put_byte.ensures, c.put_signed.ensures, c.put_text.ensures)
-    (ap (λ s. all_on s rest) c.put_which.ensures ∙ all_append c.args.sheet.now (which_pieces c.args.shards.first c.args.shards.after) rest)
+    (ap (λ s. all_on s rest) c.put_which.ensures ∙ all_append (g.P.Page.seen c.args.sheet.now) (which_pieces c.args.shards.first c.args.shards.after) rest)

@@ -20,7 +20,7 @@ slice_bounds-phrase-end g c =
 pub returns-in-Ok : goal.returns-in-Ok
 returns-in-Ok g c =
     c.put_reason.ensures
-    ∙ ap (λ phrase. all_on c.args.sheet.now (reason_pieces c.args.e phrase))
+    ∙ ap (λ phrase. all_on (g.P.Page.seen c.args.sheet.now) (reason_pieces c.args.e phrase))
     (phrase-there c.number.result _ refl _ c.write_phrase.ensures.answer _ c.in-Ok.is _ c.write_phrase.ensures.line ∙ ap phrase_of c.number.ensures)
 
 pub returns-in_default : goal.returns-in_default

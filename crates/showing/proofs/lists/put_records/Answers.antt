@@ -9,12 +9,12 @@ use Rattle.showing.proofs.ListPutting.{underway-begins, underway-goes, underway-
 use Rattle.showing.proofs.lists.put_records.Goals as goal
 
 pub loop-at-init : goal.loop-at-init
-loop-at-init g c = underway-begins c.args.list.now c.args.sheet.now c.requires
+loop-at-init g c = underway-begins c.args.list.now (g.P.Page.seen c.args.sheet.now) c.requires
 
 pub loop-at-preserved : goal.loop-at-preserved
 loop-at-preserved g c =
     let r = c.in-Ok-Some.taken in
-    underway-goes c.args.list.now c.args.sheet.now c.loop-at.sheet c.loop-at.at c.loop-at.held c.loop-at.invariant _ r.found r.held r.size
+    underway-goes c.args.list.now (g.P.Page.seen c.args.sheet.now) (g.P.Page.seen c.loop-at.sheet) c.loop-at.at c.loop-at.held c.loop-at.invariant _ r.found r.held r.size
     (sym c.record_at.ensures ∙ c.in-Ok-Some.is ∙ ap Ok c.in-Ok-Some.field-0-is) c.put_words.ensures
 
 pub overflow_add-at : goal.overflow_add-at
@@ -35,12 +35,12 @@ loop-at-smaller g c =
 
 pub returns-in-Ok-None : goal.returns-in-Ok-None
 returns-in-Ok-None g c =
-    underway-over c.args.list.now c.args.sheet.now c.loop-at.sheet c.loop-at.at c.loop-at.held c.loop-at.invariant
+    underway-over c.args.list.now (g.P.Page.seen c.args.sheet.now) (g.P.Page.seen c.loop-at.sheet) c.loop-at.at c.loop-at.held c.loop-at.invariant
     (sym c.record_at.ensures ∙ c.in-Ok-None.is ∙ ap Ok c.in-Ok-None.field-0-is)
 
 pub returns-in-Err : goal.returns-in-Err
 returns-in-Err g c =
-    absurd (underway-never c.args.list.now c.args.sheet.now c.loop-at.sheet c.loop-at.at c.loop-at.held c.loop-at.invariant _ (sym c.record_at.ensures ∙ c.in-Err.is))
+    absurd (underway-never c.args.list.now (g.P.Page.seen c.args.sheet.now) (g.P.Page.seen c.loop-at.sheet) c.loop-at.at c.loop-at.held c.loop-at.invariant _ (sym c.record_at.ensures ∙ c.in-Err.is))
 
 pub returns : goal.returns
-returns g c = underway-done c.args.list.now c.args.sheet.now c.loop-at.sheet c.loop-at.at c.loop-at.held c.loop-at.invariant c.loop-at-test.false
+returns g c = underway-done c.args.list.now (g.P.Page.seen c.args.sheet.now) (g.P.Page.seen c.loop-at.sheet) c.loop-at.at c.loop-at.held c.loop-at.invariant c.loop-at-test.false

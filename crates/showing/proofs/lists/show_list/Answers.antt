@@ -15,9 +15,9 @@ returns-in-Ok g c =
     let t = read_of on_disk c.args.list.now in
     c.put_byte.ensures
     ∙ ap (λ z. put_on z (10 ∷ [])) (c.put_records.ensures ∙ ap (λ z. reading_on z t) c.put_signed.ensures)
-    ∙ list_all c.args.sheet.now t c.in-Ok.n (sym c.check_list.ensures ∙ c.in-Ok.is)
+    ∙ list_all (g.P.Page.seen c.args.sheet.now) t c.in-Ok.n (sym c.check_list.ensures ∙ c.in-Ok.is)
 
 pub returns-in-Err : goal.returns-in-Err
 returns-in-Err g c =
-    c.show.ensures ∙ ap (shown_on c.args.sheet.now) c.of_refusal.ensures
-    ∙ list-fault c.args.sheet.now (read_of on_disk c.args.list.now) c.in-Err.e (sym c.check_list.ensures ∙ c.in-Err.is)
+    c.show.ensures ∙ ap (shown_on (g.P.Page.seen c.args.sheet.now)) c.of_refusal.ensures
+    ∙ list-fault (g.P.Page.seen c.args.sheet.now) (read_of on_disk c.args.list.now) c.in-Err.e (sym c.check_list.ensures ∙ c.in-Err.is)

@@ -13,4 +13,4 @@ unfolding routed_on puts_on
 returns g c =
     c.put_byte.ensures
     ∙ ap (λ z. put_on z (10 ∷ [])) c.put_routed.ensures
-    ∙ sym (puts-append c.args.sheet.now (routed_parts c.args.a) ((10 ∷ []) ∷ []))
+    ∙ sym (puts-append (g.P.Page.seen c.args.sheet.now) (routed_parts c.args.a) ((10 ∷ []) ∷ []))

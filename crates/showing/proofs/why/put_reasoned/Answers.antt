@@ -8,7 +8,7 @@ use Rattle.showing.proofs.why.put_reasoned.Goals as goal
 
 pub returns-in-Err : goal.returns-in-Err
 returns-in-Err g c =
-    let s = c.args.sheet.now in
+    let s = (g.P.Page.seen c.args.sheet.now) in
     c.put_shown.ensures
     ∙ ap (parts_on s) c.of_refusal.ensures
     ∙ refusal-shown s c.in-Err.e

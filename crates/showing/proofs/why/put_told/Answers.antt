@@ -14,4 +14,4 @@ returns g c =
     let length = spaced_parts false c.args.r.length in
     c.put_spaced.ensures
     ∙ ap (λ z. puts_on z length) (c.put_fact.ensures ∙ ap (λ z. puts_on z facts) c.put_read.ensures)
-    ∙ sym (puts-append c.args.sheet.now (read_parts c.args.r.read) (facts ++ length) ∙ puts-append _ facts length)
+    ∙ sym (puts-append (g.P.Page.seen c.args.sheet.now) (read_parts c.args.r.read) (facts ++ length) ∙ puts-append _ facts length)

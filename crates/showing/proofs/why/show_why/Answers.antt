@@ -13,4 +13,4 @@ returns g c =
     let line = c.args.line.now in
     c.put_byte-2.ensures
     ∙ ap (λ z. put_on z (10 ∷ [])) (c.put_text.ensures ∙ ap (λ z. put_on z line) (c.put_byte.ensures ∙ ap (λ z. put_on z (32 ∷ [])) c.put_reasoned.ensures))
-    ∙ sym (puts-append c.args.sheet.now (reasoned_parts c.args.rate c.args.w) ((32 ∷ []) ∷ line ∷ (10 ∷ []) ∷ []))
+    ∙ sym (puts-append (g.P.Page.seen c.args.sheet.now) (reasoned_parts c.args.rate c.args.w) ((32 ∷ []) ∷ line ∷ (10 ∷ []) ∷ []))

@@ -5,4 +5,4 @@ use Rattle.telling.proofs.Cases.{other-put}
 use Rattle.telling.proofs.answered.put_other.Goals as goal
 
 pub returns : goal.returns
-returns g c = c.put_text.ensures ∙ other-put c.args.line.now c.args.sheet.now _ c.put_shown.ensures
+returns g c = c.put_text.ensures ∙ other-put c.args.line.now (g.P.Page.seen c.args.sheet.now) _ c.put_shown.ensures

@@ -11,7 +11,7 @@ loop-init g c = let e : c.args.place - 0 ≡ c.args.place = omega arith in rw e
 
 pub loop-preserved : goal.loop-preserved
 loop-preserved g c =
-    spacing-turn c.args.place c.args.sheet.now c.loop.sheet c.loop.counter c.loop.invariant _ c.loop-test.true c.put_byte.ensures
+    spacing-turn c.args.place (g.P.Page.seen c.args.sheet.now) (g.P.Page.seen c.loop.sheet) c.loop.counter c.loop.invariant _ c.loop-test.true c.put_byte.ensures
 
 pub returns : goal.returns
-returns g c = c.put_text.ensures ∙ spacing-done c.args.place c.args.sheet.now c.loop.sheet c.loop.counter c.loop.invariant c.loop-test.false
+returns g c = c.put_text.ensures ∙ spacing-done c.args.place (g.P.Page.seen c.args.sheet.now) (g.P.Page.seen c.loop.sheet) c.loop.counter c.loop.invariant c.loop-test.false

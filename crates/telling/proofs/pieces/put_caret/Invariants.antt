@@ -4,4 +4,4 @@ use Rattle.telling.proofs.Lines.{Spacing}
 use Rattle.telling.proofs.pieces.put_caret.Given as goal
 
 abbrev pub invariant-loop : goal.invariant-loop
-invariant-loop g l = Spacing l.place l.initial.sheet l.sheet l.counter
+invariant-loop g l = Spacing l.place (g.P.Page.seen l.initial.sheet) (g.P.Page.seen l.sheet) l.counter

@@ -6,8 +6,8 @@ use Rattle.telling.proofs.pieces.put_shown.Goals as goal
 
 pub loop-b-preserved : goal.loop-b-preserved
 loop-b-preserved g c =
-    showing-turn c.args.text.now c.args.sheet.now c.loop-b.sheet c.loop-b.b-index c.loop-b.invariant _ _ c.loop-b-test.true c.shown.ensures c.put_byte.ensures
+    showing-turn c.args.text.now (g.P.Page.seen c.args.sheet.now) (g.P.Page.seen c.loop-b.sheet) c.loop-b.b-index c.loop-b.invariant _ _ c.loop-b-test.true c.shown.ensures c.put_byte.ensures
 
 pub returns : goal.returns
 returns g c =
-    c.put_byte-2.ensures ∙ showing-done c.args.text.now c.args.sheet.now c.loop-b.sheet c.loop-b.b-index c.loop-b.invariant c.loop-b-test.false
+    c.put_byte-2.ensures ∙ showing-done c.args.text.now (g.P.Page.seen c.args.sheet.now) (g.P.Page.seen c.loop-b.sheet) c.loop-b.b-index c.loop-b.invariant c.loop-b-test.false

@@ -4,4 +4,4 @@ use Rattle.telling.proofs.Lines.{Showing}
 use Rattle.telling.proofs.pieces.put_shown.Given as goal
 
 abbrev pub invariant-loop-b : goal.invariant-loop-b
-invariant-loop-b g l = Showing l.text l.initial.sheet l.sheet l.b-index
+invariant-loop-b g l = Showing l.text (g.P.Page.seen l.initial.sheet) (g.P.Page.seen l.sheet) l.b-index

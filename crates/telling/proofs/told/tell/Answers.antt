@@ -22,7 +22,7 @@ slice_bounds-phrase-end g c =
 pub returns-in-Ok : goal.returns-in-Ok
 returns-in-Ok g c =
     c.put_reason.ensures
-    ∙ ap (all_on c.args.sheet.now) (told-so c.args.way c.args.text.now _ _ _ _ refl c.why.ensures.answer c.in-Ok.is c.why.ensures.line)
+    ∙ ap (all_on (g.P.Page.seen c.args.sheet.now)) (told-so c.args.way c.args.text.now _ _ _ _ refl c.why.ensures.answer c.in-Ok.is c.why.ensures.line)
 
 pub returns-in_default : goal.returns-in_default
 returns-in_default g c =
