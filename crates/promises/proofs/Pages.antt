@@ -12,6 +12,8 @@ use Rattle.streams.specs.contracts.sheets.Page.put_byte as put-byte
 use Rattle.streams.proofs.sheets.Page.put_byte.Reads as put-byte-reads
 use Rattle.streams.specs.contracts.sheets.Page.put_signed as put-signed
 use Rattle.streams.proofs.sheets.Page.put_signed.Reads as put-signed-reads
+use Rattle.streams.specs.contracts.sheets.Page.put_number as put-number
+use Rattle.streams.proofs.sheets.Page.put_number.Reads as put-number-reads
 
 module _ (P : RattleType) (laws : Laws P) (page : Ghosts P.Denot) (code : Dict) (whole : (x y : P.Denot) → page.seen x ≡ page.seen y → x ≡ y) where
   pub put-text-determined : Determined (put-text.ended P page code) (put-text-reads.Asked P laws page code) (put-text-reads.Learnt P laws page code)
@@ -22,3 +24,6 @@ module _ (P : RattleType) (laws : Laws P) (page : Ghosts P.Denot) (code : Dict) 
 
   pub put-signed-determined : Determined (put-signed.ended P page code) (put-signed-reads.Asked P laws page code) (put-signed-reads.Learnt P laws page code)
   put-signed-determined κs a asked x y p q = ap (λ z. (x.0, (z, x.1.1))) (whole _ _ (p ∙ sym q))
+
+  pub put-number-determined : Determined (put-number.ended P page code) (put-number-reads.Asked P laws page code) (put-number-reads.Learnt P laws page code)
+  put-number-determined κs a asked x y p q = ap (λ z. (x.0, (z, x.1.1))) (whole _ _ (p ∙ sym q))

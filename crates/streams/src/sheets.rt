@@ -151,6 +151,13 @@ pub trait Page {
             magnitude: m,
         });
     }
+
+    // A signed number, in decimal digits.
+    final fn put_number(&mut self, x: i64)
+        ensures { seen self.new ≡ put_on (seen self.old) (signed_text (is_neg x) (nat_abs x)) }
+    {
+        self.put_signed(x < 0, x.unsigned_abs());
+    }
 }
 
 impl<const N: usize> Page for Sheet<N> {

@@ -72,7 +72,7 @@ fn put_ticks<P: Page>(sheet: &mut P, tc: Timecode)
     ensures { P.seen sheet.new ≡ put_on (P.seen sheet.old) (ticks_text (ticks_of tc)) }
 {
     if let Ok(ticks) = time::premiere_ticks(tc) {
-        sheet.put_signed(ticks < 0, ticks.unsigned_abs());
+        sheet.put_number(ticks);
     }
 }
 
@@ -82,7 +82,7 @@ fn put_counted<P: Page>(sheet: &mut P, tc: Timecode)
     ensures { P.seen sheet.new ≡ all_on (P.seen sheet.old) (counted_pieces tc) }
 {
     sheet.put_text(b"count ");
-    sheet.put_signed(tc.count < 0, tc.count.unsigned_abs());
+    sheet.put_number(tc.count);
     sheet.put_text(b", label ");
     put_label(sheet, tc);
     sheet.put_text(b", ticks ");
