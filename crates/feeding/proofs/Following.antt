@@ -2,18 +2,23 @@
 -- Assumes nothing.
 use Prim.Native.Nat.{ℕ, suc, ◌+◌, ◌-◌, ◌≤◌, ◌<◌, min}
 use mathlib.Core.Path.{◌≡◌, refl, sym, ap, ◌∙◌}
+use mathlib.Core.Logic.{◌⊎◌, inl, inr}
 use mathlib.Core.List.{List, [], ◌∷◌}
 use mathlib.Core.Bool.{Bool, true, false, cond, ◌&&◌}
 use native.Mathlib.Omega.{arith}
 use lib.Dec.{eqb, ltb}
 use lib.ListN.{length, take, drop, length-drop, drop_of_length-le}
 use lib.Seq.{take_all, drop-cons, drop-drop}
-use borrow.Author.Tests.{ltb-true, ltb-false}
+use borrow.Author.Tests.{ltb-true, ltb-false, leb-true, leb-false}
+use Rattle.lent.specs.Line.{fits}
+use Rattle.written.specs.Written.{Text, answer_to, line_to, length_of}
+use Rattle.written.proofs.Laws.{text-written}
+use Rattle.written.proofs.Statements.{no_room_exactly}
 use Rattle.lines.specs.Output.{answer_text}
 use Rattle.streams.specs.declared.gathered.Gathered.{Gathered}
 use Rattle.streams.specs.declared.gathered.Step.{Step}
 use Rattle.streams.specs.Gathering.{no_byte, is_empty, taken, buffer_taken, Gathering, gathering, gather_from}
-use Rattle.streams.specs.Sheet.{Sheet, sheet, sheet_of, lent_by}
+use Rattle.streams.specs.Sheet.{Sheet, sheet, sheet_of, lent_by, put_on}
 use Rattle.streams.specs.Turns.{gone_on}
 use Rattle.streams.proofs.Gathering.{next_le, next-lt, next-within, gather-length}
 use Rattle.streams.proofs.Putting.{put-length, put_lent_by}
@@ -38,6 +43,45 @@ module _ (buffer : List ℕ) (len n : ℕ) (e : n ≡ min len (length buffer)) w
       by false f =
           let l = ltb-false len (length buffer) f in
           take_all n buffer (omega arith) ∙ sym (take_all len buffer l)
+
+module _ (out : List ℕ) (used : ℕ) (t : List ℕ) where
+  -- a text that fits is answered by its length, any other by a refusal
+  long-in : used + length t ≤ length out → length_of (answer_to out used (Text t)) ≡ length t
+  long-in h = ap length_of (text-written out used t h).0
+
+  long-out : length out < used + length t → length_of (answer_to out used (Text t)) ≡ 0
+  long-out h = ap length_of ((no_room_exactly out used t).1 h)
+
+  -- a text laid down from the place behind what is used is put on the sheet
+  laid-used : used + length_of (answer_to out used (Text t)) ≡ (put_on (sheet out used) t).used
+  unfolding put_on
+  laid-used = by (fits out used t) refl
+    where
+      by : (x : Bool) → fits out used t ≡ x → used + length_of (answer_to out used (Text t)) ≡ cond (fits out used t) (used + length t) used
+      by true e = rw (long-in (leb-true (used + length t) (length out) e), e)
+      by false e = rw (long-out (leb-false (used + length t) (length out) e), e) (omega arith)
+
+  laid-bytes : line_to out used (Text t) ≡ (put_on (sheet out used) t).bytes
+  unfolding line_to put_on
+  laid-bytes = refl
+
+  -- it fits, or nothing is laid down
+  pub laid-fits : (used + length_of (answer_to out used (Text t)) ≤ length out) ⊎ (length_of (answer_to out used (Text t)) ≡ 0)
+  laid-fits = by (fits out used t) refl
+    where
+      by : (x : Bool) → fits out used t ≡ x
+          → (used + length_of (answer_to out used (Text t)) ≤ length out) ⊎ (length_of (answer_to out used (Text t)) ≡ 0)
+      by true e = let h = leb-true (used + length t) (length out) e in inl (omega (arith, long-in h))
+      by false e = inr (long-out (leb-false (used + length t) (length out) e))
+
+-- an answer that was laid down from the place behind what is used is the answer behind what the sheet has
+pub answer-is : (buffer : List ℕ) (g : Gathered) (s : Sheet) (n k : ℕ) (last : List ℕ) → n ≡ min g.len (length buffer)
+    → k ≡ length_of (answer_to s.bytes s.used (Text (answer_text (take n buffer)))) → last ≡ line_to s.bytes s.used (Text (answer_text (take n buffer)))
+    → sheet_of s.lender last (s.used + k) ≡ answered buffer g s
+unfolding answered put_on
+answer-is buffer g s n k last e p q =
+    let t = answer_text (take n buffer) in
+    rw (q ∙ laid-bytes s.bytes s.used t, p, laid-used s.bytes s.used t) (ap (λ z. put_on s (answer_text z)) (part-is buffer g.len n e))
 
 -- ---- the bytes up to the next newline
 -- a step of the loop of `feed`
