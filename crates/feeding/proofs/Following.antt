@@ -44,6 +44,8 @@ module _ (buffer : List ℕ) (len n : ℕ) (e : n ≡ min len (length buffer)) w
           let l = ltb-false len (length buffer) f in
           take_all n buffer (omega arith) ∙ sym (take_all len buffer l)
 
+-- ---- the answer laid into a sheet's bytes
+-- for one who calls `answer` of `lines` on the bytes of a sheet: what it leaves is what is put on the sheet
 module _ (out : List ℕ) (used : ℕ) (t : List ℕ) where
   -- a text that fits is answered by its length, any other by a refusal
   long-in : used + length t ≤ length out → length_of (answer_to out used (Text t)) ≡ length t
